@@ -1,0 +1,42 @@
+-- The register, a byte at a time through the table, and over a list.
+-- Assumes nothing.
+use mathlib.Core.Path.{_≡_, refl, sym, ap, _∙_}
+use mathlib.Core.List.{List, [], _∷_, _++_}
+use Prim.Native.Nat.{ℕ, _≤_, _<_, _+_, _*_, _/_, _%_}
+use native.Mathlib.Numerals.{add-one}
+use native.Mathlib.Omega.{arith}
+use lib.ListN.{length, drop, getD, drop-of-length-le}
+use lib.Bits.{bitXor, xor-lt}
+use lib.Seq.{drop-cons}
+use Rattle.crc.specs.Crc.{crcByte, crcFrom}
+use Rattle.crc.proofs.Entries.{entries, entry}
+use Rattle.crc.proofs.Linear.{byte-table, bits8-lt}
+
+module _ (c b : ℕ) (hc : c < 65536) (hb : b < 256) where
+  -- the place in the table
+  pub index-lt : bitXor (c / 256) b < 256
+  index-lt = xor-lt 8 (c / 256) b (omega arith) hb
+
+  -- the byte step through the table is the rule on bits
+  pub by-table : bitXor (c * 256 % 65536) (getD entries (bitXor (c / 256) b) 0) ≡ crcByte c b
+  by-table = ap (bitXor (c * 256 % 65536)) (entry (bitXor (c / 256) b) index-lt) ∙ sym (byte-table c b hc hb)
+
+  pub by-table-lt : bitXor (c * 256 % 65536) (getD entries (bitXor (c / 256) b) 0) < 65536
+  by-table-lt =
+      xor-lt 16 (c * 256 % 65536) (getD entries (bitXor (c / 256) b) 0) (omega arith)
+      (rw (entry (bitXor (c / 256) b) index-lt) (bits8-lt (bitXor (c / 256) b * 256) (omega (arith, index-lt))))
+
+-- the rest from i is the byte at i and the rest from i + 1
+pub step : (r : ℕ) (s : List ℕ) (i : ℕ) → i < length s → crcFrom r (drop i s) ≡ crcFrom (crcByte r (getD s i 0)) (drop (i + 1) s)
+unfolding crcFrom
+step r s i h = rw (add-one, drop-cons s i 0)
+
+pub end : (r : ℕ) (s : List ℕ) (i : ℕ) → length s ≤ i → crcFrom r (drop i s) ≡ r
+unfolding crcFrom
+end r s i h = rw (drop-of-length-le s h)
+
+-- one list and then another
+pub from-append : (r : ℕ) (xs ys : List ℕ) → crcFrom r (xs ++ ys) ≡ crcFrom (crcFrom r xs) ys
+unfolding crcFrom
+from-append r [] ys = refl
+from-append r (x ∷ xs) ys = from-append (crcByte r x) xs ys

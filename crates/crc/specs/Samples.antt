@@ -1,0 +1,24 @@
+-- Check values from outside: the CRC catalogue's for "123456789", the empty list, and the frame of document 01's sample (b).
+-- Assumes nothing.
+use Prim.Native.Nat.{ℕ}
+use mathlib.Core.Path.{_≡_}
+use mathlib.Core.List.{List, [], _∷_, map}
+use Rattle.crc.specs.Crc.{crcOf}
+
+pub record Sample : Type 0 where
+  pub bytes : List ℕ
+  pub crc : ℕ
+
+abbrev sample : List ℕ → ℕ → Sample
+sample bs c = record { bytes = bs; crc = c }
+
+-- the third is bytes 4 to 7 of 24 40 A9 89 00 00 08 00, whose CRC field is 0x89A9
+abbrev pub samples : List Sample
+samples =
+    sample (0x31 ∷ 0x32 ∷ 0x33 ∷ 0x34 ∷ 0x35 ∷ 0x36 ∷ 0x37 ∷ 0x38 ∷ 0x39 ∷ []) 0x31C3
+    ∷ sample [] 0
+    ∷ sample (0x00 ∷ 0x00 ∷ 0x08 ∷ 0x00 ∷ []) 0x89A9
+    ∷ []
+
+abbrev pub SamplesHold : Type 0
+SamplesHold = map (λ (s : Sample). crcOf (s .bytes)) samples ≡ map (λ (s : Sample). s .crc) samples

@@ -1,0 +1,13 @@
+-- `wire::in_range`: the law `range`. Assumes nothing.
+use Rattle.wire.proofs.Laws.{range}
+use Rattle.wire.proofs.in_range.Statement.{statement}
+use Rattle.wire.proofs.in_range.Tie as tie
+use Rattle.wire.proofs.in_range.Reads as reads
+use Rattle.wire.proofs.in_range.Lts as lts
+
+-- src/lib.rt:54:1
+returns : tie.Need-returns
+returns c = range
+
+pub in-range-spec : {M : Type 1} → statement M
+in-range-spec = tie.close (tie.spec returns)

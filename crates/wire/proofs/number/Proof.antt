@@ -1,0 +1,14 @@
+-- `wire::number` meets its contract: a mask of thirteen ones is the remainder by 8,192.
+-- Assumes nothing.
+use lib.Bits.{and-mask}
+use Rattle.wire.proofs.number.Statement.{statement}
+use Rattle.wire.proofs.number.Tie as tie
+use Rattle.wire.proofs.number.Reads as reads
+use Rattle.wire.proofs.number.Lts as lts
+
+-- src/lib.rt:39:1
+returns : tie.Need-returns
+returns c = and-mask (c .args .id) 13
+
+pub number-spec : {M : Type 1} → statement M
+number-spec = tie.close (tie.spec returns)

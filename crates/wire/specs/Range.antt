@@ -1,0 +1,9 @@
+-- k bytes make a number below 256 to the k, whatever the width.
+-- Assumes nothing.
+use Prim.Native.Nat.{ℕ, _^_, _<_}
+use mathlib.Core.List.{List}
+use lib.ListN.{getD}
+use Rattle.wire.specs.Little.{littleAt}
+
+abbrev pub InRange : Type 0
+InRange = (k : ℕ) (s : List ℕ) (i : ℕ) → ((j : ℕ) → getD s j 0 < 256) → littleAt k s i < 256 ^ k

@@ -1,0 +1,56 @@
+// Numbers in a slice of bytes, lowest byte first, and the two parts of a block's ID.
+ghost use mathlib.Core.Path.{_≡_};
+ghost use Prim.Native.Nat.{_+_, _*_, _≤_, _<_, _/_, _%_};
+ghost use lib.ListN.{length};
+ghost use Rattle.wire.specs.Little.{littleAt};
+ghost use Rattle.wire.specs.Range.{InRange};
+
+// The number of two bytes.
+pub fn pair(low: u8, high: u8) -> u16
+    ensures { λ r. ⌜ r ≡ low + 256 * high ⌝ }
+{
+    (low as u16) + 256 * (high as u16)
+}
+
+// The two bytes at `at`.
+pub fn u2(s: &[u8], at: usize) -> u16
+    requires { ⌜ at + 2 ≤ length (now s) ⌝ }
+    ensures { λ r. ⌜ r ≡ littleAt 2 (now (s .entry)) at ⌝ }
+{
+    pair(s[at], s[at + 1])
+}
+
+// The four bytes at `at`.
+pub fn u4(s: &[u8], at: usize) -> u32
+    requires { ⌜ at + 4 ≤ length (now s) ⌝ }
+    ensures { λ r. ⌜ r ≡ littleAt 4 (now (s .entry)) at ⌝ }
+{
+    (u2(s, at) as u32) + 65536 * (u2(s, at + 2) as u32)
+}
+
+// The eight bytes at `at`.
+pub fn u8(s: &[u8], at: usize) -> u64
+    requires { ⌜ at + 8 ≤ length (now s) ⌝ }
+    ensures { λ r. ⌜ r ≡ littleAt 8 (now (s .entry)) at ⌝ }
+{
+    (u4(s, at) as u64) + 4294967296 * (u4(s, at + 4) as u64)
+}
+
+// The block number: the low thirteen bits of the ID.
+pub fn number(id: u16) -> u16
+    ensures { λ r. ⌜ r ≡ id % 8192 ⌝ }
+{
+    id & 0x1fff
+}
+
+// The revision: the top three bits of the ID.
+pub fn revision(id: u16) -> u16
+    ensures { λ r. ⌜ r ≡ id / 8192 ⌝ }
+{
+    id >> 13
+}
+
+// k bytes make a number of k bytes.
+pub fn in_range()
+    ensures { λ _. ⌜ InRange ⌝ }
+{}
