@@ -5,7 +5,8 @@ use mathlib.Core.List.{List}
 use Prim.Native.Nat.{ℕ, zero, suc, _+_, _*_, _^_, _<_, _≤_}
 use native.Mathlib.Nat.{zero-add, suc-add, add-zero, add-assoc, mul-assoc, mul-add, pow-succ', one-mul, mul-le-mul-left}
 use native.Mathlib.Omega.{arith}
-use lib.ListN.{getD}
+use lib.ListN.{getD, take, drop}
+use lib.Seq.{getD-drop, getD-take}
 use Rattle.wire.specs.Little.{littleAt}
 use Rattle.wire.specs.Range.{InRange}
 
@@ -26,3 +27,25 @@ unfolding littleAt
 range zero s i h = omega arith
 range (suc k) s i h =
     rw (pow-succ' 256 k) (omega (arith, h i, range k s (i + 1) h))
+
+-- the same bytes make the same number
+pub agree : (k : ℕ) (u v : List ℕ) (i j : ℕ) → ((d : ℕ) → d < k → getD u (i + d) 0 ≡ getD v (j + d) 0) → littleAt k u i ≡ littleAt k v j
+unfolding littleAt
+agree zero u v i j h = refl
+agree (suc k) u v i j h =
+    ap₂ (λ (x y : ℕ). x + 256 * y)
+    (ap (λ (x : ℕ). getD u x 0) (sym (add-zero i)) ∙ h 0 (omega arith) ∙ ap (λ (x : ℕ). getD v x 0) (add-zero j))
+    (agree k u v (i + 1) (j + 1)
+    (λ d l.
+    let a : i + 1 + d ≡ i + suc d = omega arith in
+    let b : j + suc d ≡ j + 1 + d = omega arith in
+    ap (λ (x : ℕ). getD u x 0) a ∙ h (suc d) (omega arith) ∙ ap (λ (x : ℕ). getD v x 0) b))
+
+-- a number of the rest from p on
+pub little-drop : (k : ℕ) (w : List ℕ) (p i : ℕ) → littleAt k (drop p w) i ≡ littleAt k w (p + i)
+little-drop k w p i =
+    agree k (drop p w) w i (p + i) (λ d l. getD-drop p w (i + d) 0 ∙ ap (λ (x : ℕ). getD w x 0) (sym (add-assoc p i d)))
+
+-- a number within the first n bytes
+pub little-take : (k : ℕ) (w : List ℕ) (n i : ℕ) → i + k ≤ n → littleAt k (take n w) i ≡ littleAt k w i
+little-take k w n i h = agree k (take n w) w i i (λ d l. getD-take n w (i + d) 0 (omega arith))

@@ -1,0 +1,17 @@
+pub mod Apart
+pub mod Tests
+pub mod Cases
+pub mod View
+pub mod Stable
+pub mod Standing
+pub mod Steps
+pub mod Cut
+pub mod Spots
+pub mod Runs
+pub mod Calls
+pub mod InTwo
+pub mod Literal
+pub mod Parts
+pub mod Bounds
+pub mod Finishing
+pub mod Scanning

@@ -1,0 +1,107 @@
+-- Which case of `judged` a run is in, with what holds there. Bounds, stability and locality are matches on it.
+-- Assumes nothing.
+use mathlib.Core.Path.{_≡_, sym, subst}
+use mathlib.Core.List.{List}
+use mathlib.Core.Bool.{true, false, _&&_}
+use Prim.Native.Nat.{ℕ, _%_, _≤_, _<_}
+use native.Mathlib.Omega.{arith}
+use lib.ListN.{length, getD}
+use lib.Dec.{leb, eqb}
+use borrow.Author.Tests.{leb-true, eqb-true}
+use Rattle.frame.specs.Frame.{lengthAt, allowed, crcRight}
+use Rattle.frame.specs.Judge.{judged, seen}
+use Rattle.frame.specs.declared.Verdict.{Verdict}
+use Rattle.frame.specs.declared.Verdict.the-variants.{NoSync, LengthNotAllowed, CrcWrong, Frame, Undecided}
+use Rattle.frame.proofs.Tests.{bool?, lt?, eq?, both-left, both-right}
+use Rattle.frame.proofs.Cases.{empty, sync0, one, sync1, short, bad-length, part, good, bad}
+
+pub record Head (v : List ℕ) : Type 0 where
+  pub eight : 8 ≤ length v
+  pub first : getD v 0 0 ≡ 0x24
+  pub second : getD v 1 0 ≡ 0x40
+
+-- what an allowed length is
+pub record Allowed (n : ℕ) : Type 0 where
+  pub by-four : n % 4 ≡ 0
+  pub not-small : 8 ≤ n
+
+pub allows : (n : ℕ) → allowed n ≡ true → Allowed n
+unfolding allowed
+allows n e =
+    record {
+      by-four = eqb-true (n % 4) 0 (both-left (eqb (n % 4) 0) (leb 8 n) e);
+      not-small = leb-true 8 n (both-right (eqb (n % 4) 0) (leb 8 n) e);
+    }
+
+pub data View (v : List ℕ) : Verdict → Type 0 where
+  waits-head : length v < 8 → View v Undecided
+  waits-body : Head v → allowed (lengthAt v 0) ≡ true → length v < lengthAt v 0 → View v Undecided
+  at-sync0 : 0 < length v → (getD v 0 0 ≡ 0x24 → ⊥) → View v (NoSync 1)
+  at-sync1 : 1 < length v → getD v 0 0 ≡ 0x24 → (getD v 1 0 ≡ 0x40 → ⊥) → View v (NoSync 2)
+  at-length : Head v → allowed (lengthAt v 0) ≡ false → View v LengthNotAllowed
+  at-bad : Head v → allowed (lengthAt v 0) ≡ true → lengthAt v 0 ≤ length v → crcRight v 0 ≡ false → View v (CrcWrong (lengthAt v 0))
+  at-good : Head v → allowed (lengthAt v 0) ≡ true → lengthAt v 0 ≤ length v → crcRight v 0 ≡ true → View v (Frame (lengthAt v 0))
+
+module _ (v : List ℕ) where
+  at : {x : Verdict} → judged v ≡ x → View v x → View v (judged v)
+  at e w = subst (View v) (sym e) w
+
+  view-length : Head v → View v (judged v)
+  view-length h =
+      let two : 1 < length v = omega (arith, h .eight) in
+      bool? (allowed (lengthAt v 0))
+      (λ ok.
+      lt? (length v) (lengthAt v 0) (λ l. at (part v two (h .first) (h .second) (h .eight) ok l) (waits-body h ok l))
+      (λ l.
+      bool? (crcRight v 0) (λ e. at (good v two (h .first) (h .second) (h .eight) ok l e) (at-good h ok l e))
+      (λ e. at (bad v two (h .first) (h .second) (h .eight) ok l e) (at-bad h ok l e))))
+      (λ no. at (bad-length v two (h .first) (h .second) (h .eight) no) (at-length h no))
+
+  pub view : View v (judged v)
+  view =
+      lt? 0 (length v)
+      (λ l.
+      eq? (getD v 0 0) 0x24
+      (λ a.
+      lt? 1 (length v)
+      (λ m.
+      eq? (getD v 1 0) 0x40
+      (λ b.
+      lt? (length v) 8 (λ s. at (short v m a b s) (waits-head s)) (λ g. view-length (record { eight = g; first = a; second = b })))
+      (λ b. at (sync1 v m a b) (at-sync1 m a b)))
+      (λ m. at (one v l a (omega arith)) (waits-head (omega arith))))
+      (λ a. at (sync0 v l a) (at-sync0 l a)))
+      (λ l. at (empty v (omega arith)) (waits-head (omega arith)))
+
+seen-of : (v : List ℕ) {x : Verdict} → View v x → seen x ≤ length v
+seen-of v (waits-head h) = omega arith
+seen-of v (waits-body h a l) = omega arith
+seen-of v (at-sync0 l a) = omega arith
+seen-of v (at-sync1 l a b) = omega arith
+seen-of v (at-length h m) = h .eight
+seen-of v (at-bad h a l q) = l
+seen-of v (at-good h a l q) = l
+
+-- what a verdict rests on is there
+pub seen-le : (v : List ℕ) → seen (judged v) ≤ length v
+seen-le v = seen-of v (view v)
+
+-- a frame has at least eight bytes
+abbrev pub Big : Verdict → Type 0
+Big (NoSync n) = n ≤ 8
+Big LengthNotAllowed = Unit {0}
+Big (CrcWrong n) = Unit {0}
+Big (Frame n) = 8 ≤ n
+Big Undecided = Unit {0}
+
+big-of : (v : List ℕ) {x : Verdict} → View v x → Big x
+big-of v (waits-head h) = tt
+big-of v (waits-body h a l) = tt
+big-of v (at-sync0 l a) = omega arith
+big-of v (at-sync1 l a b) = omega arith
+big-of v (at-length h m) = tt
+big-of v (at-bad h a l q) = tt
+big-of v (at-good h a l q) = allows (lengthAt v 0) a .not-small
+
+pub big : (v : List ℕ) → Big (judged v)
+big v = big-of v (view v)

@@ -1,0 +1,196 @@
+-- `frame::judge` meets its contract: at each `return` the tests that led there say which case of `judged` holds.
+-- Assumes nothing.
+use mathlib.Core.Path.{_≡_, refl, sym, ap, ap₂, _∙_}
+use mathlib.Core.Bool.{Bool, true}
+use mathlib.Core.List.{List, _++_}
+use Prim.Native.Nat.{ℕ, _≤_, _<_, _+_}
+use native.Mathlib.Nat.{zero-add}
+use native.Mathlib.Omega.{arith}
+use lib.ListN.{length, take, drop, getD, length-append}
+use lib.Dec.{eqb}
+use borrow.Author.Tests.{eq-eqb, ne-eqb, not-true, not-false}
+use Rattle.crc.specs.Crc.{crcOf}
+use Rattle.frame.specs.Frame.{lengthAt, allowed, crcRight}
+use Rattle.frame.specs.declared.Verdict.the-variants.{CrcWrong, Frame}
+use Rattle.frame.proofs.Cases.{empty, sync0, one, sync1, short, bad-length, part, good, bad}
+use Rattle.frame.proofs.View.{Head, Allowed, allows}
+use borrow.Author.Needs.{needs}
+use Rattle.frame.proofs.judge.Statement.{statement}
+use Rattle.frame.proofs.judge.Tie as tie
+use Rattle.frame.proofs.judge.Reads as reads
+use Rattle.frame.proofs.judge.Lts as lts
+use Rattle.frame.proofs.at.Reads as at-reads
+use Rattle.frame.proofs.crc_between.Reads as crc-between-reads
+use Rattle.frame.proofs.length_allowed.Reads as length-allowed-reads
+use Rattle.frame.proofs.pair_at.Reads as pair-at-reads
+
+-- the run from the place on
+abbrev run : tie.After-shared-slice-known2 → List ℕ
+run b = b .before .before .args .a .now ++ b .before .before .args .b .now
+
+long : (b : tie.After-shared-slice-known2) → length (run b) ≡ length (b .before .before .args .a .now) + length (b .before .before .args .b .now)
+long b = length-append (b .before .before .args .a .now) (b .before .before .args .b .now)
+
+some : (c : tie.Else1) → 0 < length (run (c .before))
+some c = let n : length (run (c .before)) ≡ 0 → ⊥ = λ e. c .if1 .left (sym (long (c .before)) ∙ e) in omega (arith, n)
+
+first : (c : tie.Else2) → getD (run (c .before .before .before)) 0 0 ≡ 0x24
+first c = sym (c .before .at .ensures) ∙ c .if2 .left
+
+two : (c : tie.Else3) → 1 < length (run (c .before .before .before .before))
+two c =
+    let b = c .before .before .before .before in
+    let n : length (run b) ≡ 1 → ⊥ = λ e. c .if3 .left (sym (long b) ∙ e) in
+    omega (arith, n, some (c .before .before .before))
+
+second : (c : tie.Else4) → getD (run (c .before .before .before .before .before .before)) 1 0 ≡ 0x40
+second c = sym (c .before .at2 .ensures) ∙ c .if4 .left
+
+abbrev start : tie.After-pair-at → tie.After-shared-slice-known2
+start u = u .before .before .before .before .before .before .before .before
+
+head : (u : tie.After-pair-at) → Head (run (start u))
+head u =
+    record {
+      eight = omega (arith, long (start u), u .before .if5 .left);
+      first = first (u .before .before .before .before .before);
+      second = second (u .before .before);
+    }
+
+ok : (c : tie.Else6) → allowed (lengthAt (run (start (c .before .before))) 0) ≡ true
+ok c =
+    ap allowed (sym (c .before .before .pair-at .ensures)) ∙ sym (c .before .length-allowed .ensures) ∙ not-false _ (c .if6 .left)
+
+-- the test of the CRC, as `crcRight` has it
+sums : (c : tie.After-pair-at2)
+    → crcRight (run (start (c .before .before .before .before .before))) 0 ≡ eqb (c .pair-at2 .result) (c .before .crc-between .result)
+unfolding crcRight
+sums c =
+    let u = c .before .before .before .before .before in
+    ap₂ (λ (x y : ℕ). eqb x y) (sym (c .pair-at2 .ensures))
+    (ap (λ (x : ℕ). crcOf (drop 4 (take x (run (start u))))) (zero-add (lengthAt (run (start u)) 0) ∙ sym (u .pair-at .ensures))
+    ∙ sym (c .before .crc-between .ensures))
+
+-- src/lib.rt:113:16
+add-left : tie.Need-add-left
+add-left c = search needs
+
+-- src/lib.rt:115:9
+returns : tie.Need-returns
+returns c = sym (empty (run (c .before)) (omega (arith, long (c .before), c .if1 .taken)))
+
+-- src/lib.rt:117:8
+at-requires : tie.Need-at-requires
+at-requires c κs = search needs
+
+-- src/lib.rt:118:9
+returns-2 : tie.Need-returns-2
+returns-2 c =
+    let b = c .before .before .before in
+    sym (sync0 (run b) (some (c .before .before)) (λ e. c .if2 .taken (c .before .at .ensures ∙ e)))
+
+-- src/lib.rt:121:9
+returns-3 : tie.Need-returns-3
+returns-3 c =
+    let b = c .before .before .before .before in
+    sym (one (run b) (some (c .before .before .before)) (first (c .before)) (long b ∙ c .if3 .taken))
+
+-- src/lib.rt:123:8
+at-requires-2 : tie.Need-at-requires-2
+at-requires-2 c κs = search needs
+
+-- src/lib.rt:124:9
+returns-4 : tie.Need-returns-4
+returns-4 c =
+    let b = c .before .before .before .before .before .before in
+    sym (sync1 (run b) (two (c .before .before)) (first (c .before .before .before)) (λ e. c .if4 .taken (c .before .at2 .ensures ∙ e)))
+
+-- src/lib.rt:127:9
+returns-5 : tie.Need-returns-5
+returns-5 c =
+    let b = c .before .before .before .before .before .before .before in
+    sym (short (run b) (two (c .before .before .before)) (first (c .before .before .before .before)) (second (c .before)) (omega (arith, long b, c .if5 .taken)))
+
+-- src/lib.rt:129:9
+pair-at-requires : tie.Need-pair-at-requires
+pair-at-requires c κs = search needs
+
+-- src/lib.rt:130:9
+length-allowed-requires : tie.Need-length-allowed-requires
+length-allowed-requires c κs = search needs
+
+-- src/lib.rt:131:9
+returns-6 : tie.Need-returns-6
+returns-6 c =
+    let u = c .before .before in
+    let d = head u in
+    sym
+    (bad-length (run (start u)) (omega (arith, d .eight)) (d .first) (d .second) (d .eight)
+    (ap allowed (sym (u .pair-at .ensures)) ∙ sym (c .before .length-allowed .ensures) ∙ not-true _ (c .if6 .taken)))
+
+-- src/lib.rt:133:13
+cast-n : tie.Need-cast-n
+cast-n c = search needs
+
+-- src/lib.rt:135:9
+returns-7 : tie.Need-returns-7
+returns-7 c =
+    let u = c .before .before .before in
+    let d = head u in
+    sym
+    (part (run (start u)) (omega (arith, d .eight)) (d .first) (d .second) (d .eight) (ok (c .before))
+    (omega (arith, long (start u), c .if7 .taken, u .pair-at .ensures)))
+
+-- src/lib.rt:137:9
+crc-between-requires : tie.Need-crc-between-requires
+crc-between-requires c κs =
+    let u = c .before .before .before in
+    (omega (arith, allows (lengthAt (run (start u)) 0) (ok (c .before)) .not-small, u .pair-at .ensures), omega (arith, c .if7 .left))
+
+-- src/lib.rt:138:8
+pair-at-requires-2 : tie.Need-pair-at-requires-2
+pair-at-requires-2 c κs = search needs
+
+-- src/lib.rt:110:1
+returns-8 : tie.Need-returns-8
+returns-8 c =
+    let u = c .before .before .before .before .before .before in
+    let d = head u in
+    sym
+    (good (run (start u)) (omega (arith, d .eight)) (d .first) (d .second) (d .eight) (ok (c .before .before .before .before))
+    (omega (arith, long (start u), c .before .before .before .if7 .left, u .pair-at .ensures))
+    (sums (c .before) ∙ eq-eqb (c .before .pair-at2 .result) (c .before .before .crc-between .result) (c .if8 .taken))
+    ∙ ap Frame (sym (u .pair-at .ensures)))
+
+-- src/lib.rt:110:1
+returns-9 : tie.Need-returns-9
+returns-9 c =
+    let u = c .before .before .before .before .before .before in
+    let d = head u in
+    sym
+    (bad (run (start u)) (omega (arith, d .eight)) (d .first) (d .second) (d .eight) (ok (c .before .before .before .before))
+    (omega (arith, long (start u), c .before .before .before .if7 .left, u .pair-at .ensures))
+    (sums (c .before) ∙ ne-eqb (c .before .pair-at2 .result) (c .before .before .crc-between .result) (c .if8 .left))
+    ∙ ap CrcWrong (sym (u .pair-at .ensures)))
+
+pub judge-spec : {M : Type 1} → statement M
+judge-spec =
+    tie.close
+    (tie.spec
+    add-left
+    returns
+    at-requires
+    returns-2
+    returns-3
+    at-requires-2
+    returns-4
+    returns-5
+    pair-at-requires
+    length-allowed-requires
+    returns-6
+    cast-n
+    returns-7
+    crc-between-requires
+    pair-at-requires-2
+    returns-8
+    returns-9)
