@@ -1,0 +1,3 @@
+pub mod Pasting
+pub mod Kept
+pub mod Literally

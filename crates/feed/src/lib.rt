@@ -1,0 +1,152 @@
+// A run fed piece by piece: what is taken and not decided, and a reported block, are kept at the front of the hold.
+ghost use mathlib.Core.Path.{_≡_};
+ghost use mathlib.Core.List.{_++_};
+ghost use Prim.Native.Nat.{min, _+_, _-_, _≤_};
+ghost use lib.ListN.{length, take, drop};
+ghost use lib.Seq.{paste};
+ghost use Rattle.frame.specs.Scan.{scanFrom};
+ghost use Rattle.frame.specs.Settle.{finishLit};
+ghost use Rattle.frame.specs.Feed.{feedLit, stop};
+ghost use Rattle.feed.specs.Hold.{restOf, numbersOf, holdOf, Good, GoesOn};
+ghost use Rattle.feed.specs.Kept.{foundNumbers, foundKept};
+use frame::Found;
+
+// What a call leaves.
+pub struct Fed {
+    // How many bytes of the piece were taken.
+    pub taken: usize,
+    // How many bytes were skipped.
+    pub skipped: usize,
+    // How many bytes of the hold count, a standing block among them.
+    pub held: usize,
+    // The length of the block that stands at the front of the hold, 0 for none.
+    pub standing: usize,
+}
+
+// k bytes of `s` from b on go to the place `at`.
+fn copy_in(hold: &mut [u8], at: usize, s: &[u8], b: usize, k: usize)
+    requires { ⌜ (at + k ≤ length (now hold)) × (b + k ≤ length (now s)) ⌝ }
+    ensures { λ _. ⌜ now (hold .exit) ≡ paste (now (hold .entry)) at (drop b (now (s .entry))) k ⌝ }
+{
+    let mut j: usize = 0;
+    while j < k {
+        let to = at + j;
+        let from = b + j;
+        hold[to] = s[from];
+        j += 1;
+    }
+}
+
+// k bytes from `from` on go to `to`, by way of a buffer: so both copies are of parts that do not overlap, and wide.
+fn move_some(hold: &mut [u8], from: usize, to: usize, buf: &mut [u8; 1024], k: usize)
+    requires { ⌜ (from + k ≤ length (now hold)) × (to + k ≤ length (now hold)) × (k ≤ 1024) ⌝ }
+    ensures { λ _. ⌜ now (hold .exit) ≡ paste (now (hold .entry)) to (drop from (now (hold .entry))) k ⌝ }
+{
+    copy_in(buf, 0, hold, from, k);
+    copy_in(hold, to, buf, 0, k);
+}
+
+// k bytes from `from` on move to the front.
+fn move_down(hold: &mut [u8], from: usize, k: usize)
+    requires { ⌜ from + k ≤ length (now hold) ⌝ }
+    ensures { λ _. ⌜ now (hold .exit) ≡ paste (now (hold .entry)) 0 (drop from (now (hold .entry))) k ⌝ }
+{
+    if from == 0 {
+        return;
+    }
+    let mut buf = [0u8; 1024];
+    let mut j: usize = 0;
+    while j < k {
+        let n = lesser(k - j, 1024);
+        move_some(hold, from + j, j, &mut buf, n);
+        j += n;
+    }
+}
+
+fn lesser(a: usize, b: usize) -> usize
+    ensures { λ r. ⌜ r ≡ min a b ⌝ }
+{
+    if a < b { a } else { b }
+}
+
+// The bytes p .. m of the run go to the front of the hold. The run: the n bytes behind the standing block, then the piece.
+fn keep(hold: &mut [u8], standing: usize, n: usize, piece: &[u8], p: usize, m: usize)
+    requires { ⌜ (standing + n ≤ length (now hold)) × (p ≤ m) × (n ≤ m) × (m ≤ n + length (now piece)) × (m - p ≤ length (now hold)) ⌝ }
+    ensures { λ _. ⌜ now (hold .exit) ≡ drop p (take m (take n (drop standing (now (hold .entry))) ++ now (piece .entry))) ++ drop (m - p) (now (hold .entry)) ⌝ }
+{
+    if p < n {
+        let k = n - p;
+        move_down(hold, standing + p, k);
+        copy_in(hold, k, piece, 0, m - n);
+    } else {
+        copy_in(hold, 0, piece, p - n, m - p);
+    }
+}
+
+// All of the piece; the promise is by the scan.
+fn take_in(hold: &mut [u8], held: usize, standing: usize, piece: &[u8]) -> Fed
+    requires { ⌜ (standing ≤ held) × (held ≤ 65532) × (65532 ≤ length (now hold)) ⌝ }
+    ensures { λ r. ⌜ r ≡ foundNumbers (scanFrom (restOf (now (hold .entry)) held standing ++ now (piece .entry)) 0 (held - standing)) (length (now (piece .entry))) (held - standing) ⌝ }
+    ensures { λ r. ⌜ now (hold .exit) ≡ foundKept (scanFrom (restOf (now (hold .entry)) held standing ++ now (piece .entry)) 0 (held - standing)) (restOf (now (hold .entry)) held standing ++ now (piece .entry)) ++ drop (r .held) (now (hold .entry)) ⌝ }
+    ensures { λ r. ⌜ Good r (length (now (piece .entry))) ⌝ }
+{
+    let n = held - standing;
+    let found = frame::scan(&hold[standing..held], piece);
+    match found {
+        Found::Block(p, len, m) => {
+            keep(hold, standing, n, piece, p, m);
+            Fed {
+                taken: m - n,
+                skipped: p,
+                held: m - p,
+                standing: len,
+            }
+        }
+        Found::More(p) => {
+            let m = n + piece.len();
+            keep(hold, standing, n, piece, p, m);
+            Fed {
+                taken: m - n,
+                skipped: p,
+                held: m - p,
+                standing: 0,
+            }
+        }
+    }
+}
+
+// Drops the standing block and takes at most `room` bytes of the piece; the promise is by the rule, a byte at a time.
+pub fn feed(hold: &mut [u8], held: usize, standing: usize, piece: &[u8], room: usize) -> Fed
+    requires { ⌜ (standing ≤ held) × (held ≤ 65532) × (65532 ≤ length (now hold)) ⌝ }
+    ensures { λ r. ⌜ r ≡ numbersOf (feedLit (restOf (now (hold .entry)) held standing) (now (piece .entry)) room) ⌝ }
+    ensures { λ r. ⌜ now (hold .exit) ≡ holdOf (feedLit (restOf (now (hold .entry)) held standing) (now (piece .entry)) room) (now (hold .entry)) ⌝ }
+    ensures { λ r. ⌜ Good r (min room (length (now (piece .entry)))) ⌝ }
+{
+    let t = lesser(room, piece.len());
+    take_in(hold, held, standing, &piece[..t])
+}
+
+// Drops the standing block; what is held is read on with nothing to follow.
+pub fn finish(hold: &mut [u8], held: usize, standing: usize) -> Fed
+    requires { ⌜ (standing ≤ held) × (held ≤ 65532) × (65532 ≤ length (now hold)) ⌝ }
+    ensures { λ r. ⌜ r ≡ numbersOf (stop (finishLit (restOf (now (hold .entry)) held standing))) ⌝ }
+    ensures { λ r. ⌜ now (hold .exit) ≡ holdOf (stop (finishLit (restOf (now (hold .entry)) held standing))) (now (hold .entry)) ⌝ }
+    ensures { λ r. ⌜ Good r 0 ⌝ }
+{
+    let end = frame::last(&hold[standing..held]);
+    let p = end.skipped;
+    let b = end.block;
+    let k = held - standing - p;
+    move_down(hold, standing + p, k);
+    Fed {
+        taken: 0,
+        skipped: p,
+        held: k,
+        standing: b,
+    }
+}
+
+// What a call leaves in the hold is what the next one starts from.
+pub fn goes_on()
+    ensures { λ _. ⌜ GoesOn ⌝ }
+{}
