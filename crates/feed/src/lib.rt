@@ -55,11 +55,11 @@ fn move_down(hold: &mut [u8], from: usize, k: usize)
         return;
     }
     let mut buf = [0u8; 1024];
-    let mut j: usize = 0;
-    while j < k {
-        let n = lesser(k - j, 1024);
-        move_some(hold, from + j, j, &mut buf, n);
-        j += n;
+    let mut moved: usize = 0;
+    while moved < k {
+        let n = lesser(k - moved, 1024);
+        move_some(hold, from + moved, moved, &mut buf, n);
+        moved += n;
     }
 }
 

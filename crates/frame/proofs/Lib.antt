@@ -12,6 +12,8 @@ pub mod Calls
 pub mod InTwo
 pub mod Literal
 pub mod Parts
+pub mod Eights
+pub mod Starts
 pub mod Bounds
 pub mod Finishing
 pub mod Scanning

@@ -52,6 +52,12 @@ unfoldable pub scanPart : List ℕ → List ℕ → ℕ → ℕ → Part
 scanPart [] rest p m = part.Passed m
 scanPart (b ∷ bs) rest p m = onVerdict (judged (b ∷ bs ++ rest)) p m (scanPart bs rest (p + 1))
 
+-- from i up to r no first sync byte stands
+pub record NoDollar (s : List ℕ) (i r : ℕ) : Type 0 where
+  pub from : i ≤ r
+  pub within : r ≤ length s
+  pub none : (k : ℕ) → i ≤ k → k < r → getD s k 0 ≡ 0x24 → ⊥
+
 -- from i up to r no first sync byte stands with its second behind it, or with nothing behind it
 pub record NoStart (s : List ℕ) (i r : ℕ) : Type 0 where
   pub from : i ≤ r

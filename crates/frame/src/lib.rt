@@ -9,7 +9,7 @@ ghost use Rattle.crc.specs.Crc.{crcOf};
 ghost use Rattle.wire.specs.Little.{littleAt};
 ghost use Rattle.frame.specs.Frame.{allowed, frameAt, lengthAt, wholeFrame};
 ghost use Rattle.frame.specs.Judge.{judged};
-ghost use Rattle.frame.specs.Scan.{NoStart, scanPart, scanFrom};
+ghost use Rattle.frame.specs.Scan.{NoDollar, NoStart, scanPart, scanFrom};
 ghost use Rattle.frame.specs.Settle.{finishLit};
 ghost use Rattle.frame.specs.Ending.{endingOf};
 ghost use Rattle.frame.specs.Samples.{SamplesHold};
@@ -132,6 +132,7 @@ pub fn judge(a: &[u8], b: &[u8]) -> Verdict
     }
     let n = size as usize;
     if left < n {
+        // And no frame, should the run end here.
         return Verdict::Undecided;
     }
     let crc = crc_between(a, b, n);
@@ -142,23 +143,45 @@ pub fn judge(a: &[u8], b: &[u8]) -> Verdict
     }
 }
 
+// Passes groups of eight bytes from i on, as long as no first sync byte stands in them: eight tests, one branch.
+fn skip_eights(s: &[u8], i: usize) -> usize
+    requires { ⌜ i ≤ length (now s) ⌝ }
+    ensures { λ r. ⌜ NoDollar (now (s .entry)) i r ⌝ }
+{
+    let mut k = i;
+    while 8 <= s.len() - k {
+        let low = (s[k] == 0x24) | (s[k + 1] == 0x24) | (s[k + 2] == 0x24) | (s[k + 3] == 0x24);
+        let high = (s[k + 4] == 0x24)
+            | (s[k + 5] == 0x24)
+            | (s[k + 6] == 0x24)
+            | (s[k + 7] == 0x24);
+        if low | high {
+            return k;
+        }
+        k += 8;
+    }
+    k
+}
+
 // The first place from i on that may be a frame's start, or the end: no sync stands at the places passed.
 fn start_from(s: &[u8], i: usize) -> usize
     requires { ⌜ i ≤ length (now s) ⌝ }
     ensures { λ r. ⌜ NoStart (now (s .entry)) i r ⌝ }
 {
-    let mut k = i;
+    let mut k = skip_eights(s, i);
     while k < s.len() {
+        let next = k + 1;
         if s[k] == 0x24 {
-            let next = k + 1;
             if next == s.len() {
                 return k;
             }
             if s[next] == 0x40 {
                 return k;
             }
+            k = skip_eights(s, next);
+            continue;
         }
-        k += 1;
+        k = next;
     }
     k
 }
@@ -185,11 +208,16 @@ fn scan_part(s: &[u8], rest: &[u8], from: usize, mark: usize) -> Part
             }
             Verdict::CrcWrong(n) => {
                 m = greater(m, from + p + n);
+                // And not p + n: a false header must not swallow the blocks behind it.
+                k = 1 + p;
             }
-            Verdict::NoSync(_) => {}
-            Verdict::LengthNotAllowed => {}
+            Verdict::NoSync(_) => {
+                k = p + 1;
+            }
+            Verdict::LengthNotAllowed => {
+                k = p + 1;
+            }
         }
-        k = p + 1;
     }
     Part::Passed(m)
 }

@@ -16,10 +16,10 @@ use Rattle.feed.proofs.lesser.Reads as lesser-reads
 use Rattle.feed.proofs.move_some.Reads as move-some-reads
 
 abbrev Inv-loop : tie.InvT-loop
-Inv-loop hold₀ from k buf₀ j₀ hold buf j = (j ≤ k) × (hold ≡ paste hold₀ 0 (drop from hold₀) j)
+Inv-loop hold₀ from k buf₀ moved₀ hold buf moved = (moved ≤ k) × (hold ≡ paste hold₀ 0 (drop from hold₀) moved)
 
 abbrev μ-loop : tie.MeasureT-loop
-μ-loop hold₀ from k buf₀ j₀ hold buf j = k - j
+μ-loop hold₀ from k buf₀ moved₀ hold buf moved = k - moved
 
 -- src/lib.rt:50:9
 returns : tie.Need-returns Inv-loop μ-loop
@@ -42,11 +42,11 @@ lesser-requires c κs = search needs
 long : (l : tie.At-loop Inv-loop μ-loop) → length (l .loop .hold) ≡ length (l .before .before .before .args .hold .now)
 long l =
     let a = l .before .before .before .args in
-    paste-long (l .loop .hold) (a .hold .now) 0 (a .hold .now) (a .from) (l .loop .j) (l .loop .inv .1) (omega arith) (omega arith)
+    paste-long (l .loop .hold) (a .hold .now) 0 (a .hold .now) (a .from) (l .loop .moved) (l .loop .inv .1) (omega arith) (omega arith)
 
 -- how many bytes move in a turn
 least : (m : tie.After-lesser Inv-loop μ-loop)
-    → m .lesser .result ≡ min (m .before .before .before .before .before .args .k - m .before .before .loop .j) 1024
+    → m .lesser .result ≡ min (m .before .before .before .before .before .args .k - m .before .before .loop .moved) 1024
 least m = m .lesser .ensures
 
 -- src/lib.rt:56:25
@@ -61,8 +61,8 @@ move-some-requires c κs =
     (omega arith, omega arith, omega arith)
 
 -- src/lib.rt:57:9
-add-j : tie.Need-add-j Inv-loop μ-loop
-add-j c = omega (arith, least (c .before .before .before .before .before))
+add-moved : tie.Need-add-moved Inv-loop μ-loop
+add-moved c = omega (arith, least (c .before .before .before .before .before))
 
 -- src/lib.rt:54:5
 loop-less : tie.Need-loop-less Inv-loop μ-loop
@@ -81,10 +81,10 @@ loop-again c =
     let s = drop (a .from) (a .hold .now) in (
       omega (arith, least m),
       c .before .before .move-some .ensures
-          ∙ ap (λ (x : List ℕ). paste x (l .j) (drop (a .from + l .j) x) n) (l .inv .1)
-          ∙ ap (λ (x : List ℕ). paste (paste h 0 s (l .j)) (l .j) x n)
-          (paste-behind h s (l .j) (a .from + l .j) (omega (arith, length-drop (a .from) h)) (omega arith) ∙ sym (drop-drop (l .j) (a .from) h))
-          ∙ paste-on h s (l .j) n (omega (arith, least m, length-drop (a .from) h)) (omega arith),
+          ∙ ap (λ (x : List ℕ). paste x (l .moved) (drop (a .from + l .moved) x) n) (l .inv .1)
+          ∙ ap (λ (x : List ℕ). paste (paste h 0 s (l .moved)) (l .moved) x n)
+          (paste-behind h s (l .moved) (a .from + l .moved) (omega (arith, length-drop (a .from) h)) (omega arith) ∙ sym (drop-drop (l .moved) (a .from) h))
+          ∙ paste-on h s (l .moved) n (omega (arith, least m, length-drop (a .from) h)) (omega arith),
     )
 
 -- src/lib.rt:45:1
@@ -96,7 +96,7 @@ returns-2 : tie.Need-returns-2 Inv-loop μ-loop
 returns-2 c =
     let a = c .before .before .before .before .args in
     let l = c .before .loop in
-    let e : l .j ≡ a .k = omega arith in
+    let e : l .moved ≡ a .k = omega arith in
     l .inv .1 ∙ ap (paste (a .hold .now) 0 (drop (a .from) (a .hold .now))) e
 
 pub move-down-spec : {M : Type 1} → statement M
@@ -111,7 +111,7 @@ move-down-spec =
     lesser-requires
     add-move-some
     move-some-requires
-    add-j
+    add-moved
     loop-less
     loop-again
     same-length

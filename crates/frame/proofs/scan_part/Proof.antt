@@ -2,7 +2,6 @@
 -- Assumes nothing.
 use mathlib.Core.Path.{_≡_, refl, sym, ap, _∙_}
 use mathlib.Core.List.{List, _++_}
-use mathlib.Core.Logic.{⊎-elim}
 use Prim.Native.Nat.{ℕ, _≤_, _<_, _+_, _-_, max}
 use native.Mathlib.Nat.{add-zero}
 use native.Mathlib.Omega.{arith}
@@ -175,34 +174,50 @@ add-greater-4 c = let j = c .before .before .before in omega (arith, within j (C
 greater-requires-2 : tie.Need-greater-requires-2 Inv-loop μ-loop
 greater-requires-2 c κs = search needs
 
+add-k : tie.Need-add-k Inv-loop μ-loop
+add-k c = let j = c .before .before .before .before in omega (arith, inside (j .before .before), bound j)
+
+loop-less : tie.Need-loop-less Inv-loop μ-loop
+loop-less c = let j = c .before .before .before .before in omega (arith, inside (j .before .before), j .before .before .before .start-from .ensures .from)
+
+loop-again : tie.Need-loop-again Inv-loop μ-loop
+loop-again c =
+    let j = c .before .before .before .before in
+    let v = c .before .before .v2 in
+    let e : 1 + place j ≡ place j + 1 = omega arith in (
+      omega (arith, inside (j .before .before)),
+      ap (λ (i : ℕ). fromPlace (entry j .args .s .now) (entry j .args .rest .now) (entry j .args .from) i (c .greater2 .result)) e
+          ∙ ap (next j) (c .greater2 .ensures) ∙ sym (here j ∙ ap (goes j) (v .given .1)),
+    )
+
 enum-told-2 : tie.Need-enum-told-2 Inv-loop μ-loop
 enum-told-2 c = search needs
+
+add-k-2 : tie.Need-add-k-2 Inv-loop μ-loop
+add-k-2 c = let j = c .before .before in omega (arith, inside (j .before .before), bound j)
+
+loop-less-2 : tie.Need-loop-less-2 Inv-loop μ-loop
+loop-less-2 c = let j = c .before .before in omega (arith, inside (j .before .before), j .before .before .before .start-from .ensures .from)
+
+loop-again-2 : tie.Need-loop-again-2 Inv-loop μ-loop
+loop-again-2 c =
+    let j = c .before .before in
+    (omega (arith, inside (j .before .before)), sym (here j ∙ ap (goes j) (c .enum-told2 .given .1)))
 
 enum-told-3 : tie.Need-enum-told-3 Inv-loop μ-loop
 enum-told-3 c = search needs
 
--- src/lib.rt:192:13
-add-k : tie.Need-add-k Inv-loop μ-loop
-add-k c = omega (arith, inside (c .before .before .before), bound (c .before))
+add-k-3 : tie.Need-add-k-3 Inv-loop μ-loop
+add-k-3 c = let j = c .before .before in omega (arith, inside (j .before .before), bound j)
 
--- src/lib.rt:173:5
-loop-less : tie.Need-loop-less Inv-loop μ-loop
-loop-less c = omega (arith, inside (c .before .before .before), c .before .before .before .before .start-from .ensures .from)
+loop-less-3 : tie.Need-loop-less-3 Inv-loop μ-loop
+loop-less-3 c = let j = c .before .before in omega (arith, inside (j .before .before), j .before .before .before .start-from .ensures .from)
 
--- src/lib.rt:173:5
-loop-again : tie.Need-loop-again Inv-loop μ-loop
-loop-again c =
-    let j = c .before in (
-      omega (arith, inside (j .before .before)),
-      ⊎-elim
-          (λ t. ap (next j) (t .4 ∙ t .3 .ensures) ∙ sym (here j ∙ ap (goes j) (t .1 .given .1)))
-          (λ u.
-          ⊎-elim (λ t. ap (next j) (t .2) ∙ sym (here j ∙ ap (goes j) (t .1 .given .1)))
-          (λ t. ap (next j) (t .2) ∙ sym (here j ∙ ap (goes j) (t .1 .given .1))) u)
-          (c .match .came),
-    )
+loop-again-3 : tie.Need-loop-again-3 Inv-loop μ-loop
+loop-again-3 c =
+    let j = c .before .before in
+    (omega (arith, inside (j .before .before)), sym (here j ∙ ap (goes j) (c .enum-told3 .given .1)))
 
--- src/lib.rt:167:1
 returns-4 : tie.Need-returns-4 Inv-loop μ-loop
 returns-4 c =
     let a = c .before .before .before .before .args in
@@ -235,9 +250,15 @@ scan-part-spec =
     add-greater-3
     add-greater-4
     greater-requires-2
-    enum-told-2
-    enum-told-3
     add-k
     loop-less
     loop-again
+    enum-told-2
+    add-k-2
+    loop-less-2
+    loop-again-2
+    enum-told-3
+    add-k-3
+    loop-less-3
+    loop-again-3
     returns-4)
