@@ -24,7 +24,7 @@ pub struct Fed {
 }
 
 // k bytes of `s` from b on go to the place `at`.
-fn copy_in(hold: &mut [u8], at: usize, s: &[u8], b: usize, k: usize)
+pub fn copy_in(hold: &mut [u8], at: usize, s: &[u8], b: usize, k: usize)
     requires { ⌜ (at + k ≤ length (now hold)) × (b + k ≤ length (now s)) ⌝ }
     ensures { λ _. ⌜ now (hold .exit) ≡ paste (now (hold .entry)) at (drop b (now (s .entry))) k ⌝ }
 {

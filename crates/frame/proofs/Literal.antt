@@ -30,7 +30,7 @@ toLit (More p) w n = record { taken = length w - n; skipped = p; standing = none
 
 -- ---- a scan of held bytes alone is settling
 
-abbrev foundAs : Option ℕ → ℕ → ℕ → Found
+abbrev pub foundAs : Option ℕ → ℕ → ℕ → Found
 foundAs none p m = More p
 foundAs (some l) p m = Block p l m
 
@@ -52,7 +52,7 @@ found (b ∷ bs) p m l =
     found-by (stepOf (b ∷ bs)) p m b bs (settle bs) (seen-le (b ∷ bs)) l (found bs (p + 1) m (omega arith))
     ∙ ap (λ (s : Settled). foundAs (s .standing) (p + s .skipped) m) (sym (settle-cons b bs))
 
-found0 : (h : List ℕ) → scanFrom h 0 (length h) ≡ foundAs (settle h .standing) (settle h .skipped) (length h)
+pub found0 : (h : List ℕ) → scanFrom h 0 (length h) ≡ foundAs (settle h .standing) (settle h .skipped) (length h)
 found0 h = found h 0 (length h) (omega arith) ∙ ap (λ (k : ℕ). foundAs (settle h .standing) k (length h)) (zero-add (settle h .skipped))
 
 -- ---- a scan from another place

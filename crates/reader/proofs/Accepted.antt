@@ -1,0 +1,66 @@
+-- A call that is refused, and one that is not: what its outcome is.
+-- Assumes nothing.
+use mathlib.Core.Path.{_≡_, refl, sym, ap, ap₂, _∙_}
+use mathlib.Core.Bool.{Bool, true, false, _&&_, cond}
+use mathlib.Core.List.{List, [], _∷_, _++_}
+use mathlib.Core.Option.{Option, none, some}
+use Prim.Native.Nat.{ℕ, _+_, _≤_, _<_}
+use native.Mathlib.Nat.{zero-add}
+use native.Mathlib.Omega.{arith}
+use lib.ListN.{length, take, drop}
+use lib.Seq.{paste, length-take-le}
+use Rattle.table.specs.Rules.{tableOk}
+use Rattle.reader.specs.State.{sound}
+use Rattle.reader.specs.Said.{Said, refused, version}
+use Rattle.reader.specs.Refusals.{need, longStore, isClosed, nextTable, tableRefusal, openRefusal, stageRefusal}
+use Rattle.reader.specs.Calls.{Outcome, outcome, unless, over, opening, openOf, staging, stageOf}
+use Rattle.reader.specs.declared.State.{State}
+use Rattle.reader.specs.declared.Run.{Run}
+use Rattle.reader.proofs.Laws.{passes, Facts, with-store, with-stores}
+
+module _ (s : State) (l : List ℕ) (d : Outcome) where
+  pub refused-by : (o : Option ℕ) (n : ℕ) {v : ℕ} → d .said ≡ version v → unless o s l d .said ≡ refused n → unless o s l d ≡ outcome (refused n) s l
+  refused-by (some m) n e f = let q : m ≡ n = cc in ap (λ (k : ℕ). outcome (refused k) s l) q
+  refused-by none n e f = let z : _≡_ {A = ℕ} 0 1 = cc in let g : ⊥ = omega arith in absurd g
+
+  pub accepted-by : (o : Option ℕ) {v : ℕ} → unless o s l d .said ≡ version v → o ≡ none
+  accepted-by (some m) f = let z : _≡_ {A = ℕ} 0 1 = cc in let g : ⊥ = omega arith in absurd g
+  accepted-by none f = refl
+
+  pub is-refused : (o : Option ℕ) (n : ℕ) → o ≡ some n → outcome (refused n) s l ≡ unless o s l d
+  is-refused o n e = sym (ap (λ (x : Option ℕ). unless x s l d) e)
+
+  pub is-done : (o : Option ℕ) → o ≡ none → d ≡ unless o s l d
+  is-done o e = sym (ap (λ (x : Option ℕ). unless x s l d) e)
+
+-- ---- Open
+
+pub record OpenPassed (s : State) (force wait : List ℕ) : Type 0 where
+  pub facts : Facts s
+  pub long-force : 8192 ≤ length force
+  pub long-wait : 8192 ≤ length wait
+
+pub open-passed : (s : State) (force wait : List ℕ) → openRefusal s force wait ≡ none → OpenPassed s force wait
+unfolding openRefusal
+open-passed s force wait e =
+    let f = with-stores s force wait (passes (sound s && longStore force && longStore wait) 1 _ e .0) in
+    record { facts = f .0; long-force = f .1; long-wait = f .2 }
+
+pub stage-passed : (s : State) (wait t : List ℕ) → stageRefusal s wait t ≡ none → (8192 ≤ length wait) × (tableOk t ≡ true)
+unfolding stageRefusal
+stage-passed s wait t e =
+    let p = passes (sound s && longStore wait) 1 (tableRefusal t) e in
+    (with-store s wait (p .0) .1, passes (tableOk t) 4 none (p .1) .0)
+
+-- ---- states and copies
+
+pub same-state : (x : State) {r : Run} {n m : ℕ} → x .run ≡ r → x .«in_force» ≡ n → x .waiting ≡ m → x ≡ record { run = r; «in_force» = n; waiting = m }
+same-state x {r} {n} {m} e f g =
+    ap (λ (y : Run). record { run = y; «in_force» = x .«in_force»; waiting = x .waiting }) e
+    ∙ ap₂ (λ (i k : ℕ). record { run = r; «in_force» = i; waiting = k }) f g
+
+-- a copy to the start of a buffer
+pub copied : (buffer t : List ℕ) (n : ℕ) → n ≤ length t → paste buffer 0 (drop 0 t) n ≡ over (take n t) buffer
+copied buffer t n l =
+    let e : 0 + n ≡ length (take n t) = zero-add n ∙ sym (length-take-le n t l) in
+    ap (λ (k : ℕ). take n t ++ drop k buffer) e

@@ -1,0 +1,63 @@
+-- `reader::refusals::gives_block` meets its contract: a scan with nothing behind the held bytes.
+-- Assumes nothing.
+use mathlib.Core.Path.{_≡_, refl, sym, ap, _∙_}
+use Rattle.feed.specs.Hold.{restOf}
+use Rattle.reader.proofs.Laws.{gives, gives-none}
+use borrow.Author.Needs.{needs}
+use Rattle.reader.proofs.refusals.gives_block.Statement.{statement}
+use Rattle.reader.proofs.refusals.gives_block.Tie as tie
+use Rattle.reader.proofs.refusals.gives_block.Reads as reads
+use Rattle.reader.proofs.refusals.gives_block.Lts as lts
+use Rattle.frame.proofs.scan.Reads as scan-reads
+
+-- src/refusals.rt:60:29
+sub-scan : tie.Need-sub-scan
+sub-scan c = search needs
+
+-- src/refusals.rt:60:29
+part-scan-start : tie.Need-part-scan-start
+part-scan-start c = search needs
+
+-- src/refusals.rt:60:29
+part-scan-end : tie.Need-part-scan-end
+part-scan-end c = search needs
+
+-- src/refusals.rt:60:52
+slice-aggregate-scan : tie.Need-slice-aggregate-scan
+slice-aggregate-scan c = search needs
+
+-- src/refusals.rt:60:9
+scan-requires : tie.Need-scan-requires
+scan-requires c κs = search needs
+
+-- src/refusals.rt:62:34
+enum-told : tie.Need-enum-told
+enum-told c = search needs
+
+-- src/refusals.rt:63:27
+enum-told-2 : tie.Need-enum-told-2
+enum-told-2 c = search needs
+
+-- src/refusals.rt:56:1
+returns : tie.Need-returns
+unfolding restOf
+returns c = let s = c .before .before in sym (gives _ (s .scan .ensures) (c .enum-told .given .1))
+
+-- src/refusals.rt:56:1
+returns-2 : tie.Need-returns-2
+unfolding restOf
+returns-2 c = let s = c .before .before in sym (gives-none _ (s .scan .ensures) (c .enum-told2 .given .1))
+
+pub gives-block-spec : {M : Type 1} → statement M
+gives-block-spec =
+    tie.close
+    (tie.spec
+    sub-scan
+    part-scan-start
+    part-scan-end
+    slice-aggregate-scan
+    scan-requires
+    enum-told
+    enum-told-2
+    returns
+    returns-2)

@@ -1,0 +1,16 @@
+-- `reader::refusals::is_sound` meets its contract: the same tests.
+-- Assumes nothing.
+use mathlib.Core.Path.{_≡_, refl, sym, ap, _∙_}
+use Rattle.reader.specs.State.{sound}
+use Rattle.reader.proofs.refusals.is_sound.Statement.{statement}
+use Rattle.reader.proofs.refusals.is_sound.Tie as tie
+use Rattle.reader.proofs.refusals.is_sound.Reads as reads
+use Rattle.reader.proofs.refusals.is_sound.Lts as lts
+
+-- src/refusals.rt:21:1
+returns : tie.Need-returns
+unfolding sound
+returns c = refl
+
+pub is-sound-spec : {M : Type 1} → statement M
+is-sound-spec = tie.close (tie.spec returns)

@@ -1,0 +1,141 @@
+-- `reader::runs::open` meets its contract: refused, or the table copied and the run begun.
+-- Assumes nothing.
+use mathlib.Core.Path.{_≡_, refl, sym, ap, ap₂, _∙_}
+use mathlib.Core.Bool.{Bool, cond}
+use mathlib.Core.List.{List}
+use mathlib.Core.Option.{Option, none}
+use Prim.Native.Nat.{ℕ, _≤_}
+use native.Mathlib.Omega.{arith}
+use lib.ListN.{length, take}
+use borrow.Author.Tests.{lt-ltb, le-ltb}
+use Rattle.record.specs.Refusal.{refusalNumber}
+use Rattle.reader.specs.Said.{saidOpened}
+use Rattle.reader.specs.Refusals.{openRefusal}
+use Rattle.reader.specs.Calls.{Outcome, over, openRun, opening, openOf}
+use Rattle.reader.specs.declared.Opened.the-variants.{Version}
+use Rattle.reader.proofs.Accepted.{refused-by, accepted-by, is-done, OpenPassed, open-passed, same-state, copied}
+use Rattle.reader.proofs.Feeding.{same-outcome}
+use borrow.Author.Needs.{needs}
+use Rattle.reader.proofs.runs.open.Statement.{statement}
+use Rattle.reader.proofs.runs.open.Tie as tie
+use Rattle.reader.proofs.runs.open.Reads as reads
+use Rattle.reader.proofs.runs.open.Lts as lts
+use Rattle.feed.proofs.copy_in.Reads as copy-in-reads
+use Rattle.reader.proofs.refusals.open_answer.Reads as open-answer-reads
+use Rattle.reader.proofs.runs.open_state.Reads as open-state-reads
+
+-- src/runs.rt:44:9
+open-answer-requires : tie.Need-open-answer-requires
+open-answer-requires c κs = search needs
+
+-- src/runs.rt:46:25
+enum-known-a : tie.Need-enum-known-a
+enum-known-a c = search needs
+
+-- src/runs.rt:50:25
+enum-known-a-2 : tie.Need-enum-known-a-2
+enum-known-a-2 c = search needs
+
+abbrev entry : tie.After-open-answer → tie.Start
+entry m = m .before .before .before .before
+
+free : (m : tie.After-open-answer) {v : ℕ} → m .open-answer .result ≡ Version v → openRefusal (entry m .args .s) (entry m .args .in-force .now) (entry m .args .waiting .now) ≡ none
+unfolding openOf
+free m e =
+    let a = entry m .args in
+    accepted-by (a .s) (a .in-force .now) (opening (a .s) (a .in-force .now) (a .waiting .now)) (openRefusal (a .s) (a .in-force .now) (a .waiting .now))
+    (sym (m .open-answer .ensures) ∙ ap saidOpened e)
+
+passed : (m : tie.After-open-answer) {v : ℕ} → m .open-answer .result ≡ Version v → OpenPassed (entry m .args .s) (entry m .args .in-force .now) (entry m .args .waiting .now)
+passed m e = open-passed (entry m .args .s) (entry m .args .in-force .now) (entry m .args .waiting .now) (free m e)
+
+done : (m : tie.After-open-answer) {v : ℕ} → m .open-answer .result ≡ Version v
+    → openOf (entry m .args .s) (entry m .args .in-force .now) (entry m .args .waiting .now) ≡ opening (entry m .args .s) (entry m .args .in-force .now) (entry m .args .waiting .now)
+unfolding openOf
+done m e =
+    let a = entry m .args in
+    sym (is-done (a .s) (a .in-force .now) (opening (a .s) (a .in-force .now) (a .waiting .now)) (openRefusal (a .s) (a .in-force .now) (a .waiting .now)) (free m e))
+
+-- src/runs.rt:54:17
+copy-in-requires : tie.Need-copy-in-requires
+copy-in-requires c κs =
+    let m = c .before .before .before .before .before in
+    let p = passed m (c .before .before .before .a2 .given .1) in
+    (omega (arith, p .facts .waiting, p .long-force), omega (arith, p .facts .waiting, p .long-wait))
+
+-- src/runs.rt:57:28
+open-state-requires : tie.Need-open-state-requires
+open-state-requires c κs = search needs
+
+-- src/runs.rt:55:17
+same-length : tie.Need-same-length
+same-length c = search needs
+
+-- src/runs.rt:55:17
+returns : tie.Need-returns
+returns c =
+    let m = c .before .before .before .before .before .before .before .before .before in
+    let a = entry m .args in
+    let v = c .before .before .before .before .before .before .before .a2 .given in
+    let p = passed m (v .1) in
+    let l = lt-ltb 0 (a .s .waiting) (c .before .before .before .before .before .if1 .taken) in
+    let q = c .open-state .ensures in
+    same-outcome (sym (ap saidOpened (v .1)) ∙ m .open-answer .ensures ∙ ap (λ (x : Outcome). x .said) (done m (v .1)))
+    (same-state (c .open-state .result) (q .0) (q .1) (q .2)
+    ∙ sym (ap (λ (b : Bool). record { run = openRun; «in_force» = cond b (a .s .waiting) (a .s .«in_force»); waiting = 0 }) l))
+    (c .before .before .before .copy-in .ensures ∙ copied (a .in-force .now) (a .waiting .now) (a .s .waiting) (omega (arith, p .facts .waiting, p .long-wait))
+    ∙ sym (ap (λ (b : Bool). cond b (over (take (a .s .waiting) (a .waiting .now)) (a .in-force .now)) (a .in-force .now)) l))
+    ∙ sym (done m (v .1))
+
+-- src/runs.rt:62:24
+open-state-requires-2 : tie.Need-open-state-requires-2
+open-state-requires-2 c κs = search needs
+
+-- src/runs.rt:41:1
+same-length-2 : tie.Need-same-length-2
+same-length-2 c = search needs
+
+-- src/runs.rt:41:1
+returns-2 : tie.Need-returns-2
+unfolding openOf
+returns-2 c =
+    let m = c .before .before .before in
+    let a = entry m .args in
+    sym
+    (refused-by (a .s) (a .in-force .now) (opening (a .s) (a .in-force .now) (a .waiting .now)) (openRefusal (a .s) (a .in-force .now) (a .waiting .now)) (refusalNumber (c .before .a .given .0 .0)) refl
+    (sym (m .open-answer .ensures) ∙ ap saidOpened (c .before .a .given .1)))
+
+-- src/runs.rt:41:1
+same-length-3 : tie.Need-same-length-3
+same-length-3 c = search needs
+
+-- src/runs.rt:41:1
+returns-3 : tie.Need-returns-3
+returns-3 c =
+    let m = c .before .before .before .before .before in
+    let a = entry m .args in
+    let v = c .before .before .before .a2 .given in
+    let l = le-ltb 0 (a .s .waiting) (c .before .if1 .left) in
+    let q = c .open-state2 .ensures in
+    same-outcome (sym (ap saidOpened (v .1)) ∙ m .open-answer .ensures ∙ ap (λ (x : Outcome). x .said) (done m (v .1)))
+    (same-state (c .open-state2 .result) (q .0) (q .1) (q .2)
+    ∙ sym (ap (λ (b : Bool). record { run = openRun; «in_force» = cond b (a .s .waiting) (a .s .«in_force»); waiting = 0 }) l))
+    (sym (ap (λ (b : Bool). cond b (over (take (a .s .waiting) (a .waiting .now)) (a .in-force .now)) (a .in-force .now)) l))
+    ∙ sym (done m (v .1))
+
+pub open-spec : {M : Type 1} → statement M
+open-spec =
+    tie.close
+    (tie.spec
+    open-answer-requires
+    enum-known-a
+    enum-known-a-2
+    copy-in-requires
+    open-state-requires
+    same-length
+    returns
+    open-state-requires-2
+    same-length-2
+    returns-2
+    same-length-3
+    returns-3)

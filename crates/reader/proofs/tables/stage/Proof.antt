@@ -1,0 +1,107 @@
+-- `reader::tables::stage` meets its contract: refused, or the table copied to the waiting place.
+-- Assumes nothing.
+use mathlib.Core.Path.{_≡_, refl, sym, ap, ap₂, _∙_}
+use mathlib.Core.List.{List}
+use mathlib.Core.Option.{Option, none}
+use Prim.Native.Nat.{ℕ, _≤_}
+use native.Mathlib.Omega.{arith}
+use lib.ListN.{length}
+use lib.Seq.{take-length}
+use Rattle.record.specs.Refusal.{refusalNumber}
+use Rattle.table.proofs.Passed as table
+use Rattle.reader.specs.Said.{saidStaged}
+use Rattle.reader.specs.Refusals.{stageRefusal}
+use Rattle.reader.specs.Calls.{Outcome, over, staging, stageOf}
+use Rattle.reader.specs.declared.Staged.the-variants.{Version}
+use Rattle.reader.proofs.Accepted.{refused-by, accepted-by, is-done, stage-passed, copied}
+use Rattle.reader.proofs.Feeding.{same-outcome}
+use borrow.Author.Needs.{needs}
+use Rattle.reader.proofs.tables.stage.Statement.{statement}
+use Rattle.reader.proofs.tables.stage.Tie as tie
+use Rattle.reader.proofs.tables.stage.Reads as reads
+use Rattle.reader.proofs.tables.stage.Lts as lts
+use Rattle.feed.proofs.copy_in.Reads as copy-in-reads
+use Rattle.reader.proofs.refusals.stage_answer.Reads as stage-answer-reads
+
+-- src/tables.rt:17:9
+stage-answer-requires : tie.Need-stage-answer-requires
+stage-answer-requires c κs = search needs
+
+-- src/tables.rt:19:25
+enum-known-a : tie.Need-enum-known-a
+enum-known-a c = search needs
+
+-- src/tables.rt:23:25
+enum-known-a-2 : tie.Need-enum-known-a-2
+enum-known-a-2 c = search needs
+
+abbrev entry : tie.After-stage-answer → tie.Start
+entry m = m .before .before .before .before
+
+free : (m : tie.After-stage-answer) {v : ℕ} → m .stage-answer .result ≡ Version v → stageRefusal (entry m .args .s) (entry m .args .waiting .now) (entry m .args .t .now) ≡ none
+unfolding stageOf
+free m e =
+    let a = entry m .args in
+    accepted-by (a .s) (a .waiting .now) (staging (a .s) (a .waiting .now) (a .t .now)) (stageRefusal (a .s) (a .waiting .now) (a .t .now))
+    (sym (m .stage-answer .ensures) ∙ ap saidStaged e)
+
+passed : (m : tie.After-stage-answer) {v : ℕ} → m .stage-answer .result ≡ Version v → (8192 ≤ length (entry m .args .waiting .now)) × (length (entry m .args .t .now) ≤ 8192)
+passed m e =
+    let p = stage-passed (entry m .args .s) (entry m .args .waiting .now) (entry m .args .t .now) (free m e) in
+    (p .0, table.passed (entry m .args .t .now) (p .1) .file .most)
+
+done : (m : tie.After-stage-answer) {v : ℕ} → m .stage-answer .result ≡ Version v
+    → stageOf (entry m .args .s) (entry m .args .waiting .now) (entry m .args .t .now) ≡ staging (entry m .args .s) (entry m .args .waiting .now) (entry m .args .t .now)
+unfolding stageOf
+done m e =
+    let a = entry m .args in
+    sym (is-done (a .s) (a .waiting .now) (staging (a .s) (a .waiting .now) (a .t .now)) (stageRefusal (a .s) (a .waiting .now) (a .t .now)) (free m e))
+
+-- src/tables.rt:25:13
+copy-in-requires : tie.Need-copy-in-requires
+copy-in-requires c κs =
+    let p = passed (c .before .before .before .before) (c .before .before .a2 .given .1) in
+    (omega (arith, p .0, p .1), omega arith)
+
+-- src/tables.rt:14:1
+same-length : tie.Need-same-length
+same-length c = search needs
+
+-- src/tables.rt:14:1
+returns : tie.Need-returns
+unfolding stageOf
+returns c =
+    let m = c .before .before .before in
+    let a = entry m .args in
+    sym
+    (refused-by (a .s) (a .waiting .now) (staging (a .s) (a .waiting .now) (a .t .now)) (stageRefusal (a .s) (a .waiting .now) (a .t .now)) (refusalNumber (c .before .a .given .0 .0)) refl
+    (sym (m .stage-answer .ensures) ∙ ap saidStaged (c .before .a .given .1)))
+
+-- src/tables.rt:14:1
+same-length-2 : tie.Need-same-length-2
+same-length-2 c = search needs
+
+-- src/tables.rt:14:1
+returns-2 : tie.Need-returns-2
+returns-2 c =
+    let m = c .before .before .before .before .before .before .before .before in
+    let a = entry m .args in
+    let v = c .before .before .before .before .before .before .a2 .given in
+    same-outcome (sym (ap saidStaged (v .1)) ∙ m .stage-answer .ensures ∙ ap (λ (x : Outcome). x .said) (done m (v .1)))
+    refl
+    (c .before .before .before .copy-in .ensures ∙ copied (a .waiting .now) (a .t .now) (length (a .t .now)) (omega arith)
+    ∙ ap (λ (x : List ℕ). over x (a .waiting .now)) (take-length (a .t .now)))
+    ∙ sym (done m (v .1))
+
+pub stage-spec : {M : Type 1} → statement M
+stage-spec =
+    tie.close
+    (tie.spec
+    stage-answer-requires
+    enum-known-a
+    enum-known-a-2
+    copy-in-requires
+    same-length
+    returns
+    same-length-2
+    returns-2)

@@ -1,0 +1,5 @@
+pub mod State
+pub mod Said
+pub mod Refusals
+pub mod Calls
+pub mod Code

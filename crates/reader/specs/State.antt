@@ -1,0 +1,31 @@
+-- The state: a new reader's, and what refusal 1 asks of any (document 01, 'Calls and their answers').
+-- Assumes nothing.
+use Prim.Native.Nat.{ℕ}
+use mathlib.Core.Bool.{Bool, _&&_}
+use lib.Dec.{leb}
+use Rattle.reader.specs.declared.Phase.the-variants.{Closed}
+use Rattle.reader.specs.declared.Run.{Run}
+use Rattle.reader.specs.declared.State.{State}
+
+-- "the run has 4,294,967,295 bytes"
+abbrev pub limit : ℕ
+limit = 4294967295
+
+abbrev pub noRun : Run
+noRun = record { phase = Closed; held = 0; standing = 0; taken = 0; blocks = 0; skipped = 0 }
+
+abbrev pub newState : State
+newState = record { run = noRun; «in_force» = 0; waiting = 0 }
+
+-- 1: "the state has over 65,532 held bytes, more held than taken, a standing block longer than the held bytes, a table length over
+-- 8,192, over 4,294,967,295 taken, or blocks or skipped above taken": none of it
+unfoldable pub sound : State → Bool
+sound s =
+    leb (s .run .held) 65532
+    && leb (s .run .held) (s .run .taken)
+    && leb (s .run .standing) (s .run .held)
+    && leb (s .«in_force») 8192
+    && leb (s .waiting) 8192
+    && leb (s .run .taken) limit
+    && leb (s .run .blocks) (s .run .taken)
+    && leb (s .run .skipped) (s .run .taken)

@@ -1,0 +1,120 @@
+// The reader: its state, and the calls that open, feed and finish a run and that stage and withdraw a table.
+ghost use mathlib.Core.Path.{_≡_};
+ghost use Rattle.reader.specs.State.{newState};
+
+mod refusals; // refusals.rt: the refusals of each call, in their order
+pub mod runs; // runs.rt: Open, Feed, Finish, Bytes
+pub mod tables; // tables.rt: Stage, Withdraw
+
+use record::Refusal;
+
+pub enum Phase {
+    Closed,
+    Feeding,
+    Finishing,
+}
+
+// What an open run reads by, with the table in force: how many bytes of the hold count, the standing block among them; the
+// counts of the run.
+pub struct Run {
+    pub phase: Phase,
+    pub held: usize,
+    pub standing: usize,
+    pub taken: usize,
+    pub blocks: usize,
+    pub skipped: usize,
+}
+
+// A length of 0 means that no table is in force, or that none waits.
+pub struct State {
+    pub run: Run,
+    pub in_force: usize,
+    pub waiting: usize,
+}
+
+// What is reported of a block.
+pub struct Block {
+    pub place: usize,
+    pub number: u16,
+    pub revision: u16,
+    pub length: usize,
+}
+
+// Whether a call is refused.
+pub enum Check {
+    Passed,
+    Refused(Refusal),
+}
+
+pub enum Opened {
+    Version(u16),
+    Refused(Refusal),
+}
+
+// How many bytes were taken, with a block or with none.
+pub enum Fed {
+    Block(usize, Block),
+    More(usize),
+    Refused(Refusal),
+}
+
+// A block, or the run's end: bytes, blocks, skipped bytes.
+pub enum Finished {
+    Block(Block),
+    End(usize, usize, usize),
+    Refused(Refusal),
+}
+
+pub enum Staged {
+    Version(u16),
+    Refused(Refusal),
+}
+
+// Whether a table waited.
+pub enum Withdrawn {
+    Waited(bool),
+    Refused(Refusal),
+}
+
+pub struct OpenAnswer {
+    pub answer: Opened,
+    pub state: State,
+}
+
+pub struct FeedAnswer {
+    pub answer: Fed,
+    pub state: State,
+}
+
+pub struct FinishAnswer {
+    pub answer: Finished,
+    pub state: State,
+}
+
+pub struct StageAnswer {
+    pub answer: Staged,
+    pub state: State,
+}
+
+pub struct WithdrawAnswer {
+    pub answer: Withdrawn,
+    pub state: State,
+}
+
+// A new reader.
+pub fn new() -> State
+    ensures { λ r. ⌜ r ≡ newState ⌝ }
+{
+    State {
+        run: Run {
+            phase: Phase::Closed,
+            held: 0,
+            standing: 0,
+            taken: 0,
+            blocks: 0,
+            skipped: 0,
+        },
+        in_force: 0,
+        waiting: 0,
+    }
+}

@@ -1,0 +1,210 @@
+// A run: Open, Feed, Finish, and the bytes of the block just reported.
+ghost use mathlib.Core.Path.{_≡_};
+ghost use mathlib.Core.Option.{none};
+ghost use Prim.Native.Nat.{_+_, _≤_};
+ghost use lib.ListN.{length};
+ghost use Rattle.reader.specs.Said.{reportOf, refusalOf, saidOpened, saidFed, saidFinished};
+ghost use Rattle.reader.specs.Refusals.{feedRefusal, finishRefusal, bytesRefusal};
+ghost use Rattle.reader.specs.Calls.{outcome, openRun, withRun, openOf, feedingOf, feedingBy, feedOf, finishingOf, finishingBy, finishOf, bytesOf};
+ghost use Rattle.reader.specs.Code.{oneIf, runBy, reportAt};
+use crate::Block;
+use crate::Check;
+use crate::Fed;
+use crate::FeedAnswer;
+use crate::FinishAnswer;
+use crate::Finished;
+use crate::OpenAnswer;
+use crate::Opened;
+use crate::Phase;
+use crate::Run;
+use crate::State;
+use crate::refusals;
+
+// A run that has just opened, with a table of n bytes in force and none waiting.
+fn open_state(n: usize) -> State
+    ensures { λ r. ⌜ (r .run ≡ openRun) × (r .«in_force» ≡ n) × (r .waiting ≡ 0) ⌝ }
+{
+    State {
+        run: Run {
+            phase: Phase::Feeding,
+            held: 0,
+            standing: 0,
+            taken: 0,
+            blocks: 0,
+            skipped: 0,
+        },
+        in_force: n,
+        waiting: 0,
+    }
+}
+
+pub fn open(s: State, in_force: &mut [u8], waiting: &[u8]) -> OpenAnswer
+    ensures { λ r. ⌜ outcome (saidOpened (r .answer)) (r .state) (now («in_force» .exit)) ≡ openOf s (now («in_force» .entry)) (now (waiting .entry)) ⌝ }
+{
+    let a = refusals::open_answer(s, in_force, waiting);
+    match a {
+        Opened::Refused(why) => OpenAnswer {
+            answer: Opened::Refused(why),
+            state: s,
+        },
+        Opened::Version(v) => {
+            let w = s.waiting;
+            let n = s.in_force;
+            if 0 < w {
+                feed::copy_in(in_force, 0, waiting, 0, w);
+                return OpenAnswer {
+                    answer: Opened::Version(v),
+                    state: open_state(w),
+                };
+            }
+            OpenAnswer {
+                answer: Opened::Version(v),
+                state: open_state(n),
+            }
+        }
+    }
+}
+
+// 1 where a block stands.
+fn one_if(standing: usize) -> usize
+    ensures { λ r. ⌜ (r ≡ oneIf standing) × (r ≤ 1) ⌝ }
+{
+    if standing == 0 { 0 } else { 1 }
+}
+
+// The run after a call that took, skipped and kept what `f` says.
+fn went_on(r: Run, phase: Phase, f: feed::Fed) -> Run
+    requires { ⌜ (r .taken + f .taken ≤ 4294967295) × (r .blocks ≤ 4294967295) × (r .skipped + f .skipped ≤ 18446744073709551615) ⌝ }
+    ensures { λ x. ⌜ x ≡ runBy phase r f ⌝ }
+{
+    let standing = f.standing;
+    let more = one_if(standing);
+    Run {
+        phase,
+        held: f.held,
+        standing,
+        taken: r.taken + f.taken,
+        blocks: r.blocks + more,
+        skipped: r.skipped + f.skipped,
+    }
+}
+
+fn with_run(s: State, r: Run) -> State
+    ensures { λ x. ⌜ x ≡ withRun s r ⌝ }
+{
+    State {
+        run: r,
+        in_force: s.in_force,
+        waiting: s.waiting,
+    }
+}
+
+// The block of n bytes that stands at the front of the hold, at the place p.
+fn block_at(hold: &[u8], p: usize, n: usize) -> Block
+    requires { ⌜ 6 ≤ length (now hold) ⌝ }
+    ensures { λ r. ⌜ reportOf r ≡ reportAt (now (hold .entry)) p n ⌝ }
+{
+    let id = wire::u2(hold, 4);
+    Block {
+        place: p,
+        number: wire::number(id),
+        revision: wire::revision(id),
+        length: n,
+    }
+}
+
+fn feed_on(s: State, hold: &mut [u8], piece: &[u8]) -> FeedAnswer
+    requires { ⌜ feedRefusal s (now hold) (now piece) ≡ none ⌝ }
+    ensures { λ r. ⌜ outcome (saidFed (r .answer)) (r .state) (now (hold .exit)) ≡ feedingBy (feedingOf s (now (hold .entry)) (now (piece .entry))) s (now (hold .entry)) ⌝ }
+{
+    let run = s.run;
+    let held = run.held;
+    let standing = run.standing;
+    let room = 4294967295 - run.taken;
+    let f = feed::feed(hold, held, standing, piece, room);
+    let taken = f.taken;
+    let len = f.standing;
+    let next = went_on(run, Phase::Feeding, f);
+    let state = with_run(s, next);
+    if len == 0 {
+        return FeedAnswer {
+            answer: Fed::More(taken),
+            state,
+        };
+    }
+    let block = block_at(hold, next.taken - next.held, len);
+    FeedAnswer {
+        answer: Fed::Block(taken, block),
+        state,
+    }
+}
+
+pub fn feed(s: State, hold: &mut [u8], piece: &[u8]) -> FeedAnswer
+    ensures { λ r. ⌜ outcome (saidFed (r .answer)) (r .state) (now (hold .exit)) ≡ feedOf s (now (hold .entry)) (now (piece .entry)) ⌝ }
+{
+    let c = refusals::of_feed(s, hold, piece);
+    match c {
+        Check::Refused(why) => FeedAnswer {
+            answer: Fed::Refused(why),
+            state: s,
+        },
+        Check::Passed => feed_on(s, hold, piece),
+    }
+}
+
+fn finish_on(s: State, hold: &mut [u8]) -> FinishAnswer
+    requires { ⌜ finishRefusal s (now hold) ≡ none ⌝ }
+    ensures { λ r. ⌜ outcome (saidFinished (r .answer)) (r .state) (now (hold .exit)) ≡ finishingBy (finishingOf s (now (hold .entry))) s (now (hold .entry)) ⌝ }
+{
+    let run = s.run;
+    let held = run.held;
+    let standing = run.standing;
+    let f = feed::finish(hold, held, standing);
+    let len = f.standing;
+    if len == 0 {
+        let last = went_on(run, Phase::Closed, f);
+        return FinishAnswer {
+            answer: Finished::End(last.taken, last.blocks, last.skipped),
+            state: with_run(s, last),
+        };
+    }
+    let next = went_on(run, Phase::Finishing, f);
+    let block = block_at(hold, next.taken - next.held, len);
+    FinishAnswer {
+        answer: Finished::Block(block),
+        state: with_run(s, next),
+    }
+}
+
+pub fn finish(s: State, hold: &mut [u8]) -> FinishAnswer
+    ensures { λ r. ⌜ outcome (saidFinished (r .answer)) (r .state) (now (hold .exit)) ≡ finishOf s (now (hold .entry)) ⌝ }
+{
+    let c = refusals::of_finish(s, hold);
+    match c {
+        Check::Refused(why) => FinishAnswer {
+            answer: Finished::Refused(why),
+            state: s,
+        },
+        Check::Passed => finish_on(s, hold),
+    }
+}
+
+// The block just reported, as a part of the hold; an empty part where none stands or the call is refused.
+pub fn bytes(s: State, hold: &[u8]) -> &[u8]
+    ensures { λ r. ⌜ now r ≡ bytesOf s (now (hold .entry)) ⌝ }
+{
+    let c = refusals::of_bytes(s, hold);
+    let run = s.run;
+    let n = run.standing;
+    match c {
+        Check::Refused(_) => &hold[..0],
+        Check::Passed => &hold[..n],
+    }
+}
+
+// Whether `bytes` is refused, and why.
+pub fn bytes_refused(s: State, hold: &[u8]) -> Check
+    ensures { λ r. ⌜ refusalOf r ≡ bytesRefusal s (now (hold .entry)) ⌝ }
+{
+    refusals::of_bytes(s, hold)
+}

@@ -1,0 +1,127 @@
+-- The one pass over the rows is the rules: `blockPass` is `blockOk`, and `rowPass` is `rowsOk` with `blockOk` of every block.
+-- Assumes nothing.
+use mathlib.Core.Bool.{Bool, true, false, _&&_, and-assoc, and-true}
+use mathlib.Core.List.{List, [], _∷_, map}
+use mathlib.Core.Path.{_≡_, refl, sym, ap, _∙_}
+use Prim.Native.Nat.{ℕ, _+_, _≤_}
+use native.Mathlib.Nat.{zero-add, add-zero}
+use native.Mathlib.Numerals.{add-one}
+use native.Mathlib.Omega.{arith}
+use lib.Dec.{leb, eqb, leb·zero}
+use borrow.Author.Tests.{leb-true, eqb-true, le-leb}
+use Rattle.table.specs.declared.FieldRow.{FieldRow}
+use Rattle.table.specs.declared.Row.{Row}
+use Rattle.table.specs.Lists.{every, chain, neighbours}
+use Rattle.table.specs.Rows.{BlockRow, ends}
+use Rattle.table.specs.Decode.{blockOf}
+use Rattle.table.specs.Rules.{rowOk, below, risingOk, counts, indexOk, rowsOk, offsetOk, apart, steady, firstOk, typeOk, markOk, fieldsOk, blockOk}
+use Rattle.table.specs.Pass.{fieldStep, fieldPass, blockPass, rowStep, rowPass}
+use Rattle.table.proofs.Bools.{both, join, implied, zip5}
+use Rattle.table.proofs.Lists.{starts, chain-starts, neighbours-starts, starts-ext, every-map}
+
+-- Field rows.
+
+abbrev from : ℕ → FieldRow → Bool
+from low f = leb low (f .offset)
+
+abbrev since : ℕ → FieldRow → Bool
+since rev f = leb rev (f .first)
+
+field-fused : (low rev top : ℕ) (fs : List FieldRow)
+    → fieldPass low rev top fs ≡ (starts (from low) apart fs && starts (since rev) steady fs && every (firstOk top) fs && every typeOk fs && every markOk fs)
+unfolding fieldPass fieldStep starts every
+field-fused low rev top [] = refl
+field-fused low rev top (f ∷ fs) =
+    rw (field-fused (ends f) (f .first) top fs, ← chain-starts apart f fs, ← chain-starts steady f fs)
+    (zip5 (from low f) (chain apart f fs) (since rev f) (chain steady f fs) (firstOk top f) (every (firstOk top) fs) (typeOk f) (every typeOk fs)
+    (markOk f) (every markOk fs))
+
+-- fields that keep apart from one that ends past `low` all start past it
+above : (low : ℕ) (f : FieldRow) (fs : List FieldRow) → low ≤ ends f → chain apart f fs ≡ true → every (from low) fs ≡ true
+unfolding chain every
+above low f [] h e = refl
+above low f (g ∷ gs) h e =
+    let a = both (apart f g) _ e in
+    let n : ends f ≤ g .offset = leb-true _ _ (a .0) in
+    let m : low ≤ g .offset = omega arith in
+    join (le-leb low (g .offset) m) (above low g gs (omega arith) (a .1))
+
+-- so it is enough that the first one does
+all-from : (low : ℕ) (fs : List FieldRow) → (every (from low) fs && neighbours apart fs) ≡ starts (from low) apart fs
+unfolding every neighbours starts
+all-from low [] = refl
+all-from low (f ∷ fs) =
+    and-assoc (from low f) (every (from low) fs) (chain apart f fs) ∙ tail (from low f) refl where
+      tail : (b : Bool) → from low f ≡ b → (b && (every (from low) fs && chain apart f fs)) ≡ (b && chain apart f fs)
+      tail false e = refl
+      tail true e =
+          let m : low ≤ f .offset = leb-true _ _ e in
+          let l : low ≤ ends f = omega arith in
+          implied (every (from low) fs) (chain apart f fs) (above low f fs l)
+
+module _ (top : ℕ) (fs : List FieldRow) where
+  regroup : (a b c d e : Bool) → (a && b && c && d && e) ≡ (a && (b && c && d && e))
+  regroup true b c d e = refl
+  regroup false b c d e = refl
+
+  steady-zero : neighbours steady fs ≡ starts (since 0) steady fs
+  steady-zero = neighbours-starts steady (since 0) (λ f. leb·zero (f .first)) fs
+
+  pub subs-are : fieldsOk top fs ≡ fieldPass 0 0 top fs
+  unfolding fieldsOk
+  subs-are = sym (field-fused 0 0 top fs ∙ sym (rw (neighbours-starts apart (from 0) (λ f. leb·zero (f .offset)) fs, steady-zero)))
+
+  pub body-is : (every offsetOk fs && fieldsOk top fs) ≡ fieldPass 14 0 top fs
+  unfolding fieldsOk
+  body-is =
+      let a = neighbours apart fs in
+      let b = neighbours steady fs in
+      let c = every (firstOk top) fs in
+      let d = every typeOk fs in
+      let e = every markOk fs in
+      ap (λ (x : Bool). every offsetOk fs && x) (regroup a b c d e) ∙ sym (and-assoc (every offsetOk fs) a (b && c && d && e))
+      ∙ ap (λ (x : Bool). x && (b && c && d && e)) (all-from 14 fs) ∙ sym (regroup (starts (from 14) apart fs) b c d e)
+      ∙ rw steady-zero (sym (field-fused 14 0 top fs))
+
+pub block-is : (b : BlockRow) → blockOk b ≡ blockPass b
+unfolding blockOk blockPass
+block-is b = rw (body-is (b .highest) (b .body), subs-are (b .highest) (b .subs))
+
+-- Block rows.
+
+abbrev atLeast : ℕ → Row → Bool
+atLeast least r = leb least (r .number)
+
+rising-next : (r : Row) (rs : List Row) → starts (atLeast (r .number + 1)) below rs ≡ chain below r rs
+rising-next r rs = starts-ext below (atLeast (r .number + 1)) (below r) (λ s. rw add-one) rs ∙ sym (chain-starts below r rs)
+
+module _ (t : List ℕ) where
+  abbrev passes : Row → Bool
+  passes r = blockPass (blockOf t r)
+
+  row-fused : (least used fields : ℕ) (rs : List Row)
+      → rowPass t least used fields rs ≡ (every rowOk rs && starts (atLeast least) below rs && indexOk used rs && eqb (used + counts rs) fields && every passes rs)
+  unfolding rowPass rowStep starts every indexOk counts
+  row-fused least used fields [] = rw (add-zero used, and-true (eqb used fields))
+  row-fused least used fields (r ∷ rs) =
+      let more = r .bodies + r .subs in
+      let n : used + (more + counts rs) ≡ used + more + counts rs = omega arith in
+      let fit : (eqb (used + more + counts rs) fields ≡ true → leb (used + more) fields ≡ true) =
+      λ e. let q = eqb-true (used + more + counts rs) fields e in le-leb (used + more) fields (omega arith) in
+      rw (row-fused (r .number + 1) (used + more) fields rs, rising-next r rs, n)
+      (zip5 (rowOk r) (every rowOk rs) (atLeast least r) (chain below r rs) (eqb (r .start) used) (indexOk (used + more) rs)
+      (leb (used + more) fields) (eqb (used + more + counts rs) fields) (passes r) (every passes rs)
+      ∙ rw (implied (leb (used + more) fields) (eqb (used + more + counts rs) fields) fit))
+
+  every-ext : (p q : Row → Bool) → ((r : Row) → p r ≡ q r) → (rs : List Row) → every p rs ≡ every q rs
+  unfolding every
+  every-ext p q h [] = refl
+  every-ext p q h (r ∷ rs) = rw (h r, every-ext p q h rs)
+
+  pub rows-are : (fields : ℕ) (rs : List Row) → (rowsOk fields rs && every blockOk (map (blockOf t) rs)) ≡ rowPass t 0 0 fields rs
+  unfolding rowsOk risingOk
+  rows-are fields rs =
+      sym (row-fused 0 0 fields rs
+      ∙ rw (zero-add (counts rs), ← neighbours-starts below (atLeast 0) (λ r. leb·zero (r .number)) rs)
+      (ap (λ (x : Bool). every rowOk rs && neighbours below rs && indexOk 0 rs && eqb (counts rs) fields && x)
+      (sym (every-map (blockOf t) blockOk rs ∙ every-ext (λ (r : Row). blockOk (blockOf t r)) passes (λ r. block-is (blockOf t r)) rs))))

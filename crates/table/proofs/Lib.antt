@@ -1,0 +1,10 @@
+pub mod Bools
+pub mod Lists
+pub mod Types
+pub mod Fused
+pub mod Passed
+pub mod Loops
+pub mod Laws
+pub mod Rows
+pub mod Parts
+pub mod Bytes

@@ -1,0 +1,31 @@
+-- The rules on rows once more, as one pass takes them: the code's form. `proofs/Fused` shows that it is the rules; no public contract cites it.
+-- Assumes nothing.
+use mathlib.Core.Bool.{Bool, true, _&&_}
+use mathlib.Core.List.{List, [], _∷_}
+use Prim.Native.Nat.{ℕ, _+_}
+use lib.Dec.{leb, eqb}
+use Rattle.table.specs.declared.FieldRow.{FieldRow}
+use Rattle.table.specs.declared.Row.{Row}
+use Rattle.table.specs.Rows.{BlockRow, ends}
+use Rattle.table.specs.Decode.{blockOf}
+use Rattle.table.specs.Rules.{rowOk, firstOk, typeOk, markOk, pairOk}
+
+-- a field row, where the one before ends at `low` and has the first revision `rev`
+unfoldable pub fieldStep : ℕ → ℕ → ℕ → FieldRow → Bool
+fieldStep low rev highest f = leb low (f .offset) && leb rev (f .first) && firstOk highest f && typeOk f && markOk f
+
+unfoldable pub fieldPass : ℕ → ℕ → ℕ → List FieldRow → Bool
+fieldPass low rev highest [] = true
+fieldPass low rev highest (f ∷ fs) = fieldStep low rev highest f && fieldPass (ends f) (f .first) highest fs
+
+unfoldable pub blockPass : BlockRow → Bool
+blockPass b = fieldPass 14 0 (b .highest) (b .body) && fieldPass 0 0 (b .highest) (b .subs) && pairOk b
+
+-- a block row, where the least number allowed is `least` and `used` field rows of `fields` are before it
+unfoldable pub rowStep : ℕ → ℕ → ℕ → Row → Bool
+rowStep least used fields r = rowOk r && leb least (r .number) && eqb (r .start) used && leb (used + (r .bodies + r .subs)) fields
+
+unfoldable pub rowPass : List ℕ → ℕ → ℕ → ℕ → List Row → Bool
+rowPass t least used fields [] = eqb used fields
+rowPass t least used fields (r ∷ rs) =
+    rowStep least used fields r && blockPass (blockOf t r) && rowPass t (r .number + 1) (used + (r .bodies + r .subs)) fields rs

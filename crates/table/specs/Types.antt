@@ -1,0 +1,37 @@
+-- The ten types, their sizes, and the marks that each kind of type may bear (document 01, 'The block table').
+-- Assumes nothing.
+use mathlib.Core.Bool.{Bool, true, false, _&&_}
+use mathlib.Core.List.{List, [], _∷_}
+use Prim.Native.Nat.{ℕ, zero, suc}
+use lib.Dec.{leb}
+use lib.ListN.{getD}
+
+-- "Types and sizes: 1 u1 1; 2 u2 2; 3 u4 4; 4 u8 8; 5 i1 1; 6 i2 2; 7 i4 4; 8 i8 8; 9 f4 4; 10 f8 8"
+abbrev pub sizes : List ℕ
+sizes = 1 ∷ 2 ∷ 4 ∷ 8 ∷ 1 ∷ 2 ∷ 4 ∷ 8 ∷ 4 ∷ 8 ∷ []
+
+-- the size of a type; 0 where it is not listed
+unfoldable pub sizeOf : ℕ → ℕ
+sizeOf zero = 0
+sizeOf (suc k) = getD sizes k 0
+
+abbrev pub listed : ℕ → Bool
+listed kind = leb 1 kind && leb kind 10
+
+abbrev pub unsigned : ℕ → Bool
+unsigned kind = leb 1 kind && leb kind 4
+
+abbrev pub signed : ℕ → Bool
+signed kind = leb 5 kind && leb kind 8
+
+abbrev pub float : ℕ → Bool
+float kind = leb 9 kind && leb kind 10
+
+-- "Marks: 0 none; 1 all ones (unsigned); 2 zero (unsigned); 3 minus 2 x 10^10 (float ..); 4 the least value (signed)":
+-- entry m is the kind of type that may bear mark m
+abbrev pub marks : List (ℕ → Bool)
+marks = (λ (kind : ℕ). true) ∷ unsigned ∷ unsigned ∷ float ∷ signed ∷ []
+
+-- whether a type may bear a mark; no type may where the mark is not listed
+unfoldable pub markFits : ℕ → ℕ → Bool
+markFits kind mark = getD marks mark (λ (k : ℕ). false) kind

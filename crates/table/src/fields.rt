@@ -1,0 +1,72 @@
+// The rules on field rows.
+ghost use mathlib.Core.Path.{_≡_};
+ghost use Prim.Native.Nat.{_+_, _≤_, _<_};
+ghost use Rattle.table.specs.Lists.{tabulate};
+ghost use Rattle.table.specs.Types.{markFits};
+ghost use Rattle.table.specs.Decode.{fieldCount, fieldAt};
+ghost use Rattle.table.specs.Rules.{isCount, isPair};
+ghost use Rattle.table.specs.Pass.{fieldStep, fieldPass};
+use crate::FieldRow;
+use crate::read;
+
+// Whether a type may bear a mark.
+fn mark_fits(kind: u8, mark: u8) -> bool
+    ensures { λ r. ⌜ r ≡ markFits kind mark ⌝ }
+{
+    match mark {
+        0 => true,
+        1 => (1 <= kind) & (kind <= 4),
+        2 => (1 <= kind) & (kind <= 4),
+        3 => (9 <= kind) & (kind <= 10),
+        4 => (5 <= kind) & (kind <= 8),
+        _ => false,
+    }
+}
+
+// A field row, where the one before ends at `low` and has the first revision `rev`.
+fn field_ok(f: FieldRow, low: usize, rev: u8, highest: u8) -> bool
+    ensures { λ r. ⌜ r ≡ fieldStep low rev highest f ⌝ }
+{
+    let listed = (1 <= f.kind) & (f.kind <= 10);
+    let marked = mark_fits(f.kind, f.mark);
+    (low <= f.offset) & (rev <= f.first) & (f.first <= highest) & listed & marked
+}
+
+// The rows of a body or of sub-fields: count of them, from index `at`, the first at `least` or past it.
+pub fn fields_ok(t: &[u8], at: usize, count: usize, least: usize, highest: u8) -> bool
+    requires { ⌜ at + count ≤ fieldCount (now t) ⌝ }
+    ensures { λ r. ⌜ r ≡ fieldPass least 0 highest (tabulate (fieldAt (now (t .entry))) at count) ⌝ }
+{
+    let mut i: usize = 0;
+    let mut low = least;
+    let mut rev: u8 = 0;
+    while i < count {
+        let f = read::field_at(t, at + i);
+        if !field_ok(f, low, rev, highest) {
+            return false;
+        }
+        low = f.offset + crate::size(f.kind);
+        rev = f.first;
+        i += 1;
+    }
+    true
+}
+
+fn is_count(f: FieldRow, at: usize) -> bool
+    ensures { λ r. ⌜ r ≡ isCount at f ⌝ }
+{
+    (f.offset == at) & (f.kind == 1) & (f.first == 0) & (f.mark == 0)
+}
+
+// Whether these rows, count of them from index `at`, are N and SBLength.
+pub fn pair_ok(t: &[u8], at: usize, count: usize) -> bool
+    requires { ⌜ at + count ≤ fieldCount (now t) ⌝ }
+    ensures { λ r. ⌜ r ≡ isPair (tabulate (fieldAt (now (t .entry))) at count) ⌝ }
+{
+    if count == 2 {
+        let n = is_count(read::field_at(t, at), 14);
+        let s = is_count(read::field_at(t, at + 1), 15);
+        return n & s;
+    }
+    false
+}

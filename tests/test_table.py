@@ -1,0 +1,207 @@
+#!/usr/bin/env python3
+"""tools/table: text, file and constant of the rows shipped agree, each rule is refused with its place and its name, and
+make and show are inverse. Prints 'N passed, M failed' last; exit status 1 where one failed."""
+import os
+import re
+import subprocess
+import sys
+import tempfile
+
+ROOT = os.path.dirname(os.path.dirname(os.path.abspath(__file__)))
+TOOL = os.path.join(ROOT, "tools", "table")
+TEXT = os.path.join(ROOT, "samples", "shipped-v1.table.txt")
+FILE = os.path.join(ROOT, "samples", "shipped-v1.table")
+CRATE = os.path.join(ROOT, "crates", "shipped")
+
+passed = failed = 0
+
+
+def expect(name, ok, found=""):
+    global passed, failed
+    if ok:
+        passed += 1
+    else:
+        failed += 1
+        print("FAILED: %s%s" % (name, ": " + str(found) if found else ""))
+
+
+def read(path, mode="r"):
+    with open(path, mode, **({} if "b" in mode else {"encoding": "utf-8"})) as f:
+        return f.read()
+
+
+def tool(*args):
+    run = subprocess.run([sys.executable, TOOL, *args], capture_output=True, text=True, cwd=ROOT)
+    return run.returncode, run.stdout, run.stderr
+
+
+def make(text, folder):
+    """What the tool says of a text, and the file that it writes."""
+    given, made = os.path.join(folder, "given.txt"), os.path.join(folder, "made.table")
+    if os.path.exists(made):
+        os.remove(made)
+    with open(given, "w", encoding="utf-8") as f:
+        f.write(text)
+    status, _, err = tool("make", given, made)
+    return status, err, read(made, "rb") if os.path.exists(made) else None
+
+
+def show(data, folder):
+    path = os.path.join(folder, "given.table")
+    with open(path, "wb") as f:
+        f.write(data)
+    return tool("show", path)
+
+
+# A CRC of its own, by long division of the message as one number.
+def crc(data):
+    rest = int.from_bytes(data, "big") << 16
+    for bit in range(rest.bit_length() - 1, 15, -1):
+        if rest >> bit & 1:
+            rest ^= 0x11021 << (bit - 16)
+    return rest
+
+
+def closed(head):
+    return head + crc(head).to_bytes(2, "little") + b"BT"
+
+
+def agreement():
+    data = read(FILE, "rb")
+    expect("the file has 380 bytes", len(data) == 380, len(data))
+    with tempfile.TemporaryDirectory() as folder:
+        made = os.path.join(folder, "made.table")
+        expect("make takes the text", tool("make", TEXT, made)[0] == 0)
+        expect("text and file agree", read(made, "rb") == data)
+        crate = os.path.join(folder, "shipped")
+        os.makedirs(os.path.join(crate, "src"))
+        os.makedirs(os.path.join(crate, "specs"))
+        expect("rattle takes the text", tool("rattle", os.path.relpath(TEXT, ROOT), crate)[0] == 0)
+        for name in ("src/bytes.rt", "specs/Rows.antt"):
+            expect("%s is what the text gives" % name, read(os.path.join(crate, name)) == read(os.path.join(CRATE, name)))
+    source = read(os.path.join(CRATE, "src", "bytes.rt"))
+    constant = re.search(r"const TABLE: \[u8; (\d+)\] = \[(.*?)\];", source, re.S)
+    numbers = [int(n, 0) for n in re.findall(r"0x[0-9a-f]+|\d+", constant.group(2))]
+    expect("file and constant agree", bytes(numbers) == data)
+    expect("the constant's length", int(constant.group(1)) == len(data) == len(numbers))
+    expect("the CRC by long division", data == closed(data[:-4]))
+    field = re.compile(r'field "(\S+)" (\S+) (\d+) (\d+) (\S+?)\)?$', re.M)
+    listed = [(m[0], m[1], m[2], m[3]) for m in field.findall(read(os.path.join(CRATE, "specs", "Rows.antt")))]
+    lines = [l.split() for l in read(TEXT).split("\n") if l.split()[:1] in (["body"], ["sub"])]
+    expect("the readable list has the text's fields", listed == [(w[1], w[2], w[3], w[5]) for w in lines])
+    expect("78 fields", len(lines) == 78, len(lines))
+
+
+def round_trips():
+    with tempfile.TemporaryDirectory() as folder:
+        data = read(FILE, "rb")
+        status, text, _ = show(data, folder)
+        expect("show takes the file", status == 0)
+        expect("make of show gives the file back", make(text, folder)[2] == data)
+        nameless = re.sub(r"(block \d+|body|sub) \S+", r"\1 -", re.sub(r"#.*\n", "", read(TEXT)))
+        expect("show gives the text back, but for names", text.split() == nameless.split())
+        for name, body in {
+            "the smallest table": "version 0\nblock 0 A highest 0\n",
+            "numbers at their limits": "version 65535\nblock 8191 A highest 7\n  body B u8 255 rev 7 mark ones\n",
+            "a comment, a blank line": "# c\n\nversion 3 # d\nblock 1 A highest 0\n",
+            "the largest table": "version 1\n" + "".join("block %d A highest 0\n" % n for n in range(1022)),
+        }.items():
+            status, err, made = make(body, folder)
+            expect("%s is made" % name, status == 0, err)
+            expect("%s is shown and made again" % name, made and make(show(made, folder)[1], folder)[2] == made)
+
+
+BLOCK = "version 1\nblock 1 A highest 3\n"
+PAIR = BLOCK + "body N u1 14 rev 0 mark none\nbody SBLength u1 15 rev 0 mark none\nsub C u1 0 rev 0 mark none\n"
+PAIR_RULE = "the body is exactly two u1 rows at 14 and 15, first revision 0, mark none"
+
+# A text that breaks one rule, the line that the tool names, and words of the rule.
+TEXTS = [
+    ("", 1, "the first line is: version NUMBER"),
+    ("block 1 A highest 0\n", 1, "the first line is: version NUMBER"),
+    ("version 65536\n", 1, "the version is 0 to 65535"),
+    ("version 1\n", 1, "the count of block rows is at least 1"),
+    ("version 1\nversion 1\n", 2, "a line starts with version (once, first)"),
+    ("version 1\nbody A u1 14 rev 0 mark none\n", 2, "body or sub (after a block)"),
+    ("version 1\nblock 1 A\n", 2, "a block's line is:"),
+    ("version 1\nblock x A highest 0\n", 2, "a block number is a number"),
+    ("version 1\nblock 8192 A highest 0\n", 2, "a block number is 0 to 8191"),
+    ("version 1\nblock 1 A highest 0\nblock 1 B highest 0\n", 3, "block numbers are strictly rising: 1 after 1"),
+    ("version 1\nblock 2 A highest 0\n\nblock 1 B highest 0\n", 4, "block numbers are strictly rising: 1 after 2"),
+    ("version 1\nblock 1 A highest 8\n", 2, "a highest revision is 0 to 7"),
+    (BLOCK + "".join("body F u1 14 rev 0 mark none\n" for _ in range(256)), 2, "a count of body fields is 0 to 255"),
+    (PAIR + "sub F u1 0 rev 0 mark none\n" * 255, 2, "a count of sub-fields is 0 to 255"),
+    (BLOCK + "body B u1 14 rev 0\n", 3, "a field's line is:"),
+    (BLOCK + "body B u1 256 rev 0 mark none\n", 3, "an offset is 0 to 255"),
+    (BLOCK + "body B u1 13 rev 0 mark none\n", 3, "offsets in a body are at least 14"),
+    (BLOCK + "body B u2 14 rev 0 mark none\nbody C u1 15 rev 0 mark none\n", 4, "no field starts before the previous one ends"),
+    (PAIR + "sub D u1 0 rev 0 mark none\n", 6, "no field starts before the previous one ends"),
+    (BLOCK + "body B u1 14 rev 1 mark none\nbody C u1 15 rev 0 mark none\n", 4, "first revisions do not fall"),
+    (BLOCK + "body B u1 14 rev 4 mark none\n", 3, "first revisions are at most the block's highest"),
+    (BLOCK + "sub C u1 0 rev 0 mark none\n", 2, PAIR_RULE),
+    (BLOCK + "body N u2 14 rev 0 mark none\nbody B u1 16 rev 0 mark none\nsub C u1 0 rev 0 mark none\n", 3, PAIR_RULE),
+    (PAIR.replace("SBLength u1", "SBLength i1"), 4, PAIR_RULE),
+    (PAIR.replace("SBLength u1 15 rev 0", "SBLength u1 15 rev 1"), 4, PAIR_RULE),
+    (PAIR.replace("sub C", "body B u1 16 rev 0 mark none\nsub C"), 5, PAIR_RULE),
+    (PAIR + "body B u1 16 rev 0 mark none\n", 6, "a block's body rows stand first"),
+    (BLOCK + "body B u3 14 rev 0 mark none\n", 3, "an unlisted type, 'u3'"),
+    (BLOCK + "body B u1 14 rev 0 mark no\n", 3, "an unlisted mark, 'no'"),
+    (BLOCK + "body B i1 14 rev 0 mark ones\n", 3, "a mark on another kind of type: ones on i1"),
+    (BLOCK + "body B f4 14 rev 0 mark zero\n", 3, "a mark on another kind of type: zero on f4"),
+    (BLOCK + "body B u4 14 rev 0 mark minus2e10\n", 3, "a mark on another kind of type: minus2e10 on u4"),
+    (BLOCK + "body B u1 14 rev 0 mark least\n", 3, "a mark on another kind of type: least on u1"),
+    ("version 1\n" + "".join("block %d A highest 0\n" % n for n in range(1023)), 1024, "a file has 20 to 8192 bytes"),
+]
+
+
+def refused_texts():
+    with tempfile.TemporaryDirectory() as folder:
+        for text, line, rule in TEXTS:
+            status, err, made = make(text, folder)
+            expect("refused: %s" % rule, status == 1 and made is None and (": line %d: " % line) in err and rule in err, err)
+
+
+def refused_files():
+    # one field row at 0, block rows at 4 and 12, the trailer at 20
+    text = "version 1\nblock 1 A highest 0\nbody B u1 14 rev 0 mark none\nblock 2 C highest 0\n"
+    with tempfile.TemporaryDirectory() as folder:
+        good = make(text, folder)[2]
+
+        def other(place, byte):
+            head = bytearray(good[:-4])
+            head[place] = byte
+            return closed(bytes(head))
+
+        for data, place, rule in [
+            (good[:19], "the file", "a file has 20 to 8192 bytes"),
+            (bytes(8193), "the file", "a file has 20 to 8192 bytes"),
+            (other(22, 0), "byte 22", "the count of block rows is at least 1"),
+            (other(24, 29), "byte 24", "the distance back to the first block row is 12 + 8R"),
+            (other(26, 33), "byte 26", "the distance back to the first field row is the file's size"),
+            (good[:28] + b"\0\0BT", "byte 28", "the CRC of the bytes before it is"),
+            (good[:-1] + b"2", "byte 30", "the closing mark is 42 54"),
+            (closed(good[:4] + b"\0" + good[4:26] + b"\x21\0"), "byte 0", "a file is field rows of 4 bytes, block rows of 8, then a trailer of 12"),
+            (other(11, 1), "byte 11", "a block row ends in a zero byte"),
+            (other(16, 0), "byte 16", "the first index is the sum of all counts before it"),
+            (other(15, 1), "byte 12", "all counts together use every field row"),
+            (closed(good[:7] + b"\0" + good[8:16] + b"\0" + good[17:28]), "byte 4", "all counts together use every field row"),
+            (other(13, 32), "byte 12", "a block number is 0 to 8191"),
+            (other(12, 1), "byte 12", "block numbers are strictly rising"),
+            (other(6, 8), "byte 4", "a highest revision is 0 to 7"),
+            (other(0, 13), "byte 0", "offsets in a body are at least 14"),
+            (other(1, 0), "byte 0", "an unlisted type, 0"),
+            (other(1, 11), "byte 0", "an unlisted type, 11"),
+            (other(2, 1), "byte 0", "first revisions are at most the block's highest"),
+            (other(3, 5), "byte 0", "an unlisted mark, 5"),
+            (other(3, 4), "byte 0", "a mark on another kind of type: least on u1"),
+        ]:
+            status, out, err = show(data, folder)
+            expect("refused file: %s" % rule, status == 1 and out == "" and (": %s: " % place) in err and rule in err, err)
+
+
+agreement()
+round_trips()
+refused_texts()
+refused_files()
+print("%d passed, %d failed" % (passed, failed))
+sys.exit(1 if failed else 0)
