@@ -3,7 +3,7 @@
 use Prim.Native.Nat.{ℕ}
 use mathlib.Core.Bool.{Bool}
 use mathlib.Core.Option.{Option, none, some}
-use Rattle.record.specs.Refusal.{refusalNumber}
+use Rattle.record.specs.Answer.{numberFor}
 use Rattle.reader.specs.declared.Block.{Block}
 use Rattle.reader.specs.declared.Check.{Check}
 use Rattle.reader.specs.declared.Check.the-variants as check
@@ -42,26 +42,26 @@ reportOf b = record { place = b .place; number = b .number; revision = b .revisi
 
 abbrev pub refusalOf : Check → Option ℕ
 refusalOf check.Passed = none
-refusalOf (check.Refused r) = some (refusalNumber r)
+refusalOf (check.Refused r) = some (numberFor r)
 
 abbrev pub saidOpened : Opened → Said
 saidOpened (opened.Version v) = version v
-saidOpened (opened.Refused r) = refused (refusalNumber r)
+saidOpened (opened.Refused r) = refused (numberFor r)
 
 abbrev pub saidFed : Fed → Said
 saidFed (fed.Block t b) = took t (some (reportOf b))
 saidFed (fed.More t) = took t none
-saidFed (fed.Refused r) = refused (refusalNumber r)
+saidFed (fed.Refused r) = refused (numberFor r)
 
 abbrev pub saidFinished : Finished → Said
 saidFinished (finished.Block b) = found (reportOf b)
 saidFinished (finished.End n b s) = ended n b s
-saidFinished (finished.Refused r) = refused (refusalNumber r)
+saidFinished (finished.Refused r) = refused (numberFor r)
 
 abbrev pub saidStaged : Staged → Said
 saidStaged (staged.Version v) = version v
-saidStaged (staged.Refused r) = refused (refusalNumber r)
+saidStaged (staged.Refused r) = refused (numberFor r)
 
 abbrev pub saidWithdrawn : Withdrawn → Said
 saidWithdrawn (withdrawn.Waited b) = waited b
-saidWithdrawn (withdrawn.Refused r) = refused (refusalNumber r)
+saidWithdrawn (withdrawn.Refused r) = refused (numberFor r)

@@ -1,4 +1,23 @@
-// Why a call is refused (document 01's table), by name.
+// What a block's fields answer, by a table that passes its check.
+ghost use mathlib.Core.Path.{_≡_};
+ghost use mathlib.Core.Bool.{true};
+ghost use Prim.Native.Nat.{_+_, _*_, _≤_, _<_};
+ghost use lib.ListN.{length};
+ghost use Rattle.table.specs.Rows.{ends};
+ghost use Rattle.table.specs.Decode.{decode};
+ghost use Rattle.table.specs.Rules.{tableOk};
+ghost use Rattle.record.specs.Answer.{Answers, handedSays};
+ghost use Rattle.record.specs.Block.{endsBy, subLengthIn};
+ghost use Rattle.record.specs.Calls.{fieldSaid, bodyField, subBytes, subField, subBlock, subBlockRefusal, towRow, wncRow, stamp};
+ghost use Rattle.record.specs.Samples.{SamplesHold};
+ghost use Rattle.record.specs.Theorems.{OneAnswer, AllByMeaning, FloatsKept};
+use table::FieldRow;
+use table::Row;
+
+mod block; // block.rt: a block against a table: its row, or why it is refused
+mod bits; // bits.rt: what the bits of a field mean
+
+// Why a call is refused.
 pub enum Refusal {
     BadBuffer,
     OutOfTurn,
@@ -11,3 +30,182 @@ pub enum Refusal {
     NoSuchField,
     NotOneFrame,
 }
+
+// What a field answers. A NaN is carried as its bits: no float can be made of them.
+pub enum Value {
+    Unsigned(u64),
+    Signed(i64),
+    Single(f32),
+    Double(f64),
+    SingleNan(u32),
+    DoubleNan(u64),
+    DoNotUse,
+    NotInRevision,
+}
+
+pub enum Answer {
+    Field(Value),
+    Refused(Refusal),
+}
+
+// Whether a part is handed back.
+pub enum Handed {
+    Refused(Refusal),
+    Given,
+}
+
+// The row that a block is read by.
+enum Looked {
+    At(Row),
+    Refused(Refusal),
+}
+
+// A field in these bytes, in which it ends if the revision carries it.
+fn field(s: &[u8], f: FieldRow, revision: u8) -> Answer
+    requires { ⌜ endsBy revision (length (now s)) f ≡ true ⌝ }
+    ensures { λ r. ⌜ Answers r (fieldSaid revision (now (s .entry)) f) ⌝ }
+{
+    if revision < f.first {
+        return Answer::Field(Value::NotInRevision);
+    }
+    let at = f.offset;
+    Answer::Field(bits::value(s, at, f.kind, f.mark))
+}
+
+// Body field i of a block.
+pub fn body_field(table: &[u8], block: &[u8], i: usize) -> Answer
+    requires { ⌜ tableOk (now table) ≡ true ⌝ }
+    ensures { λ r. ⌜ Answers r (bodyField (decode (now (table .entry))) (now (block .entry)) i) ⌝ }
+{
+    match block::row_of(table, block) {
+        Looked::At(row) => {
+            let start = row.start;
+            let count = row.bodies;
+            if count <= i {
+                return Answer::Refused(Refusal::NoSuchField);
+            }
+            let f = table::field(table, start + i);
+            field(block, f, block::revision(block))
+        }
+        Looked::Refused(x) => Answer::Refused(x),
+    }
+}
+
+// Sub-block k of a block, which lies in it.
+fn part(block: &[u8], k: usize) -> &[u8]
+    requires { ⌜ (k < 256) × (16 ≤ length (now block)) × (16 + k * subLengthIn (now block) + subLengthIn (now block) ≤ length (now block)) ⌝ }
+    ensures { λ r. ⌜ (now r ≡ subBytes (now (block .entry)) k) × (length (now r) ≡ subLengthIn (now (block .entry))) ⌝ }
+{
+    let length = block[15];
+    let size = block::wide(length);
+    let a = 16 + k * size;
+    let e = a + size;
+    &block[a..e]
+}
+
+// Field j of sub-block k of a block.
+pub fn sub_field(table: &[u8], block: &[u8], k: usize, j: usize) -> Answer
+    requires { ⌜ tableOk (now table) ≡ true ⌝ }
+    ensures { λ r. ⌜ Answers r (subField (decode (now (table .entry))) (now (block .entry)) k j) ⌝ }
+{
+    match block::sub_row_of(table, block, k) {
+        Looked::At(row) => {
+            let start = row.start + row.bodies;
+            let count = row.subs;
+            if count <= j {
+                return Answer::Refused(Refusal::NoSuchField);
+            }
+            let f = table::field(table, start + j);
+            let revision = block::revision(block);
+            field(part(block, k), f, revision)
+        }
+        Looked::Refused(x) => Answer::Refused(x),
+    }
+}
+
+// The bytes of sub-block k of a block; none where the call is refused.
+pub fn sub_block<'a, 'b>(table: &'a [u8], block: &'b [u8], k: usize) -> &'b [u8]
+    requires { ⌜ tableOk (now table) ≡ true ⌝ }
+    ensures { λ r. ⌜ now r ≡ subBlock (decode (now (table .entry))) (now (block .entry)) k ⌝ }
+{
+    match block::sub_row_of(table, block, k) {
+        Looked::At(_) => part(block, k),
+        Looked::Refused(_) => &block[..0],
+    }
+}
+
+// Whether `sub_block` is refused.
+pub fn sub_block_refusal(table: &[u8], block: &[u8], k: usize) -> Handed
+    requires { ⌜ tableOk (now table) ≡ true ⌝ }
+    ensures { λ r. ⌜ handedSays r ≡ subBlockRefusal (decode (now (table .entry))) (now (block .entry)) k ⌝ }
+{
+    match block::sub_row_of(table, block, k) {
+        Looked::At(_) => Handed::Given,
+        Looked::Refused(x) => Handed::Refused(x),
+    }
+}
+
+// A field that stands in every block from length 14 on.
+fn stamped(block: &[u8], f: FieldRow) -> Answer
+    requires { ⌜ ends f ≤ 14 ⌝ }
+    ensures { λ r. ⌜ Answers r (stamp f (now (block .entry))) ⌝ }
+{
+    if !frame::is_frame(block) {
+        return Answer::Refused(Refusal::NotOneFrame);
+    }
+    if block.len() < 14 {
+        return Answer::Refused(Refusal::TooShort);
+    }
+    let at = f.offset;
+    Answer::Field(bits::value(block, at, f.kind, f.mark))
+}
+
+// The time of week of a block.
+pub fn tow(block: &[u8]) -> Answer
+    ensures { λ r. ⌜ Answers r (stamp towRow (now (block .entry))) ⌝ }
+{
+    stamped(
+        block,
+        FieldRow {
+            offset: 8,
+            kind: 3,
+            first: 0,
+            mark: 1,
+        },
+    )
+}
+
+// The week number of a block.
+pub fn wnc(block: &[u8]) -> Answer
+    ensures { λ r. ⌜ Answers r (stamp wncRow (now (block .entry))) ⌝ }
+{
+    stamped(
+        block,
+        FieldRow {
+            offset: 12,
+            kind: 2,
+            first: 0,
+            mark: 1,
+        },
+    )
+}
+
+// What is to be said fixes the answer.
+pub fn one_answer()
+    ensures { λ _. ⌜ OneAnswer ⌝ }
+{}
+
+// The answers depend on what the table means, and not on its bytes.
+pub fn by_meaning()
+    ensures { λ _. ⌜ AllByMeaning ⌝ }
+{}
+
+// Floats keep their bits.
+pub fn floats_kept()
+    ensures { λ _. ⌜ FloatsKept ⌝ }
+{}
+
+// Document 01's samples of records hold, and the rules at their limits.
+pub fn samples_hold()
+    ensures { λ _. ⌜ SamplesHold ⌝ }
+{}

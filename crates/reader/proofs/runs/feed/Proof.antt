@@ -1,7 +1,7 @@
 -- `reader::runs::feed` meets its contract: refused, or done.
 -- Assumes nothing.
 use mathlib.Core.Path.{_≡_, refl, sym, ap, ap₂, _∙_}
-use Rattle.record.specs.Refusal.{refusalNumber}
+use Rattle.record.specs.Answer.{numberFor}
 use Rattle.reader.specs.Said.{refusalOf}
 use Rattle.reader.specs.Refusals.{feedRefusal}
 use Rattle.reader.specs.Calls.{feedingBy, feedingOf, feedOf}
@@ -40,7 +40,7 @@ unfolding feedOf
 returns c =
     let w = c .before .before .before in
     let a = w .before .before .before .before .args in
-    is-refused (a .s) (a .hold .now) (feedingBy (feedingOf (a .s) (a .hold .now) (a .piece .now)) (a .s) (a .hold .now)) (feedRefusal (a .s) (a .hold .now) (a .piece .now)) (refusalNumber (c .before .c .given .0 .0))
+    is-refused (a .s) (a .hold .now) (feedingBy (feedingOf (a .s) (a .hold .now) (a .piece .now)) (a .s) (a .hold .now)) (feedRefusal (a .s) (a .hold .now) (a .piece .now)) (numberFor (c .before .c .given .0 .0))
     (sym (w .of-feed .ensures) ∙ ap refusalOf (c .before .c .given .1))
 
 -- src/runs.rt:137:1

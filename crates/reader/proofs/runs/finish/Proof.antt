@@ -1,7 +1,7 @@
 -- `reader::runs::finish` meets its contract: refused, or done.
 -- Assumes nothing.
 use mathlib.Core.Path.{_≡_, refl, sym, ap, ap₂, _∙_}
-use Rattle.record.specs.Refusal.{refusalNumber}
+use Rattle.record.specs.Answer.{numberFor}
 use Rattle.reader.specs.Said.{refusalOf}
 use Rattle.reader.specs.Refusals.{finishRefusal}
 use Rattle.reader.specs.Calls.{finishingBy, finishingOf, finishOf}
@@ -40,7 +40,7 @@ unfolding finishOf
 returns c =
     let w = c .before .before .before in
     let a = w .before .before .before .args in
-    is-refused (a .s) (a .hold .now) (finishingBy (finishingOf (a .s) (a .hold .now)) (a .s) (a .hold .now)) (finishRefusal (a .s) (a .hold .now)) (refusalNumber (c .before .c .given .0 .0))
+    is-refused (a .s) (a .hold .now) (finishingBy (finishingOf (a .s) (a .hold .now)) (a .s) (a .hold .now)) (finishRefusal (a .s) (a .hold .now)) (numberFor (c .before .c .given .0 .0))
     (sym (w .of-finish .ensures) ∙ ap refusalOf (c .before .c .given .1))
 
 -- src/runs.rt:174:1

@@ -8,7 +8,7 @@ use Prim.Native.Nat.{ℕ, _≤_}
 use native.Mathlib.Omega.{arith}
 use lib.ListN.{length, take}
 use borrow.Author.Tests.{lt-ltb, le-ltb}
-use Rattle.record.specs.Refusal.{refusalNumber}
+use Rattle.record.specs.Answer.{numberFor}
 use Rattle.reader.specs.Said.{saidOpened}
 use Rattle.reader.specs.Refusals.{openRefusal}
 use Rattle.reader.specs.Calls.{Outcome, over, openRun, opening, openOf}
@@ -102,7 +102,7 @@ returns-2 c =
     let m = c .before .before .before in
     let a = entry m .args in
     sym
-    (refused-by (a .s) (a .in-force .now) (opening (a .s) (a .in-force .now) (a .waiting .now)) (openRefusal (a .s) (a .in-force .now) (a .waiting .now)) (refusalNumber (c .before .a .given .0 .0)) refl
+    (refused-by (a .s) (a .in-force .now) (opening (a .s) (a .in-force .now) (a .waiting .now)) (openRefusal (a .s) (a .in-force .now) (a .waiting .now)) (numberFor (c .before .a .given .0 .0)) refl
     (sym (m .open-answer .ensures) ∙ ap saidOpened (c .before .a .given .1)))
 
 -- src/runs.rt:41:1

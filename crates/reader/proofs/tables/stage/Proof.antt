@@ -7,7 +7,7 @@ use Prim.Native.Nat.{ℕ, _≤_}
 use native.Mathlib.Omega.{arith}
 use lib.ListN.{length}
 use lib.Seq.{take-length}
-use Rattle.record.specs.Refusal.{refusalNumber}
+use Rattle.record.specs.Answer.{numberFor}
 use Rattle.table.proofs.Passed as table
 use Rattle.reader.specs.Said.{saidStaged}
 use Rattle.reader.specs.Refusals.{stageRefusal}
@@ -74,7 +74,7 @@ returns c =
     let m = c .before .before .before in
     let a = entry m .args in
     sym
-    (refused-by (a .s) (a .waiting .now) (staging (a .s) (a .waiting .now) (a .t .now)) (stageRefusal (a .s) (a .waiting .now) (a .t .now)) (refusalNumber (c .before .a .given .0 .0)) refl
+    (refused-by (a .s) (a .waiting .now) (staging (a .s) (a .waiting .now) (a .t .now)) (stageRefusal (a .s) (a .waiting .now) (a .t .now)) (numberFor (c .before .a .given .0 .0)) refl
     (sym (m .stage-answer .ensures) ∙ ap saidStaged (c .before .a .given .1)))
 
 -- src/tables.rt:14:1

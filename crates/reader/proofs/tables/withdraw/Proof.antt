@@ -2,7 +2,7 @@
 -- Assumes nothing.
 use mathlib.Core.Path.{_≡_, refl, sym, ap, ap₂, _∙_}
 use mathlib.Core.List.{[]}
-use Rattle.record.specs.Refusal.{refusalNumber}
+use Rattle.record.specs.Answer.{numberFor}
 use Rattle.reader.specs.Said.{refusalOf}
 use Rattle.reader.specs.Refusals.{withdrawRefusal}
 use Rattle.reader.specs.Calls.{withdrawing, withdrawOf}
@@ -31,7 +31,7 @@ returns : tie.Need-returns
 unfolding withdrawOf
 returns c =
     let w = c .before .before .before in
-    is-refused (w .before .args .s) [] (withdrawing (w .before .args .s)) (withdrawRefusal (w .before .args .s)) (refusalNumber (c .before .c .given .0 .0))
+    is-refused (w .before .args .s) [] (withdrawing (w .before .args .s)) (withdrawRefusal (w .before .args .s)) (numberFor (c .before .c .given .0 .0))
     (sym (w .of-withdraw .ensures) ∙ ap refusalOf (c .before .c .given .1))
 
 -- src/tables.rt:39:1

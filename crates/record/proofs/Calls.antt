@@ -1,0 +1,120 @@
+-- What each call answers, by the row or the refusal that the block came to.
+-- Assumes nothing.
+use mathlib.Core.Path.{_≡_, refl, sym, ap, _∙_, subst}
+use mathlib.Core.List.{List, [], _∷_}
+use mathlib.Core.Bool.{Bool, true, false, _&&_}
+use mathlib.Core.Option.{Option, none, some}
+use Prim.Native.Nat.{ℕ, _+_, _-_, _*_, _<_, _≤_}
+use lib.ListN.{length, take}
+use lib.Dec.{leb}
+use Rattle.table.specs.declared.FieldRow.{FieldRow}
+use Rattle.table.specs.declared.Row.{Row}
+use Rattle.table.specs.Lists.{tabulate, every, pick}
+use Rattle.table.specs.Decode.{fieldAt, blockOf, decode}
+use Rattle.table.proofs.Bools.{both}
+use Rattle.table.proofs.Lists.{every-at, pick-in, pick-out}
+use Rattle.record.specs.declared.Refusal.{Refusal}
+use Rattle.record.specs.declared.Refusal.the-variants.{BadBuffer, OutOfTurn, RunFull, BadTable, NoTable, NoRow, TooShort, BadSubBlocks, NoSuchField, NotOneFrame}
+use Rattle.record.specs.declared.Answer.{Answer}
+use Rattle.record.specs.declared.Answer.the-variants as answer
+use Rattle.record.specs.declared.Handed.the-variants as handed
+use Rattle.record.specs.declared.Looked.{Looked}
+use Rattle.record.specs.declared.Looked.the-variants as looked
+use Rattle.record.specs.Answer.{Said, refused, numberFor, refusalOf, Answers, handedSays}
+use Rattle.record.specs.Block.{revisionIn, subLengthIn, endsBy, bodyFits, Seen, refusedBy, row, seen, seenSub, meant, Fine, FineIfAny, Looking, SubFine, SubFineIfAny, SubLooking}
+use Rattle.record.specs.Calls.{fieldSaid, fieldOr9, bodyBy, bodyField, subBytes, subBy, subField, partBy, subBlock, numberBy, subBlockRefusal}
+use Rattle.record.proofs.Fields.{same}
+use Rattle.record.proofs.Blocks.{fine-at}
+
+-- a refusal is the one of its number
+pub back : (x : Refusal) → x ≡ refusalOf (numberFor x)
+back BadBuffer = refl
+back OutOfTurn = refl
+back RunFull = refl
+back BadTable = refl
+back NoTable = refl
+back NoRow = refl
+back TooShort = refl
+back BadSubBlocks = refl
+back NoSuchField = refl
+back NotOneFrame = refl
+
+pub refuses : (x : Refusal) → Answers (answer.Refused x) (refused (numberFor x))
+refuses x = record { says = refl; case = ap answer.Refused (back x) }
+
+-- the field asked for, or 9
+none-there : (f : ℕ → FieldRow) (at count i v : ℕ) (s : List ℕ) → count ≤ i → Answers (answer.Refused NoSuchField) (fieldOr9 v s (pick (tabulate f at count) i))
+none-there f at count i v s h = rw (pick-out f at count i h) (record { says = refl; case = refl })
+
+one-there : (f : ℕ → FieldRow) (at count i v : ℕ) (s : List ℕ) → i < count → {a : Answer} → Answers a (fieldSaid v s (f (at + i)))
+    → Answers a (fieldOr9 v s (pick (tabulate f at count) i))
+one-there f at count i v s h u = rw (pick-in f at count i h) u
+
+module _ (t b : List ℕ) {l : Looked} (d : Looking t b l) (i : ℕ) where
+  pub body-refused : {x : Refusal} → l ≡ looked.Refused x → Answers (answer.Refused x) (bodyField (decode t) b i)
+  unfolding bodyField
+  body-refused {x} h = same (ap (bodyBy b i) (sym (ap (meant t) h) ∙ d .is)) (refuses x)
+
+  module _ (r : Row) (h : l ≡ looked.At r) where
+    by-row : fieldOr9 (revisionIn b) b (pick (blockOf t r .body) i) ≡ bodyField (decode t) b i
+    unfolding bodyField
+    by-row = ap (bodyBy b i) (sym (ap (meant t) h) ∙ d .is)
+
+    pub body-9 : r .bodies ≤ i → Answers (answer.Refused NoSuchField) (bodyField (decode t) b i)
+    unfolding blockOf
+    body-9 g = same by-row (none-there (fieldAt t) (r .start) (r .bodies) i (revisionIn b) b g)
+
+    pub body-says : i < r .bodies → {f : FieldRow} {v : ℕ} {a : Answer} → f ≡ fieldAt t (r .start + i) → v ≡ revisionIn b → Answers a (fieldSaid v b f)
+        → Answers a (bodyField (decode t) b i)
+    unfolding blockOf
+    body-says g e u w = same by-row (one-there (fieldAt t) (r .start) (r .bodies) i (revisionIn b) b g (rw (e, u) at w))
+
+    pub body-ends : i < r .bodies → {f : FieldRow} {v : ℕ} → f ≡ fieldAt t (r .start + i) → v ≡ revisionIn b → endsBy v (length b) f ≡ true
+    unfolding bodyFits blockOf
+    body-ends g e u =
+        rw (e, u) (every-at (fieldAt t) (endsBy (revisionIn b) (length b)) (r .start) (r .bodies) i (both (leb 14 (length b)) _ (fine-at t b d h .body) .1) g)
+
+pub sub-fine : (t b : List ℕ) (k : ℕ) {l : Looked} {r : Row} → SubLooking t b k l → l ≡ looked.At r → SubFine t b k r
+sub-fine t b k d h = subst (SubFineIfAny t b k) h (d .fine)
+
+module _ (t b : List ℕ) (k : ℕ) {l : Looked} (d : SubLooking t b k l) where
+  pub part-refused : {x : Refusal} → l ≡ looked.Refused x → [] ≡ subBlock (decode t) b k
+  unfolding subBlock
+  part-refused h = ap (partBy b k) (sym (ap (meant t) h) ∙ d .is)
+
+  pub part-given : {r : Row} {s : List ℕ} → l ≡ looked.At r → s ≡ subBytes b k → s ≡ subBlock (decode t) b k
+  unfolding subBlock
+  part-given h e = e ∙ ap (partBy b k) (sym (ap (meant t) h) ∙ d .is)
+
+  pub twin-refused : {x : Refusal} → l ≡ looked.Refused x → handedSays (handed.Refused x) ≡ subBlockRefusal (decode t) b k
+  unfolding subBlockRefusal
+  twin-refused h = ap numberBy (sym (ap (meant t) h) ∙ d .is)
+
+  pub twin-given : {r : Row} → l ≡ looked.At r → handedSays handed.Given ≡ subBlockRefusal (decode t) b k
+  unfolding subBlockRefusal
+  twin-given h = ap numberBy (sym (ap (meant t) h) ∙ d .is)
+
+  pub sub-refused : (j : ℕ) {x : Refusal} → l ≡ looked.Refused x → Answers (answer.Refused x) (subField (decode t) b k j)
+  unfolding subField
+  sub-refused j {x} h = same (ap (subBy b k j) (sym (ap (meant t) h) ∙ d .is)) (refuses x)
+
+  module _ (r : Row) (h : l ≡ looked.At r) where
+    module _ (j : ℕ) where
+      by-sub-row : fieldOr9 (revisionIn b) (subBytes b k) (pick (blockOf t r .subs) j) ≡ subField (decode t) b k j
+      unfolding subField
+      by-sub-row = ap (subBy b k j) (sym (ap (meant t) h) ∙ d .is)
+
+      pub sub-9 : r .subs ≤ j → Answers (answer.Refused NoSuchField) (subField (decode t) b k j)
+      unfolding blockOf
+      sub-9 g = same by-sub-row (none-there (fieldAt t) (r .start + r .bodies) (r .subs) j (revisionIn b) (subBytes b k) g)
+
+      pub sub-says : j < r .subs → {f : FieldRow} {v : ℕ} {s : List ℕ} {a : Answer} → f ≡ fieldAt t (r .start + r .bodies + j) → v ≡ revisionIn b → s ≡ subBytes b k
+          → Answers a (fieldSaid v s f) → Answers a (subField (decode t) b k j)
+      unfolding blockOf
+      sub-says g e u p w =
+          same by-sub-row (one-there (fieldAt t) (r .start + r .bodies) (r .subs) j (revisionIn b) (subBytes b k) g (rw (e, u, p) at w))
+
+      pub sub-ends : j < r .subs → {f : FieldRow} {v n : ℕ} → f ≡ fieldAt t (r .start + r .bodies + j) → v ≡ revisionIn b → n ≡ subLengthIn b → endsBy v n f ≡ true
+      unfolding blockOf
+      sub-ends g e u p =
+          rw (e, u, p) (every-at (fieldAt t) (endsBy (revisionIn b) (subLengthIn b)) (r .start + r .bodies) (r .subs) j (sub-fine t b k d h .fields) g)

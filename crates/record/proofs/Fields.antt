@@ -1,0 +1,60 @@
+-- What a field says, case by case, and where it ends.
+-- Assumes nothing.
+use mathlib.Core.Path.{_≡_, refl, sym, ap, _∙_, subst}
+use mathlib.Core.List.{List}
+use mathlib.Core.Bool.{Bool, true, false}
+use Prim.Native.Nat.{ℕ, _+_, _*_, _<_, _≤_}
+use lib.ListN.{length}
+use borrow.Author.Tests.{leb-true, le-leb, lt-leb}
+use Rattle.frame.specs.Frame.{wholeFrame}
+use Rattle.table.specs.declared.FieldRow.{FieldRow}
+use Rattle.table.specs.Rows.{ends}
+use Rattle.record.specs.declared.Value.{Value}
+use Rattle.record.specs.declared.Value.the-variants.{DoNotUse, NotInRevision}
+use Rattle.record.specs.declared.Refusal.the-variants.{TooShort, NotOneFrame}
+use Rattle.record.specs.declared.Answer.{Answer}
+use Rattle.record.specs.declared.Answer.the-variants.{Field, Refused}
+use Rattle.record.specs.Answer.{Said, Answers, Means, doNotUse, notInRevision, refused}
+use Rattle.record.specs.Bits.{readAs, isDoNotUse, valueOf, fieldValue}
+use Rattle.record.specs.Block.{endsBy}
+use Rattle.record.specs.Calls.{fieldSaid, stamp}
+
+-- an answer to what is said is one to what is the same
+pub same : {r : Answer} {a b : Said} → a ≡ b → Answers r a → Answers r b
+same {r} e h = subst (Answers r) e h
+
+module _ (kind mark : ℕ) {x y : ℕ} (e : x ≡ y) where
+  pub marked : isDoNotUse mark kind x ≡ true → Means DoNotUse (valueOf kind mark y)
+  unfolding valueOf
+  marked h = rw (← e, h) (record { says = refl; case = refl })
+
+  pub not-marked : isDoNotUse mark kind x ≡ false → {v : Value} → Means v (readAs kind x) → Means v (valueOf kind mark y)
+  unfolding valueOf
+  not-marked h u = rw (← e, h) u
+
+-- a carried field ends where the test says
+pub ends-in : (revision n : ℕ) (f : FieldRow) → endsBy revision n f ≡ true → f .first ≤ revision → ends f ≤ n
+ends-in revision n f e h = leb-true _ _ (rw (le-leb (f .first) revision h) at e)
+
+module _ (revision : ℕ) (s : List ℕ) (f : FieldRow) where
+  pub not-carried : revision < f .first → Answers (Field NotInRevision) (fieldSaid revision s f)
+  unfolding fieldSaid
+  not-carried h = rw (lt-leb (f .first) revision h) (record { says = refl; case = refl })
+
+  pub carried-says : f .first ≤ revision → {v : Value} → Means v (fieldValue s f) → Answers (Field v) (fieldSaid revision s f)
+  unfolding fieldSaid
+  carried-says h u = rw (le-leb (f .first) revision h) u
+
+-- TOW and WNc
+module _ (f : FieldRow) (b : List ℕ) where
+  pub stamp-10 : wholeFrame b ≡ false → Answers (Refused NotOneFrame) (stamp f b)
+  unfolding stamp
+  stamp-10 e = rw e (record { says = refl; case = refl })
+
+  pub stamp-7 : wholeFrame b ≡ true → length b < 14 → Answers (Refused TooShort) (stamp f b)
+  unfolding stamp
+  stamp-7 e h = rw (e, lt-leb 14 (length b) h) (record { says = refl; case = refl })
+
+  pub stamp-says : wholeFrame b ≡ true → 14 ≤ length b → {v : Value} → Means v (fieldValue b f) → Answers (Field v) (stamp f b)
+  unfolding stamp
+  stamp-says e h u = rw (e, le-leb 14 (length b) h) u

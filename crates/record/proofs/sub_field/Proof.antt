@@ -1,0 +1,61 @@
+-- `record::sub_field` meets its contract: each return is one law of `subField`.
+-- Assumes nothing.
+use native.Mathlib.Omega.{arith}
+use Rattle.record.proofs.Calls.{sub-fine, sub-refused, sub-9, sub-says, sub-ends}
+use borrow.Author.Needs.{needs}
+use Rattle.record.proofs.sub_field.Statement.{statement}
+use Rattle.record.proofs.sub_field.Tie as tie
+use Rattle.table.proofs.field.Reads as field-reads′
+
+sub-row-of-requires : tie.Need-sub-row-of-requires
+sub-row-of-requires c κs = search needs
+
+enum-known-row : tie.Need-enum-known-row
+enum-known-row c = search needs
+
+add-start : tie.Need-add-start
+add-start c = let k = c .before in omega (arith, sub-fine _ _ _ (k .before .before .before .sub-row-of .ensures) (k .before .row .given .1) .inside)
+
+returns : tie.Need-returns
+returns c = let k = c .before .before in sub-9 _ _ _ (k .before .before .before .sub-row-of .ensures) _ (k .before .row .given .1) _ (c .if1 .taken)
+
+add-field : tie.Need-add-field
+add-field c = let k = c .before .before in omega (arith, sub-fine _ _ _ (k .before .before .before .sub-row-of .ensures) (k .before .row .given .1) .inside)
+
+field-requires : tie.Need-field-requires
+field-requires c κs = let k = c .before .before in omega (arith, sub-fine _ _ _ (k .before .before .before .sub-row-of .ensures) (k .before .row .given .1) .inside)
+
+revision-requires : tie.Need-revision-requires
+revision-requires c κs = let k = c .before .before .before in omega (arith, sub-fine _ _ _ (k .before .before .before .sub-row-of .ensures) (k .before .row .given .1) .long)
+
+part-requires : tie.Need-part-requires
+part-requires c κs = let k = c .before .before .before .before in let f = sub-fine _ _ _ (k .before .before .before .sub-row-of .ensures) (k .before .row .given .1) in (f .few, f .long, f .within)
+
+field-requires-2 : tie.Need-field-requires-2
+field-requires-2 c κs = let e = c .before .before .before in let k = e .before .before in sub-ends _ _ _ (k .before .before .before .sub-row-of .ensures) _ (k .before .row .given .1) _ (e .if1 .left) (c .before .before .field .ensures .0) (c .before .revision .ensures) (c .part .ensures .1)
+
+enum-known-x : tie.Need-enum-known-x
+enum-known-x c = search needs
+
+returns-2 : tie.Need-returns-2
+returns-2 c = let e = c .before .before .before .before in let k = e .before .before in sub-says _ _ _ (k .before .before .before .sub-row-of .ensures) _ (k .before .row .given .1) _ (e .if1 .left) (c .before .before .before .field .ensures .0) (c .before .before .revision .ensures) (c .before .part .ensures .0) (c .field2 .ensures)
+
+returns-3 : tie.Need-returns-3
+returns-3 c = sub-refused _ _ _ (c .before .before .before .sub-row-of .ensures) _ (c .before .x .given .1)
+
+pub sub-field-spec : {M : Type 1} → statement M
+sub-field-spec =
+    tie.close
+    (tie.spec
+    sub-row-of-requires
+    enum-known-row
+    add-start
+    returns
+    add-field
+    field-requires
+    revision-requires
+    part-requires
+    field-requires-2
+    enum-known-x
+    returns-2
+    returns-3)

@@ -1,0 +1,17 @@
+-- `record::tow` meets its contract: u4 at 8 ends by 14.
+-- Assumes nothing.
+use native.Mathlib.Omega.{arith}
+use Rattle.table.specs.Types.{sizeOf}
+use borrow.Author.Needs.{needs}
+use Rattle.record.proofs.tow.Statement.{statement}
+use Rattle.record.proofs.tow.Tie as tie
+
+stamped-requires : tie.Need-stamped-requires
+unfolding sizeOf
+stamped-requires c κs = omega arith
+
+returns : tie.Need-returns
+returns c = search needs
+
+pub tow-spec : {M : Type 1} → statement M
+tow-spec = tie.close (tie.spec stamped-requires returns)

@@ -1,0 +1,17 @@
+-- `record::wnc` meets its contract: u2 at 12 ends by 14.
+-- Assumes nothing.
+use native.Mathlib.Omega.{arith}
+use Rattle.table.specs.Types.{sizeOf}
+use borrow.Author.Needs.{needs}
+use Rattle.record.proofs.wnc.Statement.{statement}
+use Rattle.record.proofs.wnc.Tie as tie
+
+stamped-requires : tie.Need-stamped-requires
+unfolding sizeOf
+stamped-requires c κs = omega arith
+
+returns : tie.Need-returns
+returns c = search needs
+
+pub wnc-spec : {M : Type 1} → statement M
+wnc-spec = tie.close (tie.spec stamped-requires returns)

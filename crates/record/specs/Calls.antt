@@ -1,0 +1,72 @@
+-- What each record call answers, of a decoded table and a block's bytes (document 01, 'Record calls', 'A field's answer').
+-- Assumes nothing.
+use Prim.Native.Nat.{ℕ, _+_, _*_}
+use mathlib.Core.List.{List, []}
+use mathlib.Core.Bool.{Bool, true, cond}
+use mathlib.Core.Option.{Option, none, some}
+use lib.ListN.{length, take, drop}
+use lib.Dec.{leb}
+use Rattle.frame.specs.Frame.{wholeFrame}
+use Rattle.table.specs.declared.FieldRow.{FieldRow}
+use Rattle.table.specs.Lists.{pick}
+use Rattle.table.specs.Rows.{BlockRow, Table}
+use Rattle.table.specs.Lookup.{carried}
+use Rattle.record.specs.Answer.{Said, notInRevision, refused}
+use Rattle.record.specs.Bits.{fieldValue}
+use Rattle.record.specs.Block.{revisionIn, lengthIn, subLengthIn, Seen, refusedBy, row, seen, seenSub}
+
+-- a field in these bytes: "not in this revision", or what it says
+unfoldable pub fieldSaid : ℕ → List ℕ → FieldRow → Said
+fieldSaid revision s f = cond (carried revision f) (fieldValue s f) notInRevision
+
+-- 9: "no such field"
+abbrev pub fieldOr9 : ℕ → List ℕ → Option FieldRow → Said
+fieldOr9 revision s none = refused 9
+fieldOr9 revision s (some f) = fieldSaid revision s f
+
+-- "a body field by number": "Fields, in row order, and sub-blocks are numbered from 0"
+abbrev pub bodyBy : List ℕ → ℕ → Seen → Said
+bodyBy b i (refusedBy n) = refused n
+bodyBy b i (row r) = fieldOr9 (revisionIn b) b (pick (r .body) i)
+
+unfoldable pub bodyField : Table → List ℕ → ℕ → Said
+bodyField tab b i = bodyBy b i (seen tab b)
+
+-- "a sub-block's bytes as a part that starts inside the block": SBLength bytes, "the slice from 16 + k x SBLength"
+unfoldable pub subBytes : List ℕ → ℕ → List ℕ
+subBytes b k = take (subLengthIn b) (drop (16 + k * subLengthIn b) b)
+
+-- "a sub-block's field by two numbers"
+abbrev pub subBy : List ℕ → ℕ → ℕ → Seen → Said
+subBy b k j (refusedBy n) = refused n
+subBy b k j (row r) = fieldOr9 (revisionIn b) (subBytes b k) (pick (r .subs) j)
+
+unfoldable pub subField : Table → List ℕ → ℕ → ℕ → Said
+subField tab b k j = subBy b k j (seenSub tab b k)
+
+-- "A call that hands back a part then hands back an empty one"
+abbrev pub partBy : List ℕ → ℕ → Seen → List ℕ
+partBy b k (refusedBy n) = []
+partBy b k (row r) = subBytes b k
+
+unfoldable pub subBlock : Table → List ℕ → ℕ → List ℕ
+subBlock tab b k = partBy b k (seenSub tab b k)
+
+-- "and a second call gives the number or none"
+abbrev pub numberBy : Seen → Option ℕ
+numberBy (refusedBy n) = some n
+numberBy (row r) = none
+
+unfoldable pub subBlockRefusal : Table → List ℕ → ℕ → Option ℕ
+subBlockRefusal tab b k = numberBy (seenSub tab b k)
+
+-- "TOW (u4 at 8) and WNc (u2 at 12) stand in every block with mark 1"
+abbrev pub towRow : FieldRow
+towRow = record { offset = 8; kind = 3; first = 0; mark = 1 }
+
+abbrev pub wncRow : FieldRow
+wncRow = record { offset = 12; kind = 2; first = 0; mark = 1 }
+
+-- "the TOW and WNc calls read no table and give only 1, 10 and, for L below 14, 7"
+unfoldable pub stamp : FieldRow → List ℕ → Said
+stamp f b = cond (wholeFrame b) (cond (leb 14 (lengthIn b)) (fieldValue b f) (refused 7)) (refused 10)
