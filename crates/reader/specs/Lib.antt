@@ -3,3 +3,4 @@ pub mod Said
 pub mod Refusals
 pub mod Calls
 pub mod Code
+pub mod Records

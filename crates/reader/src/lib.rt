@@ -1,10 +1,11 @@
-// The reader: its state, and the calls that open, feed and finish a run and that stage and withdraw a table.
+// The reader: its state, and the public calls.
 ghost use mathlib.Core.Path.{_≡_};
 ghost use Rattle.reader.specs.State.{newState};
 
 mod refusals; // refusals.rt: the refusals of each call, in their order
 pub mod runs; // runs.rt: Open, Feed, Finish, Bytes
 pub mod tables; // tables.rt: Stage, Withdraw
+pub mod records; // records.rt: a body field, a sub-block's field and bytes, TOW, WNc
 
 use record::Refusal;
 

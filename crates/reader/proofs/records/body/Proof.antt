@@ -1,0 +1,76 @@
+-- `reader::records::body` meets its contract: refused, or answered by the table in force.
+-- Assumes nothing.
+use mathlib.Core.Path.{_≡_, refl, sym, ap, _∙_}
+use mathlib.Core.Option.{Option, none}
+use Prim.Native.Nat.{ℕ}
+use lib.Seq.{length-take-le}
+use Rattle.table.specs.Decode.{decode}
+use Rattle.record.specs.Calls.{bodyField}
+use Rattle.reader.specs.Said.{refusalOf}
+use Rattle.reader.specs.Calls.{partUnless}
+use Rattle.reader.specs.Records.{tableInForce, askRefusal, firstOf, bodyOf}
+use Rattle.reader.proofs.Asking.{asked, unless-refused, unless-none}
+use borrow.Author.Needs.{needs}
+use Rattle.reader.proofs.records.body.Statement.{statement}
+use Rattle.reader.proofs.records.body.Tie as tie
+use Rattle.reader.proofs.records.body.Reads as reads
+use Rattle.reader.proofs.records.body.Lts as lts
+use Rattle.reader.proofs.records.of_ask.Reads as of-ask-reads
+use Rattle.record.proofs.body_field.Reads as body-field-reads
+
+-- src/records.rt:36:9
+of-ask-requires : tie.Need-of-ask-requires
+of-ask-requires c κs = search needs
+
+-- src/records.rt:39:24
+enum-known-c : tie.Need-enum-known-c
+enum-known-c c = search needs
+
+-- src/records.rt:40:45
+enum-told : tie.Need-enum-told
+enum-told c = search needs
+
+free : (e : tie.After-enum-told) → askRefusal (e .before .before .before .before .before .args .s) (e .before .before .before .before .before .args .in-force .now) ≡ none
+free e = sym (e .before .before .of-ask .ensures) ∙ ap refusalOf (e .enum-told .given .1)
+
+-- src/records.rt:40:45
+slice-aggregate-body-field : tie.Need-slice-aggregate-body-field
+slice-aggregate-body-field c =
+    let e = c .before in
+    let a = e .before .before .before .before .before .args in
+    sym (length-take-le _ _ (asked (a .s) (a .in-force .now) (free e) .fits))
+
+-- src/records.rt:40:26
+body-field-requires : tie.Need-body-field-requires
+body-field-requires c κs =
+    let e = c .before in
+    let a = e .before .before .before .before .before .args in
+    asked (a .s) (a .in-force .now) (free e) .ok
+
+-- src/records.rt:33:1
+returns : tie.Need-returns
+unfolding bodyOf
+returns c =
+    let o = c .before .before .before in
+    let a = o .before .before .before .args in
+    unless-refused (askRefusal (a .s) (a .in-force .now)) (c .before .c .given .0 .0) (bodyField (decode (tableInForce (a .s) (a .in-force .now))) (a .block .now) (a .i)) (sym (o .of-ask .ensures) ∙ ap refusalOf (c .before .c .given .1))
+
+-- src/records.rt:33:1
+returns-2 : tie.Need-returns-2
+unfolding bodyOf
+returns-2 c =
+    let e = c .before .before in
+    let a = e .before .before .before .before .before .args in
+    unless-none (askRefusal (a .s) (a .in-force .now)) (bodyField (decode (tableInForce (a .s) (a .in-force .now))) (a .block .now) (a .i)) (free e) (c .body-field .ensures)
+
+pub body-spec : {M : Type 1} → statement M
+body-spec =
+    tie.close
+    (tie.spec
+    of-ask-requires
+    enum-known-c
+    enum-told
+    slice-aggregate-body-field
+    body-field-requires
+    returns
+    returns-2)

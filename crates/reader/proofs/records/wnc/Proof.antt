@@ -1,0 +1,45 @@
+-- `reader::records::wnc` meets its contract: 1, or what the stamp says.
+-- Assumes nothing.
+use mathlib.Core.Path.{_≡_, refl, sym, ap, _∙_}
+use mathlib.Core.Bool.{Bool}
+use mathlib.Core.Option.{none}
+use Rattle.record.specs.Calls.{wncRow, stamp}
+use Rattle.record.specs.declared.Refusal.the-variants.{BadBuffer}
+use Rattle.reader.specs.State.{sound}
+use Rattle.reader.specs.Refusals.{need}
+use Rattle.reader.specs.Records.{stampOf}
+use Rattle.reader.proofs.Asking.{unless-refused, unless-none}
+use borrow.Author.Needs.{needs}
+use Rattle.reader.proofs.records.wnc.Statement.{statement}
+use Rattle.reader.proofs.records.wnc.Tie as tie
+use Rattle.reader.proofs.records.wnc.Reads as reads
+use Rattle.reader.proofs.records.wnc.Lts as lts
+use Rattle.reader.proofs.refusals.is_sound.Reads as is-sound-reads
+use Rattle.record.proofs.wnc.Reads as wnc-reads
+
+-- src/records.rt:95:8
+is-sound-requires : tie.Need-is-sound-requires
+is-sound-requires c κs = search needs
+
+-- src/records.rt:96:9
+wnc-requires : tie.Need-wnc-requires
+wnc-requires c κs = search needs
+
+-- src/records.rt:92:1
+returns : tie.Need-returns
+unfolding stampOf
+returns c =
+    let m = c .before .before in
+    let a = m .before .before .args in
+    unless-none (need (sound (a .s)) 1 none) (stamp wncRow (a .block .now)) (ap (λ (b : Bool). need b 1 none) (sym (m .is-sound .ensures) ∙ c .before .if1 .taken)) (c .wnc .ensures)
+
+-- src/records.rt:92:1
+returns-2 : tie.Need-returns-2
+unfolding stampOf
+returns-2 c =
+    let m = c .before in
+    let a = m .before .before .args in
+    unless-refused (need (sound (a .s)) 1 none) BadBuffer (stamp wncRow (a .block .now)) (ap (λ (b : Bool). need b 1 none) (sym (m .is-sound .ensures) ∙ c .if1 .left))
+
+pub wnc-spec : {M : Type 1} → statement M
+wnc-spec = tie.close (tie.spec is-sound-requires wnc-requires returns returns-2)
