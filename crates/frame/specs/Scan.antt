@@ -1,4 +1,4 @@
--- Working definitions for the code's scan, which is proved to give what feeding a byte at a time gives. No public contract cites them.
+-- Working definitions for the code's scan, which is proved to give what feeding a byte at a time gives. Only inner functions cite them.
 -- Assumes nothing.
 use mathlib.Core.Path.{_≡_}
 use Prim.Native.Nat.{ℕ, _+_, _≤_, _<_, max}

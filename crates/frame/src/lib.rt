@@ -87,14 +87,17 @@ fn pair_at(a: &[u8], b: &[u8], i: usize) -> u16
     wire::pair(at(a, b, i), at(a, b, i + 1))
 }
 
+// Where the bytes that the CRC covers begin: behind the sync bytes and the CRC itself.
+const COVERED: usize = 4;
+
 // The CRC of the bytes from 4 up to n of `a` and then `b`.
 fn crc_between(a: &[u8], b: &[u8], n: usize) -> u16
     requires { ⌜ (4 ≤ n) × (n ≤ length (now a) + length (now b)) ⌝ }
     ensures { λ r. ⌜ r ≡ crcOf (drop 4 (take n (now (a .entry) ++ now (b .entry)))) ⌝ }
 {
-    let i = lesser(a.len(), 4);
+    let i = lesser(a.len(), COVERED);
     let e = lesser(a.len(), n);
-    let j = 4 - i;
+    let j = COVERED - i;
     let f = n - e;
     crc::update(0, &a[i..e], &b[j..f])
 }

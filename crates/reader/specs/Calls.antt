@@ -14,7 +14,7 @@ use Rattle.frame.specs.Session.{size}
 use Rattle.feed.specs.Hold.{restOf, holdOf}
 use Rattle.table.specs.Decode.{decode}
 use Rattle.table.specs.Rules.{tableOk}
-use Rattle.reader.specs.State.{limit, noRun}
+use Rattle.reader.specs.State.{limit}
 use Rattle.reader.specs.Said.{Report, Said, refused, version, took, found, ended, waited}
 use Rattle.reader.specs.Refusals.{nextTable, openRefusal, feedRefusal, finishRefusal, bytesRefusal, stageRefusal, withdrawRefusal}
 use Rattle.reader.specs.declared.Phase.{Phase}

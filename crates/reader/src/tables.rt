@@ -47,11 +47,12 @@ pub fn withdraw(s: State) -> WithdrawAnswer
         },
         Check::Passed => {
             let run = s.run;
+            let n = s.in_force;
             WithdrawAnswer {
                 answer: Withdrawn::Waited(0 < s.waiting),
                 state: State {
                     run,
-                    in_force: s.in_force,
+                    in_force: n,
                     waiting: 0,
                 },
             }

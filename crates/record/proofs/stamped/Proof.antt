@@ -16,14 +16,14 @@ returns : tie.Need-returns
 returns c = stamp-10 _ _ (sym (c .before .is-frame .ensures) ∙ not-true _ (c .if1 .taken))
 
 returns-2 : tie.Need-returns-2
-returns-2 c = stamp-7 _ _ (sym (c .before .before .is-frame .ensures) ∙ not-false _ (c .before .if1 .left)) (c .if2 .taken)
+returns-2 c = stamp-7 _ _ (sym (c .before .before .is-frame .ensures) ∙ not-false _ (c .before .if1 .left)) (omega arith)
 
 value-requires : tie.Need-value-requires
 value-requires c κs = search needs
 
 returns-3 : tie.Need-returns-3
 unfolding fieldValue
-returns-3 c = stamp-says _ _ (sym (c .before .before .before .is-frame .ensures) ∙ not-false _ (c .before .before .if1 .left)) (c .before .if2 .left) (c .value .ensures)
+returns-3 c = stamp-says _ _ (sym (c .before .before .before .is-frame .ensures) ∙ not-false _ (c .before .before .if1 .left)) (omega arith) (c .value .ensures)
 
 pub stamped-spec : {M : Type 1} → statement M
 stamped-spec = tie.close (tie.spec is-frame-requires returns returns-2 value-requires returns-3)

@@ -1,5 +1,6 @@
 -- `record::sub_block` meets its contract: the part, or the empty one.
 -- Assumes nothing.
+use native.Mathlib.Omega.{arith}
 use Rattle.record.proofs.Calls.{sub-fine, part-given, part-refused}
 use borrow.Author.Needs.{needs}
 use Rattle.record.proofs.sub_block.Statement.{statement}
@@ -12,7 +13,7 @@ enum-told : tie.Need-enum-told
 enum-told c = search needs
 
 part-requires : tie.Need-part-requires
-part-requires c κs = let f = sub-fine _ _ _ (c .before .before .sub-row-of .ensures) (c .enum-told .given .1) in (f .few, f .long, f .within)
+part-requires c κs = let f = sub-fine _ _ _ (c .before .before .sub-row-of .ensures) (c .enum-told .given .1) in (omega arith, f .long, f .within)
 
 enum-told-2 : tie.Need-enum-told-2
 enum-told-2 c = search needs

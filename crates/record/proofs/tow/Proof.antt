@@ -2,7 +2,6 @@
 -- Assumes nothing.
 use native.Mathlib.Omega.{arith}
 use Rattle.table.specs.Types.{sizeOf}
-use borrow.Author.Needs.{needs}
 use Rattle.record.proofs.tow.Statement.{statement}
 use Rattle.record.proofs.tow.Tie as tie
 
@@ -11,7 +10,7 @@ unfolding sizeOf
 stamped-requires c κs = omega arith
 
 returns : tie.Need-returns
-returns c = search needs
+returns c = c .stamped .ensures
 
 pub tow-spec : {M : Type 1} → statement M
 tow-spec = tie.close (tie.spec stamped-requires returns)

@@ -23,13 +23,13 @@ wide-requires : tie.Need-wide-requires
 wide-requires c κs = search needs
 
 returns-2 : tie.Need-returns-2
-returns-2 c = let e = c .before .before .before in let k = e .before in sub-past _ _ (k .before .before .before .row-of .ensures) _ _ (k .before .row .given .1) (e .if1 .left) (c .before .wide .ensures .0) (c .if2 .taken)
+returns-2 c = let e = c .before .before .before in let k = e .before in sub-past _ _ (k .before .before .before .row-of .ensures) _ _ (k .before .row .given .1) (e .if1 .left) (c .before .wide .ensures .0) (omega arith)
 
 enum-known-x : tie.Need-enum-known-x
 enum-known-x c = search needs
 
 returns-3 : tie.Need-returns-3
-returns-3 c = let e = c .before .before .before in let k = e .before in sub-at _ _ (k .before .before .before .row-of .ensures) _ _ (k .before .row .given .1) (e .if1 .left) (c .before .wide .ensures .0) (c .if2 .left) (c .before .wide .ensures .1)
+returns-3 c = let e = c .before .before .before in let k = e .before in sub-at _ _ (k .before .before .before .row-of .ensures) _ _ (k .before .row .given .1) (e .if1 .left) (c .before .wide .ensures .0) (omega arith) (c .before .wide .ensures .1)
 
 returns-4 : tie.Need-returns-4
 returns-4 c = sub-refused _ _ (c .before .before .before .row-of .ensures) _ (c .before .x .given .1)

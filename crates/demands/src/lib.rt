@@ -1,0 +1,13 @@
+// What was demanded, as theorems over the definitions that the reader's contracts cite.
+ghost use Rattle.demands.specs.One.{OneOutcome};
+ghost use Rattle.demands.specs.Refused.{RefusedKeeps};
+
+// Demand 1: "a refused call changes no lent byte and no state".
+pub fn refused_keeps()
+    ensures { λ _. ⌜ RefusedKeeps ⌝ }
+{}
+
+// "it is proved that one input admits one outcome": no two answers of the code read the same.
+pub fn one_outcome()
+    ensures { λ _. ⌜ OneOutcome ⌝ }
+{}

@@ -1,0 +1,37 @@
+-- What the loops ask of the reader: a call takes no more than it is offered.
+-- Assumes nothing.
+use mathlib.Core.List.{List}
+use mathlib.Core.Option.{Option, none, some}
+use Prim.Native.Nat.{ℕ, _+_, _-_, _≤_}
+use native.Mathlib.Omega.{arith}
+use lib.ListN.{length, take, drop, length-drop}
+use lib.Seq.{length-take-le}
+use Rattle.frame.specs.Feed.{feedLit}
+use Rattle.frame.proofs.Calls.{call}
+use Rattle.feed.specs.Hold.{restOf}
+use Rattle.reader.specs.State.{limit}
+use Rattle.reader.specs.Said.{Said, refused, version, took, found, ended, waited}
+use Rattle.reader.specs.Refusals.{feedRefusal}
+use Rattle.reader.specs.Calls.{Outcome, unless, feedingBy, feedingOf, feedOf}
+use Rattle.reader.specs.declared.State.{State}
+
+-- how many bytes an answer says were taken
+abbrev pub takenOf : Said → ℕ
+takenOf (refused n) = 0
+takenOf (version v) = 0
+takenOf (took t r) = t
+takenOf (found r) = 0
+takenOf (ended n b s) = 0
+takenOf (waited w) = 0
+
+few-by : (o : Option ℕ) (s : State) (hold piece h : List ℕ) (room : ℕ) → takenOf (unless o s hold (feedingBy (feedLit h piece room) s hold) .said) ≤ length piece
+few-by (some n) s hold piece h room = omega arith
+few-by none s hold piece h room = omega (arith, call h piece room .taken)
+
+pub taken-few : (s : State) (hold piece : List ℕ) → takenOf (feedOf s hold piece .said) ≤ length piece
+unfolding feedOf feedingOf
+taken-few s hold piece = few-by (feedRefusal s hold piece) s hold piece (restOf hold (s .run .held) (s .run .standing)) (limit - s .run .taken)
+
+-- a place in a piece, and what is taken from there on
+pub within : (piece : List ℕ) (at t : ℕ) → at ≤ length piece → t ≤ length (take (length piece - at) (drop at piece)) → at + t ≤ length piece
+within piece at t a b = omega (arith, length-take-le (length piece - at) (drop at piece) (omega (arith, length-drop at piece)))

@@ -1,0 +1,60 @@
+-- `lister::close_all` ends: the calls left fall.
+-- Assumes nothing.
+use mathlib.Core.Path.{_≡_}
+use Prim.Native.Nat.{_≤_}
+use lib.ListN.{length}
+use borrow.Author.Needs.{needs}
+use Rattle.lister.proofs.close_all.Statement.{statement}
+use Rattle.lister.proofs.close_all.Tie as tie
+use Rattle.lister.proofs.close_all.Reads as reads
+use Rattle.lister.proofs.close_all.Lts as lts
+use Rattle.lister.proofs.close.Reads as close-reads
+
+abbrev Inv-loop : tie.InvT-loop
+Inv-loop hold₀ out₀ now₀ turns₀ hold out now turns = (now .filled ≤ 8192) × (length hold ≡ length hold₀)
+
+abbrev μ-loop : tie.MeasureT-loop
+μ-loop hold₀ out₀ now₀ turns₀ hold out now turns = turns
+
+loop-holds : tie.Need-loop-holds Inv-loop μ-loop
+loop-holds c = search needs
+
+close-requires : tie.Need-close-requires Inv-loop μ-loop
+close-requires c κs = search needs
+
+same-length : tie.Need-same-length Inv-loop μ-loop
+same-length c = search needs
+
+returns : tie.Need-returns Inv-loop μ-loop
+returns c = search needs
+
+sub-turns : tie.Need-sub-turns Inv-loop μ-loop
+sub-turns c = search needs
+
+loop-less : tie.Need-loop-less Inv-loop μ-loop
+loop-less c = search needs
+
+loop-again : tie.Need-loop-again Inv-loop μ-loop
+loop-again c = search needs
+
+same-length-2 : tie.Need-same-length-2 Inv-loop μ-loop
+same-length-2 c = search needs
+
+returns-2 : tie.Need-returns-2 Inv-loop μ-loop
+returns-2 c = search needs
+
+pub close-all-spec : {M : Type 1} → statement M
+close-all-spec =
+    tie.close
+    (tie.spec
+    Inv-loop
+    μ-loop
+    loop-holds
+    close-requires
+    same-length
+    returns
+    sub-turns
+    loop-less
+    loop-again
+    same-length-2
+    returns-2)

@@ -1,0 +1,84 @@
+-- `lister::offer` takes no more than the piece: the reader does not.
+-- Assumes nothing.
+use mathlib.Core.Path.{_≡_, sym, ap, _∙_}
+use Prim.Native.Nat.{ℕ, _≤_}
+use native.Mathlib.Omega.{arith}
+use lib.ListN.{length}
+use Rattle.reader.specs.Said.{saidFed}
+use Rattle.reader.specs.Calls.{Outcome, feedOf}
+use Rattle.reader.specs.declared.Fed.{Fed}
+use Rattle.lister.proofs.Laws.{takenOf, taken-few}
+use borrow.Author.Needs.{needs}
+use Rattle.lister.proofs.offer.Statement.{statement}
+use Rattle.lister.proofs.offer.Tie as tie
+use Rattle.lister.proofs.offer.Reads as reads
+use Rattle.lister.proofs.offer.Lts as lts
+use Rattle.lister.proofs.list_block.Reads as list-block-reads
+use Rattle.lister.proofs.so_far.Reads as so-far-reads
+use Rattle.reader.proofs.runs.feed.Reads as feed-reads
+
+few : (d : tie.After-feed) → takenOf (saidFed (d .feed .result .answer)) ≤ length (d .before .before .before .before .args .piece .now)
+few d =
+    let a = d .before .before .before .before .args in
+    omega (arith, ap (λ (o : Outcome). takenOf (o .said)) (d .feed .ensures), taken-few (a .state) (a .hold .now) (a .piece .now))
+
+feed-requires : tie.Need-feed-requires
+feed-requires c κs = search needs
+
+enum-known-answer : tie.Need-enum-known-answer
+enum-known-answer c = search needs
+
+list-block-requires : tie.Need-list-block-requires
+list-block-requires c κs = search needs
+
+enum-known-answer-2 : tie.Need-enum-known-answer-2
+enum-known-answer-2 c = search needs
+
+so-far-requires : tie.Need-so-far-requires
+so-far-requires c κs = search needs
+
+enum-told : tie.Need-enum-told
+enum-told c = search needs
+
+so-far-requires-2 : tie.Need-so-far-requires-2
+so-far-requires-2 c κs = search needs
+
+same-length : tie.Need-same-length
+same-length c = search needs
+
+returns : tie.Need-returns
+returns c =
+    let e = ap (λ (x : Fed). takenOf (saidFed x)) (c .before .before .before .answer .given .1) in
+    (c .list-block .ensures .0, omega (arith, few (c .before .before .before .before .before .before .before .before), e, c .list-block .ensures .1))
+
+same-length-2 : tie.Need-same-length-2
+same-length-2 c = search needs
+
+returns-2 : tie.Need-returns-2
+returns-2 c =
+    let e = ap (λ (x : Fed). takenOf (saidFed x)) (c .before .before .answer2 .given .1) in
+    (omega (arith, c .so-far .ensures, c .before .before .before .before .before .before .before .before .before .before .before .pre), omega (arith, few (c .before .before .before .before .before .before .before), e))
+
+same-length-3 : tie.Need-same-length-3
+same-length-3 c = search needs
+
+returns-3 : tie.Need-returns-3
+returns-3 c = search needs
+
+pub offer-spec : {M : Type 1} → statement M
+offer-spec =
+    tie.close
+    (tie.spec
+    feed-requires
+    enum-known-answer
+    list-block-requires
+    enum-known-answer-2
+    so-far-requires
+    enum-told
+    so-far-requires-2
+    same-length
+    returns
+    same-length-2
+    returns-2
+    same-length-3
+    returns-3)

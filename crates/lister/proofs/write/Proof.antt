@@ -1,0 +1,21 @@
+-- `lister::write` is safe: the part is in the buffer.
+-- Assumes nothing.
+use lib.Seq.{length-take-le}
+use borrow.Author.Needs.{needs}
+use Rattle.lister.proofs.write.Statement.{statement}
+use Rattle.lister.proofs.write.Tie as tie
+use Rattle.lister.proofs.write.Reads as reads
+use Rattle.lister.proofs.write.Lts as lts
+use Rattle.io.proofs.write_all.Reads as write-all-reads
+
+slice-aggregate-write-all : tie.Need-slice-aggregate-write-all
+slice-aggregate-write-all c = search (needs, length-take-le)
+
+write-all-requires : tie.Need-write-all-requires
+write-all-requires c κs = search needs
+
+returns : tie.Need-returns
+returns c = search needs
+
+pub write-spec : {M : Type 1} → statement M
+write-spec = tie.close (tie.spec slice-aggregate-write-all write-all-requires returns)

@@ -1,0 +1,313 @@
+// Lists the blocks of standard input, read as one run: a line for each, and last the run's counts.
+ghost use Prim.Native.Nat.{_+_, _≤_};
+ghost use lib.ListN.{length};
+ghost use mathlib.Core.Path.{_≡_};
+
+mod text; // text.rt: lines of output, in a buffer
+
+use libc::STDERR_FILENO;
+use libc::STDIN_FILENO;
+use libc::STDOUT_FILENO;
+use reader::Block;
+use reader::Fed;
+use reader::Finished;
+use reader::Opened;
+use reader::State;
+
+// Why reading stops.
+pub enum Course {
+    GoesOn,
+    InputEnded,
+    RunFull,
+    ReadFailed,
+    WriteFailed,
+}
+
+// Between two calls: the reader's state, how many bytes of the output buffer wait to be written, and whether to go on.
+pub struct Listing {
+    pub state: State,
+    pub filled: usize,
+    pub course: Course,
+}
+
+// What one call of the reader came to: how many bytes it took, and whether the piece or the run is done with.
+pub struct Called {
+    pub taken: usize,
+    pub done: bool,
+    pub listing: Listing,
+}
+
+// How many bytes wait after a line, and whether writing went well.
+pub struct Line {
+    pub filled: usize,
+    pub written: bool,
+}
+
+fn tell(words: &[u8]) {
+    io::write_all(STDERR_FILENO, words);
+}
+
+// Writes the first n bytes.
+fn write(out: &[u8], n: usize) -> bool
+    requires { ⌜ n ≤ length (now out) ⌝ }
+{
+    io::write_all(STDOUT_FILENO, &out[..n])
+}
+
+// Makes room for a line: writes out what waits where the buffer is nearly full.
+fn make_room(out: &[u8; 8192], filled: usize) -> Line
+    requires { ⌜ filled ≤ 8192 ⌝ }
+    ensures { λ r. ⌜ r .filled + 90 ≤ 8192 ⌝ }
+{
+    if filled <= 8192 - text::ROOM {
+        return Line {
+            filled,
+            written: true,
+        };
+    }
+    Line {
+        filled: 0,
+        written: write(out, filled),
+    }
+}
+
+fn so_far(state: State, filled: usize, course: Course) -> Listing
+    ensures { λ r. ⌜ r .filled ≡ filled ⌝ }
+{
+    Listing {
+        state,
+        filled,
+        course,
+    }
+}
+
+// A block's line, after a call that took some bytes. Nothing is read on where writing failed.
+fn list_block(state: State, taken: usize, b: Block, out: &mut [u8; 8192], filled: usize) -> Called
+    requires { ⌜ filled ≤ 8192 ⌝ }
+    ensures { λ r. ⌜ (r .listing .filled ≤ 8192) × (r .taken ≡ taken) ⌝ }
+{
+    let room = make_room(out, filled);
+    if !room.written {
+        return Called {
+            taken,
+            done: true,
+            listing: so_far(state, 0, Course::WriteFailed),
+        };
+    }
+    let n = text::block_line(out, room.filled, b);
+    Called {
+        taken,
+        done: false,
+        listing: so_far(state, n, Course::GoesOn),
+    }
+}
+
+// Offers a piece once. It is done with when all of it is taken and gives no more blocks. Of a run that `main` opened the one refusal is a full run's.
+fn offer(state: State, hold: &mut [u8], piece: &[u8], out: &mut [u8; 8192], filled: usize) -> Called
+    requires { ⌜ filled ≤ 8192 ⌝ }
+    ensures { λ r. ⌜ (r .listing .filled ≤ 8192) × (r .taken ≤ length (now (piece .entry))) ⌝ }
+{
+    let fed = reader::runs::feed(state, hold, piece);
+    let answer = fed.answer;
+    let next = fed.state;
+    match answer {
+        Fed::Block(taken, b) => list_block(next, taken, b, out, filled),
+        Fed::More(taken) => Called {
+            taken,
+            done: taken == piece.len(),
+            listing: so_far(next, filled, Course::GoesOn),
+        },
+        Fed::Refused(_) => Called {
+            taken: 0,
+            done: true,
+            listing: so_far(next, filled, Course::RunFull),
+        },
+    }
+}
+
+// Offers a piece until it is done with. Nothing says here that the offers end: the loop counts them down.
+fn drain(
+    state: State,
+    hold: &mut [u8],
+    piece: &[u8],
+    out: &mut [u8; 8192],
+    filled: usize,
+) -> Listing
+    requires { ⌜ filled ≤ 8192 ⌝ }
+    ensures { λ r. ⌜ r .filled ≤ 8192 ⌝ }
+{
+    let mut now = so_far(state, filled, Course::GoesOn);
+    let mut at: usize = 0;
+    let mut turns: u64 = 0xffff_ffff_ffff_ffff;
+    while turns > 0 {
+        let called = offer(now.state, hold, &piece[at..], out, now.filled);
+        at = at + called.taken;
+        now = called.listing;
+        if called.done {
+            return now;
+        }
+        turns -= 1;
+    }
+    now
+}
+
+// Reads once, and feeds what came.
+fn turn(l: Listing, hold: &mut [u8], buf: &mut [u8], out: &mut [u8; 8192]) -> Listing
+    requires { ⌜ l .filled ≤ 8192 ⌝ }
+    ensures { λ r. ⌜ r .filled ≤ 8192 ⌝ }
+{
+    let got = libc::read(STDIN_FILENO, buf);
+    let state = l.state;
+    let filled = l.filled;
+    if got < 0 {
+        return so_far(state, filled, Course::ReadFailed);
+    }
+    if got == 0 {
+        return so_far(state, filled, Course::InputEnded);
+    }
+    let n = io::count(got, buf);
+    drain(state, hold, &buf[..n], out, filled)
+}
+
+fn goes_on(c: Course) -> bool {
+    match c {
+        Course::GoesOn => true,
+        _ => false,
+    }
+}
+
+// A proved loop has to end, and nothing says that the input does: it counts its turns down.
+fn read_all(state: State, hold: &mut [u8], out: &mut [u8; 8192]) -> Listing
+    ensures { λ r. ⌜ r .filled ≤ 8192 ⌝ }
+{
+    let mut buf = io::large_buffer();
+    let mut now = so_far(state, 0, Course::GoesOn);
+    let mut turns: u64 = 0xffff_ffff_ffff_ffff;
+    while turns > 0 {
+        now = turn(now, hold, &mut buf, out);
+        let course = now.course;
+        if !goes_on(course) {
+            return now;
+        }
+        turns -= 1;
+    }
+    now
+}
+
+// The run's end: its line is the last.
+fn list_end(
+    state: State,
+    out: &mut [u8; 8192],
+    filled: usize,
+    bytes: usize,
+    blocks: usize,
+    skipped: usize,
+) -> Called
+    requires { ⌜ filled ≤ 8192 ⌝ }
+    ensures { λ r. ⌜ r .listing .filled ≤ 8192 ⌝ }
+{
+    let room = make_room(out, filled);
+    if !room.written {
+        return Called {
+            taken: 0,
+            done: true,
+            listing: so_far(state, 0, Course::WriteFailed),
+        };
+    }
+    let n = text::end_line(out, room.filled, bytes, blocks, skipped);
+    Called {
+        taken: 0,
+        done: true,
+        listing: so_far(state, n, Course::InputEnded),
+    }
+}
+
+fn close(state: State, hold: &mut [u8], out: &mut [u8; 8192], filled: usize) -> Called
+    requires { ⌜ filled ≤ 8192 ⌝ }
+    ensures { λ r. ⌜ r .listing .filled ≤ 8192 ⌝ }
+{
+    let closed = reader::runs::finish(state, hold);
+    let answer = closed.answer;
+    let next = closed.state;
+    match answer {
+        Finished::Block(b) => list_block(next, 0, b, out, filled),
+        Finished::End(bytes, blocks, skipped) => list_end(
+            next,
+            out,
+            filled,
+            bytes,
+            blocks,
+            skipped,
+        ),
+        Finished::Refused(_) => Called {
+            taken: 0,
+            done: true,
+            listing: so_far(next, filled, Course::InputEnded),
+        },
+    }
+}
+
+// Finishes the run: the blocks that were held back, then the end.
+fn close_all(l: Listing, hold: &mut [u8], out: &mut [u8; 8192]) -> Listing
+    requires { ⌜ l .filled ≤ 8192 ⌝ }
+    ensures { λ r. ⌜ r .filled ≤ 8192 ⌝ }
+{
+    let mut now = l;
+    let mut turns: u64 = 0xffff_ffff_ffff_ffff;
+    while turns > 0 {
+        let called = close(now.state, hold, out, now.filled);
+        now = called.listing;
+        if called.done {
+            return now;
+        }
+        turns -= 1;
+    }
+    now
+}
+
+// Writes out what waits, unless writing has failed already, and tells on standard error what went wrong.
+fn write_out(l: Listing, out: &[u8; 8192])
+    requires { ⌜ l .filled ≤ 8192 ⌝ }
+{
+    let filled = l.filled;
+    let course = l.course;
+    let written = write(out, filled);
+    match course {
+        Course::ReadFailed => tell(b"lister: cannot read standard input\n"),
+        Course::WriteFailed => tell(b"lister: cannot write to standard output\n"),
+        _ => {}
+    }
+    if !written {
+        tell(b"lister: cannot write to standard output\n");
+    }
+}
+
+// Reads the run and lists it. Without its end, where reading or writing fails.
+fn list(state: State) {
+    let mut hold = io::large_buffer();
+    let mut out = [0u8; 8192];
+    let read = read_all(state, &mut hold, &mut out);
+    let course = read.course;
+    match course {
+        Course::ReadFailed | Course::WriteFailed => write_out(read, &out),
+        Course::RunFull => {
+            tell(b"lister: the run is full at 4294967295 bytes\n");
+            write_out(close_all(read, &mut hold, &mut out), &out);
+        }
+        _ => write_out(close_all(read, &mut hold, &mut out), &out),
+    }
+}
+
+// Stages the rows shipped and opens with them. A refused table would wait nowhere, and then Open is refused too.
+fn main() {
+    let mut in_force = [0u8; 8192];
+    let mut waiting = [0u8; 8192];
+    let rows = shipped::table();
+    let staged = reader::tables::stage(reader::new(), &mut waiting, &rows);
+    let opened = reader::runs::open(staged.state, &mut in_force, &waiting);
+    let answer = opened.answer;
+    match answer {
+        Opened::Version(_) => list(opened.state),
+        Opened::Refused(_) => tell(b"lister: the rows shipped are refused\n"),
+    }
+}

@@ -1,0 +1,199 @@
+#!/usr/bin/env python3
+"""The program lister against a reader of document 01's framing rules written here from the document alone.
+
+test_lister.py         run all streams; stop at the first difference
+test_lister.py SEED    write the stream of one seed to standard output
+"""
+import binascii
+import os
+import random
+import struct
+import subprocess
+import sys
+from concurrent.futures import ThreadPoolExecutor
+
+TOP = os.path.dirname(os.path.dirname(os.path.abspath(__file__)))
+PROGRAM = os.path.join(TOP, "target", "bin", "lister")
+SAMPLE = bytes.fromhex("00 24 40 A9 89 00 00 08 00 24")
+SAMPLE_LIST = "block 1 0 0 8\nend 10 1 2\n"
+SYNC = b"\x24\x40"
+
+
+# ---- the reading rule
+
+def frame_at(run, p):
+    """The length of the frame that stands at place p of the run, 0 for none."""
+    if run[p:p + 2] != SYNC or p + 8 > len(run):
+        return 0
+    crc, _, length = struct.unpack_from("<HHH", run, p + 2)
+    if length % 4 or length < 8 or p + length > len(run):
+        return 0
+    return length if binascii.crc_hqx(run[p + 4:p + length], 0) == crc else 0
+
+
+def listed(run):
+    """What the lister has to print of a run."""
+    lines, p, skipped = [], 0, 0
+    while p < len(run):
+        length = frame_at(run, p)
+        if length:
+            ident = int.from_bytes(run[p + 4:p + 6], "little")
+            lines.append(f"block {p} {ident % 8192} {ident // 8192} {length}")
+            p += length
+        else:
+            p += 1
+            skipped += 1
+    lines.append(f"end {len(run)} {len(lines)} {skipped}")
+    return "\n".join(lines) + "\n"
+
+
+# ---- streams
+
+def block(rng, payload=None, number=None, revision=None):
+    """A whole block with the right CRC; the payload's length is a multiple of 4."""
+    if payload is None:
+        payload = rng.randbytes(4 * rng.choice([0, 1, 2, 10, 20, rng.randrange(60), rng.randrange(1200)]))
+    ident = (rng.randrange(8192) if number is None else number) + 8192 * (rng.randrange(8) if revision is None else revision)
+    tail = struct.pack("<HH", ident, 8 + len(payload)) + payload
+    return SYNC + struct.pack("<H", binascii.crc_hqx(tail, 0)) + tail
+
+
+def blocks(rng):
+    return block(rng)
+
+
+def noise(rng):
+    return rng.randbytes(rng.randrange(1, 400)) + block(rng)
+
+
+def flipped(rng):
+    out = bytearray(block(rng) + block(rng))
+    out[rng.randrange(len(out))] ^= 1 << rng.randrange(8)
+    return bytes(out)
+
+
+def false_header(rng):
+    """A header that holds good blocks back until its length is there, and then turns out to be none."""
+    length = rng.choice([8, 12, 400, 4 * rng.randrange(2, 16384), 65528, 65532])
+    return SYNC + struct.pack("<HHH", rng.randrange(65536), rng.randrange(65536), length) + block(rng)
+
+
+def inner_sync(rng):
+    """Blocks whose payload holds sync pairs, and some a whole block."""
+    inside = b"".join(rng.choice([SYNC, SYNC + rng.randbytes(6), block(rng), rng.randbytes(3)]) for _ in range(4))
+    return block(rng, inside + bytes(-len(inside) % 4))
+
+
+def bad_length(rng):
+    length = rng.choice([4, 9, 6, 0, 1, 7, 10, 65533, 65534, 65535])
+    body = struct.pack("<HH", rng.randrange(65536), length) + rng.randbytes(max(0, length % 64 - 8))
+    return SYNC + struct.pack("<H", binascii.crc_hqx(body, 0)) + body + block(rng)
+
+
+def dollars(rng):
+    return b"\x24" * rng.randrange(1, 300) + rng.choice([b"", b"\x40", SYNC]) + block(rng)
+
+
+def long_block(rng):
+    return block(rng, rng.randbytes(rng.choice([65524, 65520, 4 * rng.randrange(8000, 16381)])))
+
+
+def cut(rng):
+    """A block without its end."""
+    whole = block(rng, rng.randbytes(4 * rng.randrange(1, 16381)))
+    return whole[:rng.randrange(1, len(whole))]
+
+
+KINDS = [[blocks], [noise], [flipped], [false_header], [inner_sync], [bad_length], [dollars], [long_block]]
+MIXED = [blocks, blocks, noise, flipped, false_header, inner_sync, bad_length, dollars]
+
+
+def stream(seed):
+    """The seed's low digits choose the kind of the parts and of the end; 100 kB and more, but for the first seed's empty run."""
+    rng = random.Random(seed)
+    if seed == 0:
+        return b""
+    parts = KINDS[seed % 16] if seed % 16 < len(KINDS) else MIXED
+    out = bytearray()
+    while len(out) < 100_000:
+        out += rng.choice(parts)(rng)
+    if seed % 3:
+        out += cut(rng)
+    if seed % 4 == 3:
+        out += block(rng)
+    return bytes(out)
+
+
+SEEDS = range(49)
+
+
+# ---- comparing
+
+def said(data, env):
+    """What the program writes for this input, or how it failed."""
+    try:
+        ran = subprocess.run([os.path.join(TOP, "tools", "x86run"), PROGRAM], input=data, env=env,
+                             stdout=subprocess.PIPE, stderr=subprocess.PIPE, timeout=60)
+    except (OSError, subprocess.TimeoutExpired) as error:
+        return str(error)
+    if ran.returncode != 0 or ran.stderr:
+        return f"status {ran.returncode}: {ran.stderr.decode(errors='replace').strip()}"
+    return ran.stdout.decode(errors="replace")
+
+
+def difference(want, got):
+    """The first line that differs, of both."""
+    want, got = want.split("\n"), got.split("\n")
+    for n in range(max(len(want), len(got))):
+        a, b = (x[n] if n < len(x) else "nothing more" for x in (want, got))
+        if a != b:
+            return f"line {n + 1}: the lister says {b!r}, the rule {a!r}"
+    return "none"
+
+
+def cases():
+    """(name, input, expected output); what is kept in files is compared with the rule too."""
+    with open(os.path.join(TOP, "samples", "flight.sbf"), "rb") as f:
+        flight = f.read()
+    with open(os.path.join(TOP, "samples", "flight.list"), encoding="ascii") as f:
+        flight_list = f.read()
+    yield "document 01's sample", SAMPLE, SAMPLE_LIST
+    yield "samples/flight.sbf", flight, flight_list
+    for name, data, want in [("document 01's sample, by the rule", SAMPLE, SAMPLE_LIST),
+                             ("samples/flight.list, by the rule", flight, flight_list)]:
+        yield name, None, difference(listed(data), want)
+    for seed in SEEDS:
+        data = stream(seed)
+        yield f"seed {seed}, {len(data)} bytes", data, listed(data)
+
+
+def main():
+    if not os.path.exists(PROGRAM):
+        print("test_lister: there is no target/bin/lister; `rt check lister` makes it\n0 passed, 1 failed")
+        return 1
+    env = dict(os.environ)
+    if "RATTLE_HOME" not in env:  # ask rt once, and not at each run
+        guide = subprocess.run(["rt", "doc"], stdout=subprocess.PIPE, text=True, check=True).stdout.strip()
+        env["RATTLE_HOME"] = os.path.dirname(os.path.dirname(guide))
+
+    def compare(case):
+        name, data, want = case
+        return name, want if data is None else difference(want, said(data, env))
+
+    passed = 0
+    with ThreadPoolExecutor(2) as pool:
+        for name, differs in pool.map(compare, cases()):
+            if differs != "none":
+                pool.shutdown(wait=False, cancel_futures=True)
+                print(f"test_lister: {name}: {differs}\n{passed} passed, 1 failed")
+                return 1
+            passed += 1
+    print(f"{passed} passed, 0 failed")
+    return 0
+
+
+if __name__ == "__main__":
+    if len(sys.argv) == 2:
+        sys.stdout.buffer.write(stream(int(sys.argv[1])))
+    else:
+        sys.exit(main())
