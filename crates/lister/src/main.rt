@@ -102,7 +102,8 @@ fn list_block(state: State, taken: usize, b: Block, out: &mut [u8; 8192], filled
     }
 }
 
-// Offers a piece once. It is done with when all of it is taken and gives no more blocks. Of a run that `main` opened the one refusal is a full run's.
+// Offers a piece once. It is done with when all of it is taken and gives no more blocks. In a run that is open and fed by
+// this program the one refusal left is a full run's.
 fn offer(state: State, hold: &mut [u8], piece: &[u8], out: &mut [u8; 8192], filled: usize) -> Called
     requires { ⌜ filled ≤ 8192 ⌝ }
     ensures { λ r. ⌜ (r .listing .filled ≤ 8192) × (r .taken ≤ length (now (piece .entry))) ⌝ }
