@@ -1,2 +1,3 @@
 pub mod Refused
 pub mod One
+pub mod Exactly

@@ -1,4 +1,5 @@
 // What was demanded, as theorems over the definitions that the reader's contracts cite.
+ghost use Rattle.demands.specs.Exactly.{ExactlyWhen};
 ghost use Rattle.demands.specs.One.{OneOutcome};
 ghost use Rattle.demands.specs.Refused.{RefusedKeeps};
 
@@ -10,4 +11,9 @@ pub fn refused_keeps()
 // "it is proved that one input admits one outcome": no two answers of the code read the same.
 pub fn one_outcome()
     ensures { λ _. ⌜ OneOutcome ⌝ }
+{}
+
+// Document 01's refusal table, 1 to 5: each number is given exactly when its condition holds and none before it does.
+pub fn exactly_when()
+    ensures { λ _. ⌜ ExactlyWhen ⌝ }
 {}

@@ -1,0 +1,189 @@
+-- Each test of the definitions says whether its condition holds; so a row of tests gives the first condition that does.
+-- Assumes nothing.
+use Prim.Native.Nat.{ℕ, _≤_, _<_}
+use native.Mathlib.Omega.{arith}
+use mathlib.Core.Path.{_≡_, refl, sym, ap, _∙_}
+use mathlib.Core.Bool.{Bool, true, false, not, _&&_, _||_}
+use mathlib.Core.List.{List}
+use mathlib.Core.Logic.{_⊎_, inl, inr, ⊎-elim}
+use mathlib.Core.Option.{Option, none, some}
+use lib.ListN.{length}
+use lib.Dec.{leb, ltb, eqb}
+use borrow.Author.Tests.{leb-true, leb-false, ltb-true, ltb-false, eqb-true, eqb-false}
+use Rattle.frame.specs.Settle.{settle}
+use Rattle.feed.specs.Hold.{restOf}
+use Rattle.frame.proofs.Tests.{both-left, both-right, never}
+use Rattle.table.specs.Rules.{tableOk}
+use Rattle.reader.specs.State.{limit, sound}
+use Rattle.reader.specs.Refusals.{need, isClosed, isFeeding, isSome, longHold, longStore, nextTable, tableRefusal, openRefusal, feedRefusal, finishRefusal, bytesRefusal, stageRefusal, withdrawRefusal}
+use Rattle.reader.specs.Records.{tableInForce, askRefusal}
+use Rattle.reader.specs.declared.Phase.{Phase}
+use Rattle.reader.specs.declared.Phase.the-variants.{Closed, Feeding, Finishing}
+use Rattle.reader.specs.declared.State.{State}
+use Rattle.demands.specs.Exactly.{Order, nothing, first, Given, Exactly, BadState, ShortHold, ShortStore, Breaks, openOrder, feedOrder, finishOrder, bytesOrder, withdrawOrder, stageOrder, askOrder, ExactlyWhen}
+
+-- ---- a row of tests
+
+-- a test that fails exactly where its condition holds
+record Tells (b : Bool) (P : Type 0) : Type 0 where
+  pub fine : b ≡ true → P → ⊥
+  pub holds : b ≡ false → P
+
+exactly-none : Exactly none nothing
+exactly-none = record { gives = λ n e. let z : _≡_ {A = ℕ} 0 1 = cc in omega arith; given = λ n g. absurd g }
+
+gives-by : (b : Bool) (m : ℕ) {P : Type 0} (o : Option ℕ) {r : Order} → Tells b P → Exactly o r → (n : ℕ) → need b m o ≡ some n → Given (first m P r) n
+gives-by true m o t x n e = inr (t .fine refl, x .gives n e)
+gives-by false m o t x n e = let q : m ≡ n = cc in inl (q, t .holds refl)
+
+given-by : (b : Bool) (m : ℕ) {P : Type 0} (o : Option ℕ) {r : Order} → Tells b P → Exactly o r → (n : ℕ) → Given (first m P r) n → need b m o ≡ some n
+given-by true m o t x n g = ⊎-elim (λ q. absurd (t .fine refl (q .1))) (λ q. x .given n (q .1)) g
+given-by false m o t x n g = ⊎-elim (λ q. ap some (q .0)) (λ q. absurd (q .0 (t .holds refl))) g
+
+followed : {b : Bool} (m : ℕ) {P : Type 0} {o : Option ℕ} {r : Order} → Tells b P → Exactly o r → Exactly (need b m o) (first m P r)
+followed {b} m {P} {o} t x = record { gives = gives-by b m o t x; given = given-by b m o t x }
+
+-- ---- tests put together
+
+both-holds : (a b : Bool) {P Q : Type 0} → Tells a P → Tells b Q → (a && b) ≡ false → P ⊎ Q
+both-holds true b t u e = inr (u .holds e)
+both-holds false b t u e = inl (t .holds refl)
+
+both : {a b : Bool} {P Q : Type 0} → Tells a P → Tells b Q → Tells (a && b) (P ⊎ Q)
+both {a} {b} t u =
+    record {
+      fine = λ e g. ⊎-elim (λ p. t .fine (both-left a b e) p) (λ q. u .fine (both-right a b e) q) g;
+      holds = both-holds a b t u;
+    }
+
+within : (m n : ℕ) → Tells (leb m n) (n < m)
+within m n = record { fine = λ e l. let g = leb-true m n e in omega arith; holds = λ e. leb-false m n e }
+
+-- ---- the conditions
+
+bad-state : (s : State) → Tells (sound s) (BadState s)
+unfolding sound
+bad-state s =
+    both
+    (both
+    (both
+    (both
+    (both
+    (both (both (within (s .run .held) 65532) (within (s .run .held) (s .run .taken))) (within (s .run .standing) (s .run .held)))
+    (within (s .«in_force») 8192))
+    (within (s .waiting) 8192))
+    (within (s .run .taken) limit))
+    (within (s .run .blocks) (s .run .taken)))
+    (within (s .run .skipped) (s .run .taken))
+
+closed-tells : (p : Phase) → Tells (isClosed p) (p ≡ Closed → ⊥)
+closed-tells Closed = record { fine = λ e f. f refl; holds = λ e. never refl e }
+closed-tells Feeding = record { fine = λ e f. never e refl; holds = λ e q. let z : _≡_ {A = ℕ} 0 1 = cc in omega arith }
+closed-tells Finishing = record { fine = λ e f. never e refl; holds = λ e q. let z : _≡_ {A = ℕ} 0 1 = cc in omega arith }
+
+feeding-tells : (p : Phase) → Tells (isFeeding p) (p ≡ Feeding → ⊥)
+feeding-tells Closed = record { fine = λ e f. never e refl; holds = λ e q. let z : _≡_ {A = ℕ} 0 1 = cc in omega arith }
+feeding-tells Feeding = record { fine = λ e f. f refl; holds = λ e. never refl e }
+feeding-tells Finishing = record { fine = λ e f. never e refl; holds = λ e q. let z : _≡_ {A = ℕ} 0 1 = cc in omega arith }
+
+open-tells : (p : Phase) → Tells (not (isClosed p)) (p ≡ Closed)
+open-tells Closed = record { fine = λ e q. never e refl; holds = λ e. refl }
+open-tells Feeding = record { fine = λ e q. let z : _≡_ {A = ℕ} 0 1 = cc in omega arith; holds = λ e. never refl e }
+open-tells Finishing = record { fine = λ e q. let z : _≡_ {A = ℕ} 0 1 = cc in omega arith; holds = λ e. never refl e }
+
+table-tells : (t : List ℕ) → Tells (tableOk t) (Breaks t)
+table-tells t = record { fine = λ e f. never e f; holds = λ e. e }
+
+some-tells : (n : ℕ) → Tells (ltb 0 n) (n ≡ 0)
+some-tells n = record { fine = λ e q. let l = ltb-true 0 n e in omega arith; holds = λ e. let l = ltb-false 0 n e in omega arith }
+
+either-left : (a b : Bool) → (a || b) ≡ false → a ≡ false
+either-left true b e = e
+either-left false b e = refl
+
+either-right : (a b : Bool) → (a || b) ≡ false → b ≡ false
+either-right true b e = never refl e
+either-right false b e = e
+
+-- a test that holds where either does, fails where both fail
+orelse-fine : (a b : Bool) {P Q : Type 0} → Tells a P → Tells b Q → (a || b) ≡ true → P × Q → ⊥
+orelse-fine true b t u e g = t .fine refl (g .0)
+orelse-fine false b t u e g = u .fine e (g .1)
+
+orelse : {a b : Bool} {P Q : Type 0} → Tells a P → Tells b Q → Tells (a || b) (P × Q)
+orelse {a} {b} t u =
+    record { fine = orelse-fine a b t u; holds = λ e. (t .holds (either-left a b e), u .holds (either-right a b e)) }
+
+full-tells : (n : ℕ) → Tells (ltb n limit) (4294967295 ≤ n)
+full-tells n = record { fine = λ e q. let l = ltb-true n limit e in omega arith; holds = λ e. ltb-false n limit e }
+
+empty-tells : (n : ℕ) → Tells (eqb n 0) (0 < n)
+empty-tells n =
+    record {
+      fine = λ e q. let l = eqb-true n 0 e in omega arith;
+      holds = λ e. let l = eqb-false n 0 e in omega (arith, l);
+    }
+
+gives-tells : (o : Option ℕ) → Tells (isSome o) (o ≡ none)
+gives-tells none = record { fine = λ e q. never e refl; holds = λ e. refl }
+gives-tells (some n) = record { fine = λ e q. let z : _≡_ {A = ℕ} 0 1 = cc in omega arith; holds = λ e. never refl e }
+
+-- ---- the calls
+
+hold-tells : (s : State) (hold : List ℕ) → Tells (sound s && longHold hold) (BadState s ⊎ ShortHold hold)
+hold-tells s hold = both (bad-state s) (within 65536 (length hold))
+
+store-tells : (s : State) (store : List ℕ) → Tells (sound s && longStore store) (BadState s ⊎ ShortStore store)
+store-tells s store = both (bad-state s) (within 8192 (length store))
+
+broken : (t : List ℕ) → Exactly (tableRefusal t) (first 4 (Breaks t) nothing)
+broken t = followed 4 (table-tells t) exactly-none
+
+open-exact : (s : State) (force wait : List ℕ) → Exactly (openRefusal s force wait) (openOrder s force wait)
+unfolding openRefusal
+open-exact s force wait =
+    followed 1 (both (store-tells s force) (within 8192 (length wait)))
+    (followed 2 (closed-tells (s .run .phase))
+    (followed 5 (orelse (some-tells (s .waiting)) (some-tells (s .«in_force»))) (broken (nextTable s force wait))))
+
+feed-exact : (s : State) (hold piece : List ℕ) → Exactly (feedRefusal s hold piece) (feedOrder s hold piece)
+unfolding feedRefusal
+feed-exact s hold piece =
+    followed 1 (hold-tells s hold)
+    (followed 2 (feeding-tells (s .run .phase))
+    (followed 3
+    (orelse (full-tells (s .run .taken)) (orelse (empty-tells (length piece)) (gives-tells (settle (restOf hold (s .run .held) (s .run .standing)) .standing))))
+    exactly-none))
+
+finish-exact : (s : State) (hold : List ℕ) → Exactly (finishRefusal s hold) (finishOrder s hold)
+unfolding finishRefusal
+finish-exact s hold = followed 1 (hold-tells s hold) (followed 2 (open-tells (s .run .phase)) exactly-none)
+
+bytes-exact : (s : State) (hold : List ℕ) → Exactly (bytesRefusal s hold) (bytesOrder s hold)
+unfolding bytesRefusal
+bytes-exact s hold = followed 1 (hold-tells s hold) exactly-none
+
+withdraw-exact : (s : State) → Exactly (withdrawRefusal s) (withdrawOrder s)
+unfolding withdrawRefusal
+withdraw-exact s = followed 1 (bad-state s) exactly-none
+
+stage-exact : (s : State) (wait t : List ℕ) → Exactly (stageRefusal s wait t) (stageOrder s wait t)
+unfolding stageRefusal
+stage-exact s wait t = followed 1 (store-tells s wait) (broken t)
+
+ask-exact : (s : State) (force : List ℕ) → Exactly (askRefusal s force) (askOrder s force)
+unfolding askRefusal
+ask-exact s force =
+    followed 1 (store-tells s force) (followed 5 (some-tells (s .«in_force»)) (broken (tableInForce s force)))
+
+pub exact : ExactlyWhen
+exact =
+    record {
+      opens = open-exact;
+      feeds = feed-exact;
+      finishes = finish-exact;
+      bytes = bytes-exact;
+      withdraws = withdraw-exact;
+      stages = stage-exact;
+      asks = ask-exact;
+    }
