@@ -1,3 +1,4 @@
 pub mod Keeping
 pub mod Apart
 pub mod Exact
+pub mod Soundness

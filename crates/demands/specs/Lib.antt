@@ -1,3 +1,4 @@
 pub mod Refused
 pub mod One
 pub mod Exactly
+pub mod Sound

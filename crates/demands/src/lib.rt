@@ -2,6 +2,7 @@
 ghost use Rattle.demands.specs.Exactly.{ExactlyWhen};
 ghost use Rattle.demands.specs.One.{OneOutcome};
 ghost use Rattle.demands.specs.Refused.{RefusedKeeps};
+ghost use Rattle.demands.specs.Sound.{SoundKept};
 
 // Demand 1: "a refused call changes no lent byte and no state".
 pub fn refused_keeps()
@@ -16,4 +17,9 @@ pub fn one_outcome()
 // Document 01's refusal table, 1 to 5: each number is given exactly when its condition holds and none before it does.
 pub fn exactly_when()
     ensures { λ _. ⌜ ExactlyWhen ⌝ }
+{}
+
+// A new reader's state is sound, every call keeps it so, and a sound state is none that refusal 1 names.
+pub fn sound_kept()
+    ensures { λ _. ⌜ SoundKept ⌝ }
 {}
