@@ -6,19 +6,13 @@ use Rattle.crc.specs.Crc.{crcFrom, crcOf}
 use borrow.Author.Needs.{needs}
 use Rattle.crc.proofs.crc_of.Statement.{statement}
 use Rattle.crc.proofs.crc_of.Tie as tie
-use Rattle.crc.proofs.crc_of.Reads as reads
-use Rattle.crc.proofs.crc_of.Lts as lts
-use Rattle.crc.proofs.update.Reads as update-reads
 
--- src/lib.rt:295:18
 slice-aggregate-update : tie.Need-slice-aggregate-update
 slice-aggregate-update c = search needs
 
--- src/lib.rt:295:5
 update-requires : tie.Need-update-requires
 update-requires c κs = search needs
 
--- src/lib.rt:292:1
 returns : tie.Need-returns
 unfolding crcOf
 returns c = c .update .ensures ∙ ap (crcFrom 0) (append-nil _)

@@ -10,30 +10,21 @@ use Rattle.feed.proofs.Literally.{looked, as-told, as-kept}
 use borrow.Author.Needs.{needs}
 use Rattle.feed.proofs.feed.Statement.{statement}
 use Rattle.feed.proofs.feed.Tie as tie
-use Rattle.feed.proofs.feed.Reads as reads
-use Rattle.feed.proofs.feed.Lts as lts
-use Rattle.feed.proofs.lesser.Reads as lesser-reads
-use Rattle.feed.proofs.take_in.Reads as take-in-reads
 
--- src/lib.rt:125:9
 lesser-requires : tie.Need-lesser-requires
 lesser-requires c κs = search needs
 
--- src/lib.rt:126:35
 slice-aggregate-take-in : tie.Need-slice-aggregate-take-in
 slice-aggregate-take-in c =
     let a = c .before .before .before .before .before .args in
     sym (length-take-le (c .before .before .lesser .result) (a .piece .now) (omega arith))
 
--- src/lib.rt:126:5
 take-in-requires : tie.Need-take-in-requires
 take-in-requires c κs = search needs
 
--- src/lib.rt:119:1
 same-length : tie.Need-same-length
 same-length c = search needs
 
--- src/lib.rt:119:1
 returns : tie.Need-returns
 returns c =
     let t = c .before .before in

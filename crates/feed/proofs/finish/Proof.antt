@@ -16,28 +16,19 @@ use Rattle.feed.proofs.Literally.{end-few, end-front, end-told, end-kep
 use borrow.Author.Needs.{needs}
 use Rattle.feed.proofs.finish.Statement.{statement}
 use Rattle.feed.proofs.finish.Tie as tie
-use Rattle.feed.proofs.finish.Reads as reads
-use Rattle.feed.proofs.finish.Lts as lts
-use Rattle.feed.proofs.move_down.Reads as move-down-reads
-use Rattle.frame.proofs.last.Reads as last-reads
 
--- src/lib.rt:136:27
 sub-last : tie.Need-sub-last
 sub-last c = search needs
 
--- src/lib.rt:136:27
 part-last-start : tie.Need-part-last-start
 part-last-start c = search needs
 
--- src/lib.rt:136:27
 part-last-end : tie.Need-part-last-end
 part-last-end c = search needs
 
--- src/lib.rt:136:9
 last-requires : tie.Need-last-requires
 last-requires c κs = search needs
 
--- src/lib.rt:139:13
 abbrev entry : tie.After-last → tie.Start
 entry s = s .before .before .before .before
 
@@ -53,23 +44,18 @@ few s =
 sub-k : tie.Need-sub-k
 sub-k c = search needs
 
--- src/lib.rt:139:13
 sub-k-2 : tie.Need-sub-k-2
 sub-k-2 c = few c
 
--- src/lib.rt:140:21
 add-move-down : tie.Need-add-move-down
 add-move-down c = omega (arith, few (c .before))
 
--- src/lib.rt:140:5
 move-down-requires : tie.Need-move-down-requires
 move-down-requires c κs = omega (arith, few (c .before))
 
--- src/lib.rt:130:1
 same-length : tie.Need-same-length
 same-length c = search needs
 
--- src/lib.rt:130:1
 returns : tie.Need-returns
 returns c =
     let s = c .before .before .before .before in

@@ -3,10 +3,7 @@
 use Rattle.feed.proofs.Literally.{goes-on}
 use Rattle.feed.proofs.goes_on.Statement.{statement}
 use Rattle.feed.proofs.goes_on.Tie as tie
-use Rattle.feed.proofs.goes_on.Reads as reads
-use Rattle.feed.proofs.goes_on.Lts as lts
 
--- src/lib.rt:145:1
 returns : tie.Need-returns
 returns c = goes-on
 

@@ -10,44 +10,31 @@ use Rattle.feed.proofs.Kept.{from-hold, from-piece}
 use borrow.Author.Needs.{needs}
 use Rattle.feed.proofs.keep.Statement.{statement}
 use Rattle.feed.proofs.keep.Tie as tie
-use Rattle.feed.proofs.keep.Reads as reads
-use Rattle.feed.proofs.keep.Lts as lts
-use Rattle.feed.proofs.copy_in.Reads as copy-in-reads
-use Rattle.feed.proofs.move_down.Reads as move-down-reads
 
--- src/lib.rt:78:17
 sub-k : tie.Need-sub-k
 sub-k c = search needs
 
--- src/lib.rt:79:25
 add-move-down : tie.Need-add-move-down
 add-move-down c = search needs
 
--- src/lib.rt:79:9
 move-down-requires : tie.Need-move-down-requires
 move-down-requires c κs = search needs
 
--- src/lib.rt:80:36
 sub-copy-in : tie.Need-sub-copy-in
 sub-copy-in c = search needs
 
--- src/lib.rt:80:9
 copy-in-requires : tie.Need-copy-in-requires
 copy-in-requires c κs = search needs
 
--- src/lib.rt:82:40
 sub-copy-in-2 : tie.Need-sub-copy-in-2
 sub-copy-in-2 c = search needs
 
--- src/lib.rt:82:9
 copy-in-requires-2 : tie.Need-copy-in-requires-2
 copy-in-requires-2 c κs = search needs
 
--- src/lib.rt:73:1
 same-length : tie.Need-same-length
 same-length c = search needs
 
--- src/lib.rt:73:1
 returns : tie.Need-returns
 returns c =
     let a = c .before .before .before .before .before .before .before .before .before .before .before .args in
@@ -55,11 +42,9 @@ returns c =
     ∙ ap (λ (x : List ℕ). paste x (a .n - a .p) (drop 0 (a .piece .now)) (a .m - a .n)) (c .before .before .before .before .before .before .move-down .ensures)
     ∙ from-hold (a .hold .now) (a .standing) (a .n) (a .piece .now) (a .p) (a .m) (omega arith) (omega arith) (omega arith) (omega arith)
 
--- src/lib.rt:73:1
 same-length-2 : tie.Need-same-length-2
 same-length-2 c = search needs
 
--- src/lib.rt:73:1
 returns-2 : tie.Need-returns-2
 returns-2 c =
     let a = c .before .before .before .before .before .before .before .args in

@@ -10,10 +10,6 @@ use borrow.Author.Needs.{needs}
 use Rattle.feed.proofs.Pasting.{paste-long, paste-self, paste-behind, paste-on}
 use Rattle.feed.proofs.move_down.Statement.{statement}
 use Rattle.feed.proofs.move_down.Tie as tie
-use Rattle.feed.proofs.move_down.Reads as reads
-use Rattle.feed.proofs.move_down.Lts as lts
-use Rattle.feed.proofs.lesser.Reads as lesser-reads
-use Rattle.feed.proofs.move_some.Reads as move-some-reads
 
 abbrev Inv-loop : tie.InvT-loop
 Inv-loop hold₀ from k buf₀ moved₀ hold buf moved = (moved ≤ k) × (hold ≡ paste hold₀ 0 (drop from hold₀) moved)
@@ -21,21 +17,17 @@ Inv-loop hold₀ from k buf₀ moved₀ hold buf moved = (moved ≤ k) × (hold 
 abbrev μ-loop : tie.MeasureT-loop
 μ-loop hold₀ from k buf₀ moved₀ hold buf moved = k - moved
 
--- src/lib.rt:50:9
 returns : tie.Need-returns Inv-loop μ-loop
 returns c =
     let a = c .before .before .args in
     paste-self (a .hold .now) (a .k) ∙ ap (λ (x : ℕ). paste (a .hold .now) 0 (drop x (a .hold .now)) (a .k)) (sym (c .if1 .taken))
 
--- src/lib.rt:54:5
 loop-holds : tie.Need-loop-holds Inv-loop μ-loop
 loop-holds c = (omega arith, refl)
 
--- src/lib.rt:55:24
 sub-lesser : tie.Need-sub-lesser Inv-loop μ-loop
 sub-lesser c = omega arith
 
--- src/lib.rt:55:13
 lesser-requires : tie.Need-lesser-requires Inv-loop μ-loop
 lesser-requires c κs = search needs
 
@@ -49,28 +41,23 @@ least : (m : tie.After-lesser Inv-loop μ-loop)
     → m .lesser .result ≡ min (m .before .before .before .before .before .args .k - m .before .before .loop .moved) 1024
 least m = m .lesser .ensures
 
--- src/lib.rt:56:25
 add-move-some : tie.Need-add-move-some Inv-loop μ-loop
 add-move-some c = omega arith
 
--- src/lib.rt:56:9
 move-some-requires : tie.Need-move-some-requires Inv-loop μ-loop
 move-some-requires c κs =
     let n = least (c .before .before) in
     let l = long (c .before .before .before .before) in
     (omega arith, omega arith, omega arith)
 
--- src/lib.rt:57:9
 add-moved : tie.Need-add-moved Inv-loop μ-loop
 add-moved c = omega (arith, least (c .before .before .before .before .before))
 
--- src/lib.rt:54:5
 loop-less : tie.Need-loop-less Inv-loop μ-loop
 loop-less c =
     let m = c .before .before .before .before .before in
     omega (arith, least m, m .before .loop-test .taken)
 
--- src/lib.rt:54:5
 loop-again : tie.Need-loop-again Inv-loop μ-loop
 loop-again c =
     let m = c .before .before .before .before .before in
@@ -87,11 +74,9 @@ loop-again c =
           ∙ paste-on h s (l .moved) n (omega (arith, least m, length-drop (a .from) h)) (omega arith),
     )
 
--- src/lib.rt:45:1
 same-length : tie.Need-same-length Inv-loop μ-loop
 same-length c = long (c .before)
 
--- src/lib.rt:45:1
 returns-2 : tie.Need-returns-2 Inv-loop μ-loop
 returns-2 c =
     let a = c .before .before .before .before .args in

@@ -8,23 +8,16 @@ use Rattle.feed.proofs.Pasting.{paste-same, paste-front}
 use borrow.Author.Needs.{needs}
 use Rattle.feed.proofs.move_some.Statement.{statement}
 use Rattle.feed.proofs.move_some.Tie as tie
-use Rattle.feed.proofs.move_some.Reads as reads
-use Rattle.feed.proofs.move_some.Lts as lts
-use Rattle.feed.proofs.copy_in.Reads as copy-in-reads
 
--- src/lib.rt:40:5
 copy-in-requires : tie.Need-copy-in-requires
 copy-in-requires c κs = search needs
 
--- src/lib.rt:41:5
 copy-in-requires-2 : tie.Need-copy-in-requires-2
 copy-in-requires-2 c κs = search needs
 
--- src/lib.rt:36:1
 same-length : tie.Need-same-length
 same-length c = search needs
 
--- src/lib.rt:36:1
 returns : tie.Need-returns
 returns c =
     let e = c .before .before in

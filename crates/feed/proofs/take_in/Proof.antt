@@ -15,32 +15,22 @@ use Rattle.feed.specs.Kept.{foundKept, foundNumbers}
 use borrow.Author.Needs.{needs}
 use Rattle.feed.proofs.take_in.Statement.{statement}
 use Rattle.feed.proofs.take_in.Tie as tie
-use Rattle.feed.proofs.take_in.Reads as reads
-use Rattle.feed.proofs.take_in.Lts as lts
-use Rattle.feed.proofs.keep.Reads as keep-reads
-use Rattle.frame.proofs.scan.Reads as scan-reads
 
--- src/lib.rt:93:13
 sub-n : tie.Need-sub-n
 sub-n c = search needs
 
--- src/lib.rt:94:29
 sub-scan : tie.Need-sub-scan
 sub-scan c = search needs
 
--- src/lib.rt:94:29
 part-scan-start : tie.Need-part-scan-start
 part-scan-start c = search needs
 
--- src/lib.rt:94:29
 part-scan-end : tie.Need-part-scan-end
 part-scan-end c = search needs
 
--- src/lib.rt:94:9
 scan-requires : tie.Need-scan-requires
 scan-requires c κs = search needs
 
--- src/lib.rt:96:22
 abbrev entry : tie.After-scan → tie.Start
 entry s = s .before .before .before .before .before
 
@@ -98,7 +88,6 @@ kept-is s p m e = e
 enum-known-found : tie.Need-enum-known-found
 enum-known-found c = search needs
 
--- src/lib.rt:97:13
 keep-requires : tie.Need-keep-requires
 keep-requires c κs =
     let k = c .before .before in
@@ -106,23 +95,18 @@ keep-requires c κs =
     let l = long (k .before .before) in
     (omega arith, omega arith, omega arith, omega arith, omega arith)
 
--- src/lib.rt:99:24
 sub-t20 : tie.Need-sub-t20
 sub-t20 c = let b = in-block (c .before .before .before .before .before) in omega arith
 
--- src/lib.rt:101:23
 sub-t21 : tie.Need-sub-t21
 sub-t21 c = let b = in-block (c .before .before .before .before .before) in omega arith
 
--- src/lib.rt:105:21
 enum-known-found-2 : tie.Need-enum-known-found-2
 enum-known-found-2 c = search needs
 
--- src/lib.rt:106:21
 add-m : tie.Need-add-m
 add-m c = search needs
 
--- src/lib.rt:107:13
 keep-requires-2 : tie.Need-keep-requires-2
 keep-requires-2 c κs =
     let k = c .before .before in
@@ -130,19 +114,15 @@ keep-requires-2 c κs =
     let l = long (k .before .before) in
     (omega arith, omega arith, omega arith, omega arith, omega arith)
 
--- src/lib.rt:109:24
 sub-t22 : tie.Need-sub-t22
 sub-t22 c = search needs
 
--- src/lib.rt:111:23
 sub-t26 : tie.Need-sub-t26
 sub-t26 c = let k = c .before .before .before .before .before in let b = in-more k in let l = long (k .before .before) in omega arith
 
--- src/lib.rt:87:1
 same-length : tie.Need-same-length
 same-length c = search needs
 
--- src/lib.rt:87:1
 returns : tie.Need-returns
 returns c =
     let k = c .before .before .before .before .before in
@@ -159,11 +139,9 @@ returns c =
       ),
     )
 
--- src/lib.rt:87:1
 same-length-2 : tie.Need-same-length-2
 same-length-2 c = search needs
 
--- src/lib.rt:87:1
 returns-2 : tie.Need-returns-2
 returns-2 c =
     let k = c .before .before .before .before .before in

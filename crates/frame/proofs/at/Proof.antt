@@ -7,28 +7,21 @@ use Rattle.frame.proofs.Parts.{get-right}
 use borrow.Author.Needs.{needs}
 use Rattle.frame.proofs.at.Statement.{statement}
 use Rattle.frame.proofs.at.Tie as tie
-use Rattle.frame.proofs.at.Reads as reads
-use Rattle.frame.proofs.at.Lts as lts
 
--- src/lib.rt:75:9
 shared-slice-read-result : tie.Need-shared-slice-read-result
 shared-slice-read-result c = search needs
 
--- src/lib.rt:77:17
 sub-j : tie.Need-sub-j
 sub-j c = search needs
 
--- src/lib.rt:78:9
 shared-slice-read-result-2 : tie.Need-shared-slice-read-result-2
 shared-slice-read-result-2 c = search needs
 
--- src/lib.rt:70:1
 returns : tie.Need-returns
 returns c =
     let a = c .before .before .args in
     sym (List·getD-append (a .a .now) (a .b .now) 0 (a .i) (omega arith))
 
--- src/lib.rt:70:1
 returns-2 : tie.Need-returns-2
 returns-2 c =
     let a = c .before .before .args in

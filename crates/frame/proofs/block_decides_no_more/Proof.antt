@@ -3,10 +3,7 @@
 use Rattle.frame.proofs.Calls.{block-decides-no-more}
 use Rattle.frame.proofs.block_decides_no_more.Statement.{statement}
 use Rattle.frame.proofs.block_decides_no_more.Tie as tie
-use Rattle.frame.proofs.block_decides_no_more.Reads as reads
-use Rattle.frame.proofs.block_decides_no_more.Lts as lts
 
--- src/lib.rt:284:1
 returns : tie.Need-returns
 returns c = block-decides-no-more
 

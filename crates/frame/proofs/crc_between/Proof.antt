@@ -10,56 +10,40 @@ use Rattle.frame.proofs.Parts.{between}
 use borrow.Author.Needs.{needs}
 use Rattle.frame.proofs.crc_between.Statement.{statement}
 use Rattle.frame.proofs.crc_between.Tie as tie
-use Rattle.frame.proofs.crc_between.Reads as reads
-use Rattle.frame.proofs.crc_between.Lts as lts
-use Rattle.crc.proofs.update.Reads as update-reads
-use Rattle.frame.proofs.lesser.Reads as lesser-reads
 
--- src/lib.rt:95:9
 lesser-requires : tie.Need-lesser-requires
 lesser-requires c κs = search needs
 
--- src/lib.rt:96:9
 lesser-requires-2 : tie.Need-lesser-requires-2
 lesser-requires-2 c κs = search needs
 
--- src/lib.rt:97:13
 sub-j : tie.Need-sub-j
 sub-j c = search needs
 
--- src/lib.rt:98:13
 sub-f : tie.Need-sub-f
 sub-f c = search needs
 
--- src/lib.rt:99:20
 sub-update : tie.Need-sub-update
 sub-update c = search needs
 
--- src/lib.rt:99:20
 part-update-start : tie.Need-part-update-start
 part-update-start c = search needs
 
--- src/lib.rt:99:20
 part-update-end : tie.Need-part-update-end
 part-update-end c = search needs
 
--- src/lib.rt:99:30
 sub-update-2 : tie.Need-sub-update-2
 sub-update-2 c = search needs
 
--- src/lib.rt:99:30
 part-update-start-2 : tie.Need-part-update-start-2
 part-update-start-2 c = search needs
 
--- src/lib.rt:99:30
 part-update-end-2 : tie.Need-part-update-end-2
 part-update-end-2 c = search needs
 
--- src/lib.rt:99:5
 update-requires : tie.Need-update-requires
 update-requires c κs = search needs
 
--- src/lib.rt:91:1
 returns : tie.Need-returns
 unfolding crcFrom crcOf
 returns c =

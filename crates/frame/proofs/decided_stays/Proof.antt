@@ -3,10 +3,7 @@
 use Rattle.frame.proofs.Stable.{stable}
 use Rattle.frame.proofs.decided_stays.Statement.{statement}
 use Rattle.frame.proofs.decided_stays.Tie as tie
-use Rattle.frame.proofs.decided_stays.Reads as reads
-use Rattle.frame.proofs.decided_stays.Lts as lts
 
--- src/lib.rt:259:1
 returns : tie.Need-returns
 returns c = stable
 

@@ -3,10 +3,7 @@
 use Rattle.frame.proofs.Runs.{ends}
 use Rattle.frame.proofs.end_comes.Statement.{statement}
 use Rattle.frame.proofs.end_comes.Tie as tie
-use Rattle.frame.proofs.end_comes.Reads as reads
-use Rattle.frame.proofs.end_comes.Lts as lts
 
--- src/lib.rt:294:1
 returns : tie.Need-returns
 returns c = λ p held calls l. ends calls p held l
 

@@ -14,23 +14,16 @@ use Rattle.frame.proofs.Apart.{no-frame}
 use borrow.Author.Needs.{needs}
 use Rattle.frame.proofs.is_frame.Statement.{statement}
 use Rattle.frame.proofs.is_frame.Tie as tie
-use Rattle.frame.proofs.is_frame.Reads as reads
-use Rattle.frame.proofs.is_frame.Lts as lts
-use Rattle.frame.proofs.judge.Reads as judge-reads
 
--- src/lib.rt:245:22
 slice-aggregate-judge : tie.Need-slice-aggregate-judge
 slice-aggregate-judge c = search needs
 
--- src/lib.rt:245:9
 judge-requires : tie.Need-judge-requires
 judge-requires c κs = search needs
 
--- src/lib.rt:246:27
 enum-known-v : tie.Need-enum-known-v
 enum-known-v c = search needs
 
--- src/lib.rt:242:1
 judges : (j : tie.After-judge) → j .judge .result ≡ judged (j .before .before .before .args .s .now)
 judges j = j .judge .ensures ∙ ap judged (append-nil (j .before .before .before .args .s .now))
 
@@ -42,7 +35,6 @@ returns c =
     let f = judged-front s n (sym (judges (c .before .before .before)) ∙ c .before .v .given .1) in
     ap (λ (k : ℕ). eqb k (length s)) (f .1) ∙ ap (λ (b : Bool). b && eqb (lengthAt s 0) (length s)) (sym (f .0))
 
--- src/lib.rt:242:1
 returns-2 : tie.Need-returns-2
 unfolding wholeFrame
 returns-2 c =

@@ -17,12 +17,6 @@ use Rattle.frame.proofs.View.{Head, Allowed, allows}
 use borrow.Author.Needs.{needs}
 use Rattle.frame.proofs.judge.Statement.{statement}
 use Rattle.frame.proofs.judge.Tie as tie
-use Rattle.frame.proofs.judge.Reads as reads
-use Rattle.frame.proofs.judge.Lts as lts
-use Rattle.frame.proofs.at.Reads as at-reads
-use Rattle.frame.proofs.crc_between.Reads as crc-between-reads
-use Rattle.frame.proofs.length_allowed.Reads as length-allowed-reads
-use Rattle.frame.proofs.pair_at.Reads as pair-at-reads
 
 -- the run from the place on
 abbrev run : tie.After-shared-slice-known2 → List ℕ
@@ -71,55 +65,44 @@ sums c =
     (ap (λ (x : ℕ). crcOf (drop 4 (take x (run (start u))))) (zero-add (lengthAt (run (start u)) 0) ∙ sym (u .pair-at .ensures))
     ∙ sym (c .before .crc-between .ensures))
 
--- src/lib.rt:113:16
 add-left : tie.Need-add-left
 add-left c = search needs
 
--- src/lib.rt:115:9
 returns : tie.Need-returns
 returns c = sym (empty (run (c .before)) (omega (arith, long (c .before), c .if1 .taken)))
 
--- src/lib.rt:117:8
 at-requires : tie.Need-at-requires
 at-requires c κs = search needs
 
--- src/lib.rt:118:9
 returns-2 : tie.Need-returns-2
 returns-2 c =
     let b = c .before .before .before in
     sym (sync0 (run b) (some (c .before .before)) (λ e. c .if2 .taken (c .before .at .ensures ∙ e)))
 
--- src/lib.rt:121:9
 returns-3 : tie.Need-returns-3
 returns-3 c =
     let b = c .before .before .before .before in
     sym (one (run b) (some (c .before .before .before)) (first (c .before)) (long b ∙ c .if3 .taken))
 
--- src/lib.rt:123:8
 at-requires-2 : tie.Need-at-requires-2
 at-requires-2 c κs = search needs
 
--- src/lib.rt:124:9
 returns-4 : tie.Need-returns-4
 returns-4 c =
     let b = c .before .before .before .before .before .before in
     sym (sync1 (run b) (two (c .before .before)) (first (c .before .before .before)) (λ e. c .if4 .taken (c .before .at2 .ensures ∙ e)))
 
--- src/lib.rt:127:9
 returns-5 : tie.Need-returns-5
 returns-5 c =
     let b = c .before .before .before .before .before .before .before in
     sym (short (run b) (two (c .before .before .before)) (first (c .before .before .before .before)) (second (c .before)) (omega (arith, long b, c .if5 .taken)))
 
--- src/lib.rt:129:9
 pair-at-requires : tie.Need-pair-at-requires
 pair-at-requires c κs = search needs
 
--- src/lib.rt:130:9
 length-allowed-requires : tie.Need-length-allowed-requires
 length-allowed-requires c κs = search needs
 
--- src/lib.rt:131:9
 returns-6 : tie.Need-returns-6
 returns-6 c =
     let u = c .before .before in
@@ -128,11 +111,9 @@ returns-6 c =
     (bad-length (run (start u)) (omega (arith, d .eight)) (d .first) (d .second) (d .eight)
     (ap allowed (sym (u .pair-at .ensures)) ∙ sym (c .before .length-allowed .ensures) ∙ not-true _ (c .if6 .taken)))
 
--- src/lib.rt:133:13
 cast-n : tie.Need-cast-n
 cast-n c = search needs
 
--- src/lib.rt:135:9
 returns-7 : tie.Need-returns-7
 returns-7 c =
     let u = c .before .before .before in
@@ -141,17 +122,14 @@ returns-7 c =
     (part (run (start u)) (omega (arith, d .eight)) (d .first) (d .second) (d .eight) (ok (c .before))
     (omega (arith, long (start u), c .if7 .taken, u .pair-at .ensures)))
 
--- src/lib.rt:137:9
 crc-between-requires : tie.Need-crc-between-requires
 crc-between-requires c κs =
     let u = c .before .before .before in
     (omega (arith, allows (lengthAt (run (start u)) 0) (ok (c .before)) .not-small, u .pair-at .ensures), omega (arith, c .if7 .left))
 
--- src/lib.rt:138:8
 pair-at-requires-2 : tie.Need-pair-at-requires-2
 pair-at-requires-2 c κs = search needs
 
--- src/lib.rt:110:1
 returns-8 : tie.Need-returns-8
 returns-8 c =
     let u = c .before .before .before .before .before .before in
@@ -162,7 +140,6 @@ returns-8 c =
     (sums (c .before) ∙ eq-eqb (c .before .pair-at2 .result) (c .before .before .crc-between .result) (c .if8 .taken))
     ∙ ap Frame (sym (u .pair-at .ensures)))
 
--- src/lib.rt:110:1
 returns-9 : tie.Need-returns-9
 returns-9 c =
     let u = c .before .before .before .before .before .before in

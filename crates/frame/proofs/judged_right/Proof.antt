@@ -3,10 +3,7 @@
 use Rattle.frame.proofs.Standing.{judged-right}
 use Rattle.frame.proofs.judged_right.Statement.{statement}
 use Rattle.frame.proofs.judged_right.Tie as tie
-use Rattle.frame.proofs.judged_right.Reads as reads
-use Rattle.frame.proofs.judged_right.Lts as lts
 
--- src/lib.rt:254:1
 returns : tie.Need-returns
 returns c = judged-right
 

@@ -14,10 +14,6 @@ use Rattle.frame.proofs.Scanning.{no-sync, not-frame}
 use Rattle.frame.proofs.Finishing.{Passed, start, here, again, done, pass-run}
 use Rattle.frame.proofs.last.Statement.{statement}
 use Rattle.frame.proofs.last.Tie as tie
-use Rattle.frame.proofs.last.Reads as reads
-use Rattle.frame.proofs.last.Lts as lts
-use Rattle.frame.proofs.judge.Reads as judge-reads
-use Rattle.frame.proofs.start_from.Reads as start-from-reads
 
 abbrev Inv-loop : tie.InvT-loop
 Inv-loop held k₀ t6 k = (k ≤ length held) × Passed held k
@@ -25,11 +21,9 @@ Inv-loop held k₀ t6 k = (k ≤ length held) × Passed held k
 abbrev μ-loop : tie.MeasureT-loop
 μ-loop held k₀ t6 k = length held - k
 
--- src/lib.rt:218:5
 loop-holds : tie.Need-loop-holds Inv-loop μ-loop
 loop-holds c = (omega arith, start (c .before .args .held .now))
 
--- src/lib.rt:219:13
 start-from-requires : tie.Need-start-from-requires Inv-loop μ-loop
 start-from-requires c κs = search needs
 
@@ -61,37 +55,29 @@ verdict j =
     (append-nil (take (length (run j) - place j) (drop (place j) (run j)))
     ∙ take-all (length (run j) - place j) (drop (place j) (run j)) (omega (arith, length-drop (place j) (run j))))
 
--- src/lib.rt:221:13
 returns : tie.Need-returns Inv-loop μ-loop
 returns c =
     let f = c .before in
     sym (ap endingOf (done (f .before .before .before .before .args .held .now) (f .start-from .result) (there f) (omega (arith, c .if1 .taken))))
 
--- src/lib.rt:226:23
 sub-judge : tie.Need-sub-judge Inv-loop μ-loop
 sub-judge c = omega (arith, inside c)
 
--- src/lib.rt:226:23
 part-judge-start : tie.Need-part-judge-start Inv-loop μ-loop
 part-judge-start c = omega (arith, inside c)
 
--- src/lib.rt:226:23
 part-judge-end : tie.Need-part-judge-end Inv-loop μ-loop
 part-judge-end c = omega (arith, inside c)
 
--- src/lib.rt:226:35
 slice-aggregate-judge : tie.Need-slice-aggregate-judge Inv-loop μ-loop
 slice-aggregate-judge c = refl
 
--- src/lib.rt:226:13
 judge-requires : tie.Need-judge-requires Inv-loop μ-loop
 judge-requires c κs = search needs
 
--- src/lib.rt:227:31
 enum-known-v : tie.Need-enum-known-v Inv-loop μ-loop
 enum-known-v c = search needs
 
--- src/lib.rt:228:13
 returns-2 : tie.Need-returns-2 Inv-loop μ-loop
 returns-2 c =
     let j = c .before .before .before in
@@ -100,15 +86,12 @@ returns-2 c =
     (here (run j) (place j) (there (j .before .before .before .before)) (inside (j .before .before .before)) (c .before .v .given .0 .0)
     (sym (verdict j) ∙ c .before .v .given .1)))
 
--- src/lib.rt:233:13
 add-k : tie.Need-add-k Inv-loop μ-loop
 add-k c = omega (arith, inside (c .before .before .before .before))
 
--- src/lib.rt:218:5
 loop-less : tie.Need-loop-less Inv-loop μ-loop
 loop-less c = let j = c .before in omega (arith, inside (j .before .before .before), j .before .before .before .before .start-from .ensures .from)
 
--- src/lib.rt:218:5
 loop-again : tie.Need-loop-again Inv-loop μ-loop
 loop-again c =
     let j = c .before in (
@@ -117,7 +100,6 @@ loop-again c =
           (λ n e. no-frame (j .judge .result) (c .match .keys2) n (verdict j ∙ e)),
     )
 
--- src/lib.rt:214:1
 returns-3 : tie.Need-returns-3 Inv-loop μ-loop
 returns-3 c =
     let w = c .before .before .before .args .held .now in

@@ -3,10 +3,7 @@
 use Rattle.frame.proofs.Calls.{more-decides-all}
 use Rattle.frame.proofs.more_decides_all.Statement.{statement}
 use Rattle.frame.proofs.more_decides_all.Tie as tie
-use Rattle.frame.proofs.more_decides_all.Reads as reads
-use Rattle.frame.proofs.more_decides_all.Lts as lts
 
--- src/lib.rt:279:1
 returns : tie.Need-returns
 returns c = more-decides-all
 

@@ -4,10 +4,7 @@ use mathlib.Core.List.{[]}
 use Rattle.frame.proofs.Runs.{whole}
 use Rattle.frame.proofs.one_run.Statement.{statement}
 use Rattle.frame.proofs.one_run.Tie as tie
-use Rattle.frame.proofs.one_run.Reads as reads
-use Rattle.frame.proofs.one_run.Lts as lts
 
--- src/lib.rt:289:1
 returns : tie.Need-returns
 returns c = λ pieces room calls e. whole pieces room 0 [] calls e
 

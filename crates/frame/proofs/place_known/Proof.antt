@@ -8,10 +8,7 @@ use Rattle.frame.specs.Session.{feedAll}
 use Rattle.frame.proofs.Calls.{placed, limit}
 use Rattle.frame.proofs.place_known.Statement.{statement}
 use Rattle.frame.proofs.place_known.Tie as tie
-use Rattle.frame.proofs.place_known.Reads as reads
-use Rattle.frame.proofs.place_known.Lts as lts
 
--- src/lib.rt:299:1
 returns : tie.Need-returns
 returns c =
     record {

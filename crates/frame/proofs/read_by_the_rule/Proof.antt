@@ -3,10 +3,7 @@
 use Rattle.frame.proofs.Runs.{rule}
 use Rattle.frame.proofs.read_by_the_rule.Statement.{statement}
 use Rattle.frame.proofs.read_by_the_rule.Tie as tie
-use Rattle.frame.proofs.read_by_the_rule.Reads as reads
-use Rattle.frame.proofs.read_by_the_rule.Lts as lts
 
--- src/lib.rt:269:1
 returns : tie.Need-returns
 returns c = rule
 

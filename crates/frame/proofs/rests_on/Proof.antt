@@ -4,10 +4,7 @@ use Rattle.frame.proofs.View.{view, seen-le}
 use Rattle.frame.proofs.Stable.{agree}
 use Rattle.frame.proofs.rests_on.Statement.{statement}
 use Rattle.frame.proofs.rests_on.Tie as tie
-use Rattle.frame.proofs.rests_on.Reads as reads
-use Rattle.frame.proofs.rests_on.Lts as lts
 
--- src/lib.rt:264:1
 returns : tie.Need-returns
 returns c = record { there = seen-le; same = λ u v n l e. agree u v (view u) n l e }
 

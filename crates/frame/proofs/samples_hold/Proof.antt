@@ -12,10 +12,7 @@ use Rattle.frame.specs.Session.{placesFrom, feedAll}
 use Rattle.frame.specs.Samples.{given}
 use Rattle.frame.proofs.samples_hold.Statement.{statement}
 use Rattle.frame.proofs.samples_hold.Tie as tie
-use Rattle.frame.proofs.samples_hold.Reads as reads
-use Rattle.frame.proofs.samples_hold.Lts as lts
 
--- src/lib.rt:304:1
 returns : tie.Need-returns
 unfolding given readRun readFrom blockAt frameAt syncAt allowed endsWithin crcRight feedAll feedLit settle judged placesFrom littleAt crcOf crcFrom crcByte crcBits8 crcBit
 returns c = refl

@@ -13,47 +13,34 @@ use Rattle.frame.proofs.Scanning.{thenFrom, part-then, last-part}
 use borrow.Author.Needs.{needs}
 use Rattle.frame.proofs.scan.Statement.{statement}
 use Rattle.frame.proofs.scan.Tie as tie
-use Rattle.frame.proofs.scan.Reads as reads
-use Rattle.frame.proofs.scan.Lts as lts
-use Rattle.frame.proofs.scan_part.Reads as scan-part-reads
 
--- src/lib.rt:202:11
 scan-part-requires : tie.Need-scan-part-requires
 scan-part-requires c κs = search needs
 
--- src/lib.rt:203:21
 enum-known-p : tie.Need-enum-known-p
 enum-known-p c = search needs
 
--- src/lib.rt:204:21
 enum-known-p-2 : tie.Need-enum-known-p-2
 enum-known-p-2 c = search needs
 
--- src/lib.rt:205:22
 enum-known-mark : tie.Need-enum-known-mark
 enum-known-mark c = search needs
 
--- src/lib.rt:205:54
 slice-aggregate-scan-part : tie.Need-slice-aggregate-scan-part
 slice-aggregate-scan-part c = search needs
 
--- src/lib.rt:205:37
 scan-part-requires-2 : tie.Need-scan-part-requires-2
 scan-part-requires-2 c κs = search needs
 
--- src/lib.rt:206:25
 enum-known-p-3 : tie.Need-enum-known-p-3
 enum-known-p-3 c = search needs
 
--- src/lib.rt:207:25
 enum-known-p-4 : tie.Need-enum-known-p-4
 enum-known-p-4 c = search needs
 
--- src/lib.rt:208:48
 enum-told : tie.Need-enum-told
 enum-told c = search needs
 
--- src/lib.rt:208:44
 add-t21 : tie.Need-add-t21
 add-t21 c = search needs
 
@@ -82,23 +69,18 @@ second t {x} e =
     ∙ last-part (a .piece .now) (length (a .held .now)) m
     ∙ ap (λ (y : Part). thenFrom y [] (length (a .held .now) + length (a .piece .now))) (sym (t .scan-part2 .ensures) ∙ e)
 
--- src/lib.rt:198:1
 returns : tie.Need-returns
 returns c = sym (first (c .before .before .before) (c .before .p .given .1))
 
--- src/lib.rt:198:1
 returns-2 : tie.Need-returns-2
 returns-2 c = sym (first (c .before .before .before) (c .before .p2 .given .1))
 
--- src/lib.rt:198:1
 returns-3 : tie.Need-returns-3
 returns-3 c = sym (second (c .before .before .before) (c .before .p3 .given .1))
 
--- src/lib.rt:198:1
 returns-4 : tie.Need-returns-4
 returns-4 c = sym (second (c .before .before .before) (c .before .p4 .given .1))
 
--- src/lib.rt:198:1
 returns-5 : tie.Need-returns-5
 unfolding scanFrom
 returns-5 c = sym (second (c .before .before) (c .enum-told .given .1))

@@ -18,11 +18,6 @@ use Rattle.frame.proofs.View.{seen-le}
 use Rattle.frame.proofs.Scanning.{fromPlace, part-at, part-end, skip-run}
 use Rattle.frame.proofs.scan_part.Statement.{statement}
 use Rattle.frame.proofs.scan_part.Tie as tie
-use Rattle.frame.proofs.scan_part.Reads as reads
-use Rattle.frame.proofs.scan_part.Lts as lts
-use Rattle.frame.proofs.greater.Reads as greater-reads
-use Rattle.frame.proofs.judge.Reads as judge-reads
-use Rattle.frame.proofs.start_from.Reads as start-from-reads
 
 abbrev Inv-loop : tie.InvT-loop
 Inv-loop s rest from mark k₀ m₀ k m = (k ≤ length s) × (fromPlace s rest from k m ≡ scanPart s rest from mark)
@@ -30,13 +25,11 @@ Inv-loop s rest from mark k₀ m₀ k m = (k ≤ length s) × (fromPlace s rest 
 abbrev μ-loop : tie.MeasureT-loop
 μ-loop s rest from mark k₀ m₀ k m = length s - k
 
--- src/lib.rt:173:5
 loop-holds : tie.Need-loop-holds Inv-loop μ-loop
 loop-holds c =
     let a = c .before .before .args in
     (omega arith, ap (λ (x : ℕ). scanPart (a .s .now) (a .rest .now) x (a .mark)) (add-zero (a .from)))
 
--- src/lib.rt:174:13
 start-from-requires : tie.Need-start-from-requires Inv-loop μ-loop
 start-from-requires c κs = search needs
 
@@ -94,83 +87,65 @@ within j x e =
     rw (sym (verdict j) ∙ e) at (seen-le (drop (place j) (entry j .args .s .now) ++ entry j .args .rest .now)) in
     omega (arith, h, length-append (drop (place j) (entry j .args .s .now)) (entry j .args .rest .now), length-drop (place j) (entry j .args .s .now), inside (j .before .before))
 
--- src/lib.rt:176:13
 returns : tie.Need-returns Inv-loop μ-loop
 returns c =
     let f = c .before in
     let a = f .before .before .before .before .before .args in
     sym (part-end (a .s .now) (a .rest .now) (a .from) (f .start-from .result) (f .before .before .loop .m) (omega (arith, c .if1 .taken))) ∙ there f
 
--- src/lib.rt:178:23
 sub-judge : tie.Need-sub-judge Inv-loop μ-loop
 sub-judge c = omega (arith, inside c)
 
--- src/lib.rt:178:23
 part-judge-start : tie.Need-part-judge-start Inv-loop μ-loop
 part-judge-start c = omega (arith, inside c)
 
--- src/lib.rt:178:23
 part-judge-end : tie.Need-part-judge-end Inv-loop μ-loop
 part-judge-end c = omega (arith, inside c)
 
--- src/lib.rt:178:13
 judge-requires : tie.Need-judge-requires Inv-loop μ-loop
 judge-requires c κs = search needs
 
--- src/lib.rt:180:28
 enum-known-v : tie.Need-enum-known-v Inv-loop μ-loop
 enum-known-v c = search needs
 
--- src/lib.rt:181:36
 add-t16 : tie.Need-add-t16 Inv-loop μ-loop
 add-t16 c = omega (arith, inside (c .before .before .before .before .before), bound (c .before .before .before))
 
--- src/lib.rt:181:60
 add-greater : tie.Need-add-greater Inv-loop μ-loop
 add-greater c = omega (arith, inside (c .before .before .before .before .before), bound (c .before .before .before))
 
--- src/lib.rt:181:60
 add-greater-2 : tie.Need-add-greater-2 Inv-loop μ-loop
 add-greater-2 c = let j = c .before .before .before in omega (arith, within j (Frame (c .before .v .given .0 .0)) (c .before .v .given .1), bound j)
 
--- src/lib.rt:181:49
 greater-requires : tie.Need-greater-requires Inv-loop μ-loop
 greater-requires c κs = search needs
 
--- src/lib.rt:181:17
 returns-2 : tie.Need-returns-2 Inv-loop μ-loop
 returns-2 c =
     let j = c .before .before .before .before in
     let v = c .before .before .v in
     sym (here j ∙ ap (goes j) (v .given .1) ∙ ap (Block (entry j .args .from + place j) (v .given .0 .0)) (sym (c .greater .ensures)))
 
--- src/lib.rt:184:36
 enum-told : tie.Need-enum-told Inv-loop μ-loop
 enum-told c = search needs
 
--- src/lib.rt:184:36
 add-t20 : tie.Need-add-t20 Inv-loop μ-loop
 add-t20 c = omega (arith, inside (c .before .before .before .before), bound (c .before .before))
 
--- src/lib.rt:184:17
 returns-3 : tie.Need-returns-3 Inv-loop μ-loop
 returns-3 c =
     let j = c .before .before in
     sym (here j ∙ ap (goes j) (c .enum-told .given .1))
 
--- src/lib.rt:186:31
 enum-known-v-2 : tie.Need-enum-known-v-2 Inv-loop μ-loop
 enum-known-v-2 c = search needs
 
--- src/lib.rt:187:32
 add-greater-3 : tie.Need-add-greater-3 Inv-loop μ-loop
 add-greater-3 c = omega (arith, inside (c .before .before .before .before .before), bound (c .before .before .before))
 
--- src/lib.rt:187:32
 add-greater-4 : tie.Need-add-greater-4 Inv-loop μ-loop
 add-greater-4 c = let j = c .before .before .before in omega (arith, within j (CrcWrong (c .before .v2 .given .0 .0)) (c .before .v2 .given .1), bound j)
 
--- src/lib.rt:187:17
 greater-requires-2 : tie.Need-greater-requires-2 Inv-loop μ-loop
 greater-requires-2 c κs = search needs
 

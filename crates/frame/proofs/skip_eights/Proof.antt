@@ -8,8 +8,6 @@ use Rattle.frame.proofs.Tests.{lt?}
 use Rattle.frame.proofs.Eights.{none-of-eight}
 use Rattle.frame.proofs.skip_eights.Statement.{statement}
 use Rattle.frame.proofs.skip_eights.Tie as tie
-use Rattle.frame.proofs.skip_eights.Reads as reads
-use Rattle.frame.proofs.skip_eights.Lts as lts
 
 abbrev Inv-loop : tie.InvT-loop
 Inv-loop s i k₀ k = NoDollar s i k
@@ -17,87 +15,66 @@ Inv-loop s i k₀ k = NoDollar s i k
 abbrev μ-loop : tie.MeasureT-loop
 μ-loop s i k₀ k = length s - k
 
--- src/lib.rt:151:5
 loop-holds : tie.Need-loop-holds Inv-loop μ-loop
 loop-holds c = record { from = omega arith; within = omega arith; none = λ k l m e. let f : ⊥ = omega arith in absurd f }
 
--- src/lib.rt:151:16
 sub-loop : tie.Need-sub-loop Inv-loop μ-loop
 sub-loop c = c .loop .inv .within
 
--- src/lib.rt:152:20
 shared-slice-read-low : tie.Need-shared-slice-read-low Inv-loop μ-loop
 shared-slice-read-low c = omega arith
 
--- src/lib.rt:152:39
 add-low : tie.Need-add-low Inv-loop μ-loop
 add-low c = omega arith
 
--- src/lib.rt:152:37
 shared-slice-read-low-2 : tie.Need-shared-slice-read-low-2 Inv-loop μ-loop
 shared-slice-read-low-2 c = omega arith
 
--- src/lib.rt:152:60
 add-low-2 : tie.Need-add-low-2 Inv-loop μ-loop
 add-low-2 c = omega arith
 
--- src/lib.rt:152:58
 shared-slice-read-low-3 : tie.Need-shared-slice-read-low-3 Inv-loop μ-loop
 shared-slice-read-low-3 c = omega arith
 
--- src/lib.rt:152:81
 add-low-3 : tie.Need-add-low-3 Inv-loop μ-loop
 add-low-3 c = omega arith
 
--- src/lib.rt:152:79
 shared-slice-read-low-4 : tie.Need-shared-slice-read-low-4 Inv-loop μ-loop
 shared-slice-read-low-4 c = omega arith
 
--- src/lib.rt:153:23
 add-high : tie.Need-add-high Inv-loop μ-loop
 add-high c = omega arith
 
--- src/lib.rt:153:21
 shared-slice-read-high : tie.Need-shared-slice-read-high Inv-loop μ-loop
 shared-slice-read-high c = omega arith
 
--- src/lib.rt:153:44
 add-high-2 : tie.Need-add-high-2 Inv-loop μ-loop
 add-high-2 c = omega arith
 
--- src/lib.rt:153:42
 shared-slice-read-high-2 : tie.Need-shared-slice-read-high-2 Inv-loop μ-loop
 shared-slice-read-high-2 c = omega arith
 
--- src/lib.rt:153:65
 add-high-3 : tie.Need-add-high-3 Inv-loop μ-loop
 add-high-3 c = omega arith
 
--- src/lib.rt:153:63
 shared-slice-read-high-3 : tie.Need-shared-slice-read-high-3 Inv-loop μ-loop
 shared-slice-read-high-3 c = omega arith
 
--- src/lib.rt:153:86
 add-high-4 : tie.Need-add-high-4 Inv-loop μ-loop
 add-high-4 c = omega arith
 
--- src/lib.rt:153:84
 shared-slice-read-high-4 : tie.Need-shared-slice-read-high-4 Inv-loop μ-loop
 shared-slice-read-high-4 c = omega arith
 
--- src/lib.rt:155:13
 returns : tie.Need-returns Inv-loop μ-loop
 returns c = c .before .before .before .before .before .before .before .before .before .before .loop .inv
 
--- src/lib.rt:157:9
 add-k : tie.Need-add-k Inv-loop μ-loop
 add-k c = omega arith
 
--- src/lib.rt:151:5
 loop-less : tie.Need-loop-less Inv-loop μ-loop
 loop-less c = omega arith
 
--- src/lib.rt:151:5
 loop-again : tie.Need-loop-again Inv-loop μ-loop
 loop-again c =
     let l = c .before .before .before .before .before .before .before .before .before .before .loop in
@@ -110,7 +87,6 @@ loop-again c =
           lt? k (l .k) (λ b. l .inv .none k lo b e) (λ b. none-of-eight s (l .k) (c .if1 .left) k b hi e);
     }
 
--- src/lib.rt:146:1
 returns-2 : tie.Need-returns-2 Inv-loop μ-loop
 returns-2 c = c .before .loop .inv
 

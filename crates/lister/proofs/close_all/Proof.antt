@@ -6,9 +6,6 @@ use lib.ListN.{length}
 use borrow.Author.Needs.{needs}
 use Rattle.lister.proofs.close_all.Statement.{statement}
 use Rattle.lister.proofs.close_all.Tie as tie
-use Rattle.lister.proofs.close_all.Reads as reads
-use Rattle.lister.proofs.close_all.Lts as lts
-use Rattle.lister.proofs.close.Reads as close-reads
 
 abbrev Inv-loop : tie.InvT-loop
 Inv-loop hold₀ out₀ now₀ turns₀ hold out now turns = (now .filled ≤ 8192) × (length hold ≡ length hold₀)

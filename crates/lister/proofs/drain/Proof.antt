@@ -8,10 +8,6 @@ use Rattle.lister.proofs.Laws.{within}
 use borrow.Author.Needs.{needs}
 use Rattle.lister.proofs.drain.Statement.{statement}
 use Rattle.lister.proofs.drain.Tie as tie
-use Rattle.lister.proofs.drain.Reads as reads
-use Rattle.lister.proofs.drain.Lts as lts
-use Rattle.lister.proofs.offer.Reads as offer-reads
-use Rattle.lister.proofs.so_far.Reads as so-far-reads
 
 abbrev Inv-loop : tie.InvT-loop
 Inv-loop hold₀ piece out₀ filled now₀ at₀ turns₀ hold out now at turns = (now .filled ≤ 8192) × (at ≤ length piece) × (length hold ≡ length hold₀)

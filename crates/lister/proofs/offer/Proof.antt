@@ -11,11 +11,6 @@ use Rattle.lister.proofs.Laws.{takenOf, taken-few}
 use borrow.Author.Needs.{needs}
 use Rattle.lister.proofs.offer.Statement.{statement}
 use Rattle.lister.proofs.offer.Tie as tie
-use Rattle.lister.proofs.offer.Reads as reads
-use Rattle.lister.proofs.offer.Lts as lts
-use Rattle.lister.proofs.list_block.Reads as list-block-reads
-use Rattle.lister.proofs.so_far.Reads as so-far-reads
-use Rattle.reader.proofs.runs.feed.Reads as feed-reads
 
 few : (d : tie.After-feed) → takenOf (saidFed (d .feed .result .answer)) ≤ length (d .before .before .before .before .args .piece .now)
 few d =

@@ -6,12 +6,6 @@ use lib.ListN.{length}
 use borrow.Author.Needs.{needs}
 use Rattle.lister.proofs.read_all.Statement.{statement}
 use Rattle.lister.proofs.read_all.Tie as tie
-use Rattle.lister.proofs.read_all.Reads as reads
-use Rattle.lister.proofs.read_all.Lts as lts
-use Rattle.io.proofs.large_buffer.Reads as large-buffer-reads
-use Rattle.lister.proofs.goes_on.Reads as goes-on-reads
-use Rattle.lister.proofs.so_far.Reads as so-far-reads
-use Rattle.lister.proofs.turn.Reads as turn-reads
 
 abbrev Inv-loop : tie.InvT-loop
 Inv-loop hold₀ out₀ buf₀ now₀ turns₀ hold out buf now turns = (now .filled ≤ 8192) × (length hold ≡ length hold₀) × (length buf ≡ 65536)

@@ -4,9 +4,6 @@ use lib.Seq.{length-take-le}
 use borrow.Author.Needs.{needs}
 use Rattle.lister.proofs.write.Statement.{statement}
 use Rattle.lister.proofs.write.Tie as tie
-use Rattle.lister.proofs.write.Reads as reads
-use Rattle.lister.proofs.write.Lts as lts
-use Rattle.io.proofs.write_all.Reads as write-all-reads
 
 slice-aggregate-write-all : tie.Need-slice-aggregate-write-all
 slice-aggregate-write-all c = search (needs, length-take-le)

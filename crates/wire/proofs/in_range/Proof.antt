@@ -2,10 +2,7 @@
 use Rattle.wire.proofs.Laws.{range}
 use Rattle.wire.proofs.in_range.Statement.{statement}
 use Rattle.wire.proofs.in_range.Tie as tie
-use Rattle.wire.proofs.in_range.Reads as reads
-use Rattle.wire.proofs.in_range.Lts as lts
 
--- src/lib.rt:54:1
 returns : tie.Need-returns
 returns c = range
 

@@ -3,10 +3,7 @@
 use lib.Bits.{and-mask}
 use Rattle.wire.proofs.number.Statement.{statement}
 use Rattle.wire.proofs.number.Tie as tie
-use Rattle.wire.proofs.number.Reads as reads
-use Rattle.wire.proofs.number.Lts as lts
 
--- src/lib.rt:39:1
 returns : tie.Need-returns
 returns c = and-mask (c .args .id) 13
 

@@ -7,39 +7,28 @@ use Rattle.wire.proofs.Laws.{join}
 use borrow.Author.Needs.{needs}
 use Rattle.wire.proofs.u8.Statement.{statement}
 use Rattle.wire.proofs.u8.Tie as tie
-use Rattle.wire.proofs.u8.Reads as reads
-use Rattle.wire.proofs.u8.Lts as lts
-use Rattle.wire.proofs.u4.Reads as u4-reads
 
--- src/lib.rt:35:6
 u4-requires : tie.Need-u4-requires
 u4-requires c κs = search needs
 
--- src/lib.rt:35:6
 cast-result : tie.Need-cast-result
 cast-result c = search needs
 
--- src/lib.rt:35:46
 add-u4 : tie.Need-add-u4
 add-u4 c = search needs
 
--- src/lib.rt:35:40
 u4-requires-2 : tie.Need-u4-requires-2
 u4-requires-2 c κs = search needs
 
--- src/lib.rt:35:40
 cast-result-2 : tie.Need-cast-result-2
 cast-result-2 c = search needs
 
--- src/lib.rt:35:26
 mul-result : tie.Need-mul-result
 mul-result c = search needs
 
--- src/lib.rt:35:5
 add-result : tie.Need-add-result
 add-result c = search needs
 
--- src/lib.rt:31:1
 returns : tie.Need-returns
 returns c =
     ap₂ (λ (x y : ℕ). x + 256 ^ 4 * y) (c .before .u4 .ensures) (c .u42 .ensures) ∙ sym (join 4 4 _ _)

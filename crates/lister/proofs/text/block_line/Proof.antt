@@ -10,10 +10,6 @@ use Rattle.lister.proofs.Joins.{joined}
 use borrow.Author.Needs.{needs}
 use Rattle.lister.proofs.text.block_line.Statement.{statement}
 use Rattle.lister.proofs.text.block_line.Tie as tie
-use Rattle.lister.proofs.text.block_line.Reads as reads
-use Rattle.lister.proofs.text.block_line.Lts as lts
-use Rattle.lister.proofs.text.number.Reads as number-reads
-use Rattle.lister.proofs.text.put.Reads as put-reads
 
 slice-aggregate-put : tie.Need-slice-aggregate-put
 slice-aggregate-put c = search needs

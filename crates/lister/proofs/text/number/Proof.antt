@@ -10,11 +10,6 @@ use Rattle.lister.proofs.Joins.{joined, decimal-is}
 use borrow.Author.Needs.{needs}
 use Rattle.lister.proofs.text.number.Statement.{statement}
 use Rattle.lister.proofs.text.number.Tie as tie
-use Rattle.lister.proofs.text.number.Reads as reads
-use Rattle.lister.proofs.text.number.Lts as lts
-use Rattle.io.proofs.decimal.Reads as decimal-reads
-use Rattle.lister.proofs.text.put.Reads as put-reads
-use Rattle.lister.proofs.text.put_digits.Reads as put-digits-reads
 
 decimal-requires : tie.Need-decimal-requires
 decimal-requires c κs = search needs

@@ -9,9 +9,6 @@ use Rattle.lister.proofs.Joins.{copied-all}
 use borrow.Author.Needs.{needs}
 use Rattle.lister.proofs.text.put.Statement.{statement}
 use Rattle.lister.proofs.text.put.Tie as tie
-use Rattle.lister.proofs.text.put.Reads as reads
-use Rattle.lister.proofs.text.put.Lts as lts
-use Rattle.feed.proofs.copy_in.Reads as copy-in-reads
 
 copy-in-requires : tie.Need-copy-in-requires
 copy-in-requires c κs = search needs

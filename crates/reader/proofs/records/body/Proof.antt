@@ -13,41 +13,31 @@ use Rattle.reader.proofs.Asking.{asked, unless-refused, unless-none}
 use borrow.Author.Needs.{needs}
 use Rattle.reader.proofs.records.body.Statement.{statement}
 use Rattle.reader.proofs.records.body.Tie as tie
-use Rattle.reader.proofs.records.body.Reads as reads
-use Rattle.reader.proofs.records.body.Lts as lts
-use Rattle.reader.proofs.records.of_ask.Reads as of-ask-reads
-use Rattle.record.proofs.body_field.Reads as body-field-reads
 
--- src/records.rt:36:9
 of-ask-requires : tie.Need-of-ask-requires
 of-ask-requires c κs = search needs
 
--- src/records.rt:39:24
 enum-known-c : tie.Need-enum-known-c
 enum-known-c c = search needs
 
--- src/records.rt:40:45
 enum-told : tie.Need-enum-told
 enum-told c = search needs
 
 free : (e : tie.After-enum-told) → askRefusal (e .before .before .before .before .before .args .s) (e .before .before .before .before .before .args .in-force .now) ≡ none
 free e = sym (e .before .before .of-ask .ensures) ∙ ap refusalOf (e .enum-told .given .1)
 
--- src/records.rt:40:45
 slice-aggregate-body-field : tie.Need-slice-aggregate-body-field
 slice-aggregate-body-field c =
     let e = c .before in
     let a = e .before .before .before .before .before .args in
     sym (length-take-le _ _ (asked (a .s) (a .in-force .now) (free e) .fits))
 
--- src/records.rt:40:26
 body-field-requires : tie.Need-body-field-requires
 body-field-requires c κs =
     let e = c .before in
     let a = e .before .before .before .before .before .args in
     asked (a .s) (a .in-force .now) (free e) .ok
 
--- src/records.rt:33:1
 returns : tie.Need-returns
 unfolding bodyOf
 returns c =
@@ -55,7 +45,6 @@ returns c =
     let a = o .before .before .before .args in
     unless-refused (askRefusal (a .s) (a .in-force .now)) (c .before .c .given .0 .0) (bodyField (decode (tableInForce (a .s) (a .in-force .now))) (a .block .now) (a .i)) (sym (o .of-ask .ensures) ∙ ap refusalOf (c .before .c .given .1))
 
--- src/records.rt:33:1
 returns-2 : tie.Need-returns-2
 unfolding bodyOf
 returns-2 c =

@@ -15,12 +15,7 @@ use Rattle.reader.proofs.Laws.{with-store}
 use borrow.Author.Needs.{needs}
 use Rattle.reader.proofs.records.of_ask.Statement.{statement}
 use Rattle.reader.proofs.records.of_ask.Tie as tie
-use Rattle.reader.proofs.records.of_ask.Reads as reads
-use Rattle.reader.proofs.records.of_ask.Lts as lts
-use Rattle.reader.proofs.refusals.is_sound.Reads as is-sound-reads
-use Rattle.table.proofs.check.Reads as check-reads
 
--- src/records.rt:18:10
 is-sound-requires : tie.Need-is-sound-requires
 is-sound-requires c κs = search needs
 
@@ -38,17 +33,14 @@ none-in c = le-ltb 0 (c .before .before .before .before .args .s .«in_force») 
 some-in : (c : tie.Else2) → 0 < c .before .before .before .before .args .s .«in_force»
 some-in c = omega (arith, c .if2 .left)
 
--- src/records.rt:19:9
 returns : tie.Need-returns
 unfolding askRefusal
 returns c = simp (one (c .before) (not-true _ (c .if1 .taken)))
 
--- src/records.rt:23:9
 returns-2 : tie.Need-returns-2
 unfolding askRefusal
 returns-2 c = simp (long (c .before), none-in c)
 
--- src/records.rt:25:26
 slice-aggregate-check : tie.Need-slice-aggregate-check
 slice-aggregate-check c =
     let e = c .before .before in
@@ -56,19 +48,15 @@ slice-aggregate-check c =
     let f = with-store (a .s) (a .in-force .now) (long e) in
     sym (length-take-le _ _ (omega (arith, f .0 .«in_force», f .1)))
 
--- src/records.rt:25:9
 check-requires : tie.Need-check-requires
 check-requires c κs = search needs
 
--- src/records.rt:27:32
 enum-told : tie.Need-enum-told
 enum-told c = search needs
 
--- src/records.rt:28:43
 enum-told-2 : tie.Need-enum-told-2
 enum-told-2 c = search needs
 
--- src/records.rt:15:1
 returns-3 : tie.Need-returns-3
 unfolding askRefusal
 returns-3 c =
@@ -76,7 +64,6 @@ returns-3 c =
     let e = k .before .before in
     simp (long (e .before), lt-ltb 0 _ (some-in e), version-passes _ (k .check .ensures) (c .enum-told .given .1) .0)
 
--- src/records.rt:15:1
 returns-4 : tie.Need-returns-4
 unfolding askRefusal
 returns-4 c =

@@ -13,45 +13,34 @@ use Rattle.reader.proofs.Asking.{asked, unless-refused, unless-none}
 use borrow.Author.Needs.{needs}
 use Rattle.reader.proofs.records.sub_bytes.Statement.{statement}
 use Rattle.reader.proofs.records.sub_bytes.Tie as tie
-use Rattle.reader.proofs.records.sub_bytes.Reads as reads
-use Rattle.reader.proofs.records.sub_bytes.Lts as lts
-use Rattle.reader.proofs.records.of_ask.Reads as of-ask-reads
-use Rattle.record.proofs.sub_block.Reads as sub-block-reads
 
--- src/records.rt:60:9
 of-ask-requires : tie.Need-of-ask-requires
 of-ask-requires c κs = search needs
 
--- src/records.rt:63:30
 enum-told : tie.Need-enum-told
 enum-told c = search needs
 
--- src/records.rt:63:30
 slice-aggregate-result : tie.Need-slice-aggregate-result
 slice-aggregate-result c = search needs
 
--- src/records.rt:64:44
 enum-told-2 : tie.Need-enum-told-2
 enum-told-2 c = search needs
 
 free : (e : tie.After-enum-told2) → askRefusal (e .before .before .before .before .before .args .s) (e .before .before .before .before .before .args .in-force .now) ≡ none
 free e = sym (e .before .before .of-ask .ensures) ∙ ap refusalOf (e .enum-told2 .given .1)
 
--- src/records.rt:64:44
 slice-aggregate-sub-block : tie.Need-slice-aggregate-sub-block
 slice-aggregate-sub-block c =
     let e = c .before in
     let a = e .before .before .before .before .before .args in
     sym (length-take-le _ _ (asked (a .s) (a .in-force .now) (free e) .fits))
 
--- src/records.rt:64:26
 sub-block-requires : tie.Need-sub-block-requires
 sub-block-requires c κs =
     let e = c .before in
     let a = e .before .before .before .before .before .args in
     asked (a .s) (a .in-force .now) (free e) .ok
 
--- src/records.rt:57:1
 returns : tie.Need-returns
 unfolding subBytesOf
 returns c =
@@ -60,7 +49,6 @@ returns c =
     let a = o .before .before .before .args in
     sym (ap (λ (x : Option ℕ). partUnless x (subBlock (decode (tableInForce (a .s) (a .in-force .now))) (a .block .now) (a .k))) (sym (o .of-ask .ensures) ∙ ap refusalOf (e .enum-told .given .1)))
 
--- src/records.rt:57:1
 returns-2 : tie.Need-returns-2
 unfolding subBytesOf
 returns-2 c =

@@ -13,41 +13,31 @@ use Rattle.reader.proofs.Asking.{asked, unless-refused, unless-none}
 use borrow.Author.Needs.{needs}
 use Rattle.reader.proofs.records.sub_bytes_refused.Statement.{statement}
 use Rattle.reader.proofs.records.sub_bytes_refused.Tie as tie
-use Rattle.reader.proofs.records.sub_bytes_refused.Reads as reads
-use Rattle.reader.proofs.records.sub_bytes_refused.Lts as lts
-use Rattle.reader.proofs.records.of_ask.Reads as of-ask-reads
-use Rattle.record.proofs.sub_block_refusal.Reads as sub-block-refusal-reads
 
--- src/records.rt:72:9
 of-ask-requires : tie.Need-of-ask-requires
 of-ask-requires c κs = search needs
 
--- src/records.rt:75:24
 enum-known-c : tie.Need-enum-known-c
 enum-known-c c = search needs
 
--- src/records.rt:76:52
 enum-told : tie.Need-enum-told
 enum-told c = search needs
 
 free : (e : tie.After-enum-told) → askRefusal (e .before .before .before .before .before .args .s) (e .before .before .before .before .before .args .in-force .now) ≡ none
 free e = sym (e .before .before .of-ask .ensures) ∙ ap refusalOf (e .enum-told .given .1)
 
--- src/records.rt:76:52
 slice-aggregate-sub-block-refusal : tie.Need-slice-aggregate-sub-block-refusal
 slice-aggregate-sub-block-refusal c =
     let e = c .before in
     let a = e .before .before .before .before .before .args in
     sym (length-take-le _ _ (asked (a .s) (a .in-force .now) (free e) .fits))
 
--- src/records.rt:76:26
 sub-block-refusal-requires : tie.Need-sub-block-refusal-requires
 sub-block-refusal-requires c κs =
     let e = c .before in
     let a = e .before .before .before .before .before .args in
     asked (a .s) (a .in-force .now) (free e) .ok
 
--- src/records.rt:69:1
 returns : tie.Need-returns
 unfolding subBytesRefusal
 returns c =
@@ -55,7 +45,6 @@ returns c =
     let a = o .before .before .before .args in
     sym (ap (λ (x : Option ℕ). firstOf x (subBlockRefusal (decode (tableInForce (a .s) (a .in-force .now))) (a .block .now) (a .k))) (sym (o .of-ask .ensures) ∙ ap refusalOf (c .before .c .given .1)))
 
--- src/records.rt:69:1
 returns-2 : tie.Need-returns-2
 unfolding subBytesRefusal
 returns-2 c =

@@ -12,20 +12,13 @@ use Rattle.reader.proofs.Asking.{unless-refused, unless-none}
 use borrow.Author.Needs.{needs}
 use Rattle.reader.proofs.records.tow.Statement.{statement}
 use Rattle.reader.proofs.records.tow.Tie as tie
-use Rattle.reader.proofs.records.tow.Reads as reads
-use Rattle.reader.proofs.records.tow.Lts as lts
-use Rattle.reader.proofs.refusals.is_sound.Reads as is-sound-reads
-use Rattle.record.proofs.tow.Reads as tow-reads
 
--- src/records.rt:84:8
 is-sound-requires : tie.Need-is-sound-requires
 is-sound-requires c κs = search needs
 
--- src/records.rt:85:9
 tow-requires : tie.Need-tow-requires
 tow-requires c κs = search needs
 
--- src/records.rt:81:1
 returns : tie.Need-returns
 unfolding stampOf
 returns c =
@@ -33,7 +26,6 @@ returns c =
     let a = m .before .before .args in
     unless-none (need (sound (a .s)) 1 none) (stamp towRow (a .block .now)) (ap (λ (b : Bool). need b 1 none) (sym (m .is-sound .ensures) ∙ c .before .if1 .taken)) (c .tow .ensures)
 
--- src/records.rt:81:1
 returns-2 : tie.Need-returns-2
 unfolding stampOf
 returns-2 c =

@@ -12,20 +12,13 @@ use Rattle.reader.proofs.Asking.{unless-refused, unless-none}
 use borrow.Author.Needs.{needs}
 use Rattle.reader.proofs.records.wnc.Statement.{statement}
 use Rattle.reader.proofs.records.wnc.Tie as tie
-use Rattle.reader.proofs.records.wnc.Reads as reads
-use Rattle.reader.proofs.records.wnc.Lts as lts
-use Rattle.reader.proofs.refusals.is_sound.Reads as is-sound-reads
-use Rattle.record.proofs.wnc.Reads as wnc-reads
 
--- src/records.rt:95:8
 is-sound-requires : tie.Need-is-sound-requires
 is-sound-requires c κs = search needs
 
--- src/records.rt:96:9
 wnc-requires : tie.Need-wnc-requires
 wnc-requires c κs = search needs
 
--- src/records.rt:92:1
 returns : tie.Need-returns
 unfolding stampOf
 returns c =
@@ -33,7 +26,6 @@ returns c =
     let a = m .before .before .args in
     unless-none (need (sound (a .s)) 1 none) (stamp wncRow (a .block .now)) (ap (λ (b : Bool). need b 1 none) (sym (m .is-sound .ensures) ∙ c .before .if1 .taken)) (c .wnc .ensures)
 
--- src/records.rt:92:1
 returns-2 : tie.Need-returns-2
 unfolding stampOf
 returns-2 c =

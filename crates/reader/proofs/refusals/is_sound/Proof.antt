@@ -4,10 +4,7 @@ use mathlib.Core.Path.{_≡_, refl, sym, ap, _∙_}
 use Rattle.reader.specs.State.{sound}
 use Rattle.reader.proofs.refusals.is_sound.Statement.{statement}
 use Rattle.reader.proofs.refusals.is_sound.Tie as tie
-use Rattle.reader.proofs.refusals.is_sound.Reads as reads
-use Rattle.reader.proofs.refusals.is_sound.Lts as lts
 
--- src/refusals.rt:21:1
 returns : tie.Need-returns
 unfolding sound
 returns c = refl

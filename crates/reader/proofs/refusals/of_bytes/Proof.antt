@@ -7,11 +7,7 @@ use Rattle.reader.specs.Refusals.{longHold, bytesRefusal}
 use borrow.Author.Needs.{needs}
 use Rattle.reader.proofs.refusals.of_bytes.Statement.{statement}
 use Rattle.reader.proofs.refusals.of_bytes.Tie as tie
-use Rattle.reader.proofs.refusals.of_bytes.Reads as reads
-use Rattle.reader.proofs.refusals.of_bytes.Lts as lts
-use Rattle.reader.proofs.refusals.is_sound.Reads as is-sound-reads
 
--- src/refusals.rt:161:8
 is-sound-requires : tie.Need-is-sound-requires
 is-sound-requires c κs = search needs
 
@@ -20,12 +16,10 @@ one : (c : tie.After-is-sound) {b : Bool} → (c .is-sound .result && longHold (
     → (sound (c .before .before .args .s) && longHold (c .before .before .args .hold .now)) ≡ b
 one c e = ap (λ (x : Bool). x && longHold (c .before .before .args .hold .now)) (sym (c .is-sound .ensures)) ∙ e
 
--- src/refusals.rt:158:1
 returns : tie.Need-returns
 unfolding bytesRefusal
 returns c = simp (one (c .before) (c .if1 .taken))
 
--- src/refusals.rt:158:1
 returns-2 : tie.Need-returns-2
 unfolding bytesRefusal
 returns-2 c = simp (one (c .before) (c .if1 .left))

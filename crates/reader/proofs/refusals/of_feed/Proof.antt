@@ -10,13 +10,7 @@ use Rattle.reader.proofs.Laws.{with-hold}
 use borrow.Author.Needs.{needs}
 use Rattle.reader.proofs.refusals.of_feed.Statement.{statement}
 use Rattle.reader.proofs.refusals.of_feed.Tie as tie
-use Rattle.reader.proofs.refusals.of_feed.Reads as reads
-use Rattle.reader.proofs.refusals.of_feed.Lts as lts
-use Rattle.reader.proofs.refusals.gives_block.Reads as gives-block-reads
-use Rattle.reader.proofs.refusals.is_feeding.Reads as is-feeding-reads
-use Rattle.reader.proofs.refusals.is_sound.Reads as is-sound-reads
 
--- src/refusals.rt:119:10
 is-sound-requires : tie.Need-is-sound-requires
 is-sound-requires c κs = search needs
 
@@ -31,33 +25,27 @@ long c = one (c .before) (not-false _ (c .if1 .left))
 fed : (c : tie.Else2) → isFeeding (c .before .before .before .before .before .before .before .args .s .run .phase) ≡ true
 fed c = sym (c .before .is-feeding .ensures) ∙ not-false _ (c .if2 .left)
 
--- src/refusals.rt:120:9
 returns : tie.Need-returns
 unfolding feedRefusal
 returns c = simp (one (c .before) (not-true _ (c .if1 .taken)))
 
--- src/refusals.rt:124:9
 is-feeding-requires : tie.Need-is-feeding-requires
 is-feeding-requires c κs = search needs
 
--- src/refusals.rt:125:9
 returns-2 : tie.Need-returns-2
 unfolding feedRefusal
 returns-2 c = simp (long (c .before .before .before), sym (c .before .is-feeding .ensures) ∙ not-true _ (c .if2 .taken))
 
--- src/refusals.rt:128:9
 returns-3 : tie.Need-returns-3
 unfolding feedRefusal
 returns-3 c = let e = c .before .before in simp (long (e .before .before .before), fed e, lt-ltb _ _ (c .if3 .taken))
 
--- src/refusals.rt:131:9
 returns-4 : tie.Need-returns-4
 unfolding feedRefusal
 returns-4 c =
     let e = c .before .before .before in
     simp (long (e .before .before .before), fed e, le-ltb _ _ (c .before .if3 .left), eq-eqb _ _ (c .if4 .taken))
 
--- src/refusals.rt:135:8
 gives-block-requires : tie.Need-gives-block-requires
 gives-block-requires c κs =
     let e = c .before .before .before in
@@ -65,14 +53,12 @@ gives-block-requires c κs =
     let f = with-hold (a .s) (a .hold .now) (long (e .before .before .before)) in
     (f .0 .front, omega (arith, f .0 .held, f .1))
 
--- src/refusals.rt:116:1
 returns-5 : tie.Need-returns-5
 unfolding feedRefusal
 returns-5 c =
     let e = c .before .before .before .before .before in
     simp (long (e .before .before .before), fed e, le-ltb _ _ (c .before .before .before .if3 .left), ne-eqb _ _ (c .before .before .if4 .left), sym (c .before .gives-block .ensures) ∙ c .if5 .taken)
 
--- src/refusals.rt:116:1
 returns-6 : tie.Need-returns-6
 unfolding feedRefusal
 returns-6 c =

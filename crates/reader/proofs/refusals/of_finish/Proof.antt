@@ -8,12 +8,7 @@ use Rattle.reader.specs.Refusals.{longHold, finishRefusal}
 use borrow.Author.Needs.{needs}
 use Rattle.reader.proofs.refusals.of_finish.Statement.{statement}
 use Rattle.reader.proofs.refusals.of_finish.Tie as tie
-use Rattle.reader.proofs.refusals.of_finish.Reads as reads
-use Rattle.reader.proofs.refusals.of_finish.Lts as lts
-use Rattle.reader.proofs.refusals.is_closed.Reads as is-closed-reads
-use Rattle.reader.proofs.refusals.is_sound.Reads as is-sound-reads
 
--- src/refusals.rt:146:10
 is-sound-requires : tie.Need-is-sound-requires
 is-sound-requires c κs = search needs
 
@@ -22,21 +17,17 @@ one : (c : tie.After-is-sound) {b : Bool} → (c .is-sound .result && longHold (
     → (sound (c .before .before .args .s) && longHold (c .before .before .args .hold .now)) ≡ b
 one c e = ap (λ (x : Bool). x && longHold (c .before .before .args .hold .now)) (sym (c .is-sound .ensures)) ∙ e
 
--- src/refusals.rt:147:9
 returns : tie.Need-returns
 unfolding finishRefusal
 returns c = simp (one (c .before) (not-true _ (c .if1 .taken)))
 
--- src/refusals.rt:151:8
 is-closed-requires : tie.Need-is-closed-requires
 is-closed-requires c κs = search needs
 
--- src/refusals.rt:152:9
 returns-2 : tie.Need-returns-2
 unfolding finishRefusal
 returns-2 c = simp (one (c .before .before .before .before) (not-false _ (c .before .before .before .if1 .left)), sym (c .before .is-closed .ensures) ∙ c .if2 .taken)
 
--- src/refusals.rt:143:1
 returns-3 : tie.Need-returns-3
 unfolding finishRefusal
 returns-3 c = simp (one (c .before .before .before .before) (not-false _ (c .before .before .before .if1 .left)), sym (c .before .is-closed .ensures) ∙ c .if2 .left)

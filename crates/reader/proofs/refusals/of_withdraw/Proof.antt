@@ -5,20 +5,14 @@ use Rattle.reader.specs.Refusals.{withdrawRefusal}
 use borrow.Author.Needs.{needs}
 use Rattle.reader.proofs.refusals.of_withdraw.Statement.{statement}
 use Rattle.reader.proofs.refusals.of_withdraw.Tie as tie
-use Rattle.reader.proofs.refusals.of_withdraw.Reads as reads
-use Rattle.reader.proofs.refusals.of_withdraw.Lts as lts
-use Rattle.reader.proofs.refusals.is_sound.Reads as is-sound-reads
 
--- src/refusals.rt:172:8
 is-sound-requires : tie.Need-is-sound-requires
 is-sound-requires c κs = search needs
 
--- src/refusals.rt:169:1
 returns : tie.Need-returns
 unfolding withdrawRefusal
 returns c = simp (sym (c .before .is-sound .ensures) ∙ c .if1 .taken)
 
--- src/refusals.rt:169:1
 returns-2 : tie.Need-returns-2
 unfolding withdrawRefusal
 returns-2 c = simp (sym (c .before .is-sound .ensures) ∙ c .if1 .left)

@@ -14,13 +14,7 @@ use Rattle.reader.proofs.Opening.{open-one, open-two, open-waiting, ope
 use borrow.Author.Needs.{needs}
 use Rattle.reader.proofs.refusals.open_answer.Statement.{statement}
 use Rattle.reader.proofs.refusals.open_answer.Tie as tie
-use Rattle.reader.proofs.refusals.open_answer.Reads as reads
-use Rattle.reader.proofs.refusals.open_answer.Lts as lts
-use Rattle.reader.proofs.refusals.is_closed.Reads as is-closed-reads
-use Rattle.reader.proofs.refusals.is_sound.Reads as is-sound-reads
-use Rattle.reader.proofs.refusals.version_of.Reads as version-of-reads
 
--- src/refusals.rt:71:10
 is-sound-requires : tie.Need-is-sound-requires
 is-sound-requires c κs = search needs
 
@@ -43,55 +37,45 @@ room c = with-stores (c .before .before .before .before .args .s) (c .before .be
 shut : (c : tie.Else2) → isClosed (c .before .before .before .before .before .before .before .args .s .run .phase) ≡ true
 shut c = sym (c .before .is-closed .ensures) ∙ not-false _ (c .if2 .left)
 
--- src/refusals.rt:72:9
 returns : tie.Need-returns
 returns c = sym (open-one _ _ _ (one (c .before) (not-true _ (c .if1 .taken))))
 
--- src/refusals.rt:76:9
 is-closed-requires : tie.Need-is-closed-requires
 is-closed-requires c κs = search needs
 
--- src/refusals.rt:77:9
 returns-2 : tie.Need-returns-2
 returns-2 c = sym (open-two _ _ _ (long (c .before .before .before)) (sym (c .before .is-closed .ensures) ∙ not-true _ (c .if2 .taken)))
 
--- src/refusals.rt:82:27
 slice-aggregate-version-of : tie.Need-slice-aggregate-version-of
 slice-aggregate-version-of c =
     let e = c .before .before in
     let f = room (e .before .before .before) in
     sym (length-take-le _ _ (omega (arith, f .0 .waiting, f .2)))
 
--- src/refusals.rt:82:9
 version-of-requires : tie.Need-version-of-requires
 version-of-requires c κs = search needs
 
--- src/refusals.rt:82:9
 returns-3 : tie.Need-returns-3
 returns-3 c =
     let t = c .before .before in
     let e = t .before in
     c .version-of .ensures ∙ sym (open-waiting _ _ _ (long (e .before .before .before)) (shut e) (t .if3 .taken))
 
--- src/refusals.rt:85:27
 slice-aggregate-version-of-2 : tie.Need-slice-aggregate-version-of-2
 slice-aggregate-version-of-2 c =
     let e = c .before .before .before in
     let f = room (e .before .before .before) in
     sym (length-take-le _ _ (omega (arith, f .0 .«in_force», f .1)))
 
--- src/refusals.rt:85:9
 version-of-requires-2 : tie.Need-version-of-requires-2
 version-of-requires-2 c κs = search needs
 
--- src/refusals.rt:85:9
 returns-4 : tie.Need-returns-4
 returns-4 c =
     let t = c .before .before in
     let e = t .before .before in
     c .version-of2 .ensures ∙ sym (open-in-force _ _ _ (long (e .before .before .before)) (shut e) (t .before .if3 .left) (t .if4 .taken))
 
--- src/refusals.rt:68:1
 returns-5 : tie.Need-returns-5
 returns-5 c =
     let e = c .before .before in

@@ -10,12 +10,7 @@ use Rattle.reader.proofs.Opening.{stage-one, stage-table}
 use borrow.Author.Needs.{needs}
 use Rattle.reader.proofs.refusals.stage_answer.Statement.{statement}
 use Rattle.reader.proofs.refusals.stage_answer.Tie as tie
-use Rattle.reader.proofs.refusals.stage_answer.Reads as reads
-use Rattle.reader.proofs.refusals.stage_answer.Lts as lts
-use Rattle.reader.proofs.refusals.is_sound.Reads as is-sound-reads
-use Rattle.table.proofs.check.Reads as check-reads
 
--- src/refusals.rt:105:10
 is-sound-requires : tie.Need-is-sound-requires
 is-sound-requires c κs = search needs
 
@@ -24,29 +19,23 @@ one : (c : tie.After-is-sound) {b : Bool} → (c .is-sound .result && longStore 
     → (sound (c .before .before .before .args .s) && longStore (c .before .before .before .args .waiting .now)) ≡ b
 one c e = ap (λ (x : Bool). x && longStore (c .before .before .before .args .waiting .now)) (sym (c .is-sound .ensures)) ∙ e
 
--- src/refusals.rt:106:9
 returns : tie.Need-returns
 returns c = sym (stage-one _ _ _ (one (c .before) (not-true _ (c .if1 .taken))))
 
--- src/refusals.rt:108:9
 check-requires : tie.Need-check-requires
 check-requires c κs = search needs
 
--- src/refusals.rt:110:26
 enum-known-c : tie.Need-enum-known-c
 enum-known-c c = search needs
 
--- src/refusals.rt:111:44
 enum-told : tie.Need-enum-told
 enum-told c = search needs
 
--- src/refusals.rt:102:1
 returns-2 : tie.Need-returns-2
 returns-2 c =
     let k = c .before .before .before in
     sym (stage-table _ _ _ (one (k .before .before) (not-false _ (k .before .if1 .left))) ∙ check-version _ (k .check .ensures) (c .before .c .given .1))
 
--- src/refusals.rt:102:1
 returns-3 : tie.Need-returns-3
 returns-3 c =
     let k = c .before .before in

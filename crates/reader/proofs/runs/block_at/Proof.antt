@@ -6,25 +6,16 @@ use Rattle.frame.specs.Frame.{numberOf, revisionOf}
 use borrow.Author.Needs.{needs}
 use Rattle.reader.proofs.runs.block_at.Statement.{statement}
 use Rattle.reader.proofs.runs.block_at.Tie as tie
-use Rattle.reader.proofs.runs.block_at.Reads as reads
-use Rattle.reader.proofs.runs.block_at.Lts as lts
-use Rattle.wire.proofs.number.Reads as number-reads
-use Rattle.wire.proofs.revision.Reads as revision-reads
-use Rattle.wire.proofs.u2.Reads as u2-reads
 
--- src/runs.rt:102:9
 u2-requires : tie.Need-u2-requires
 u2-requires c κs = search needs
 
--- src/runs.rt:105:17
 number-requires : tie.Need-number-requires
 number-requires c κs = search needs
 
--- src/runs.rt:106:19
 revision-requires : tie.Need-revision-requires
 revision-requires c κs = search needs
 
--- src/runs.rt:98:1
 returns : tie.Need-returns
 returns c =
     let i = c .before .before .u2 .ensures in

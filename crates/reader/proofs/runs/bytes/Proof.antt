@@ -13,30 +13,22 @@ use Rattle.reader.proofs.Laws.{passes, with-hold}
 use borrow.Author.Needs.{needs}
 use Rattle.reader.proofs.runs.bytes.Statement.{statement}
 use Rattle.reader.proofs.runs.bytes.Tie as tie
-use Rattle.reader.proofs.runs.bytes.Reads as reads
-use Rattle.reader.proofs.runs.bytes.Lts as lts
-use Rattle.reader.proofs.refusals.of_bytes.Reads as of-bytes-reads
 
--- src/runs.rt:191:9
 of-bytes-requires : tie.Need-of-bytes-requires
 of-bytes-requires c κs = search needs
 
--- src/runs.rt:195:30
 enum-told : tie.Need-enum-told
 enum-told c = search needs
 
--- src/runs.rt:195:30
 slice-aggregate-result : tie.Need-slice-aggregate-result
 slice-aggregate-result c = search needs
 
--- src/runs.rt:196:26
 enum-told-2 : tie.Need-enum-told-2
 enum-told-2 c = search needs
 
 free : (e : tie.After-enum-told2) → bytesRefusal (e .before .before .before .before .before .args .s) (e .before .before .before .before .before .args .hold .now) ≡ none
 free e = sym (e .before .before .before .of-bytes .ensures) ∙ ap refusalOf (e .enum-told2 .given .1)
 
--- src/runs.rt:196:26
 slice-aggregate-result-2 : tie.Need-slice-aggregate-result-2
 unfolding bytesRefusal
 slice-aggregate-result-2 c =
@@ -45,7 +37,6 @@ slice-aggregate-result-2 c =
     let f = with-hold (a .s) (a .hold .now) (passes _ 1 none (free (c .before)) .0) in
     sym (length-take-le _ _ (omega (arith, f .0 .front, f .0 .held, f .1)))
 
--- src/runs.rt:188:1
 returns : tie.Need-returns
 unfolding bytesOf
 returns c =
@@ -54,7 +45,6 @@ returns c =
     let a = w .before .before .args in
     sym (ap (λ (o : Option ℕ). partUnless o (take (a .s .run .standing) (a .hold .now))) (sym (w .of-bytes .ensures) ∙ ap refusalOf (e .enum-told .given .1)))
 
--- src/runs.rt:188:1
 returns-2 : tie.Need-returns-2
 unfolding bytesOf
 returns-2 c =

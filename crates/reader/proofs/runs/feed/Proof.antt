@@ -9,32 +9,22 @@ use Rattle.reader.proofs.Accepted.{is-refused, is-done}
 use borrow.Author.Needs.{needs}
 use Rattle.reader.proofs.runs.feed.Statement.{statement}
 use Rattle.reader.proofs.runs.feed.Tie as tie
-use Rattle.reader.proofs.runs.feed.Reads as reads
-use Rattle.reader.proofs.runs.feed.Lts as lts
-use Rattle.reader.proofs.refusals.of_feed.Reads as of-feed-reads
-use Rattle.reader.proofs.runs.feed_on.Reads as feed-on-reads
 
--- src/runs.rt:140:9
 of-feed-requires : tie.Need-of-feed-requires
 of-feed-requires c κs = search needs
 
--- src/runs.rt:142:24
 enum-known-c : tie.Need-enum-known-c
 enum-known-c c = search needs
 
--- src/runs.rt:146:37
 enum-told : tie.Need-enum-told
 enum-told c = search needs
 
--- src/runs.rt:146:26
 feed-on-requires : tie.Need-feed-on-requires
 feed-on-requires c κs = let w = c .before .before .before in sym (w .of-feed .ensures) ∙ ap refusalOf (c .before .enum-told .given .1)
 
--- src/runs.rt:137:1
 same-length : tie.Need-same-length
 same-length c = search needs
 
--- src/runs.rt:137:1
 returns : tie.Need-returns
 unfolding feedOf
 returns c =
@@ -43,11 +33,9 @@ returns c =
     is-refused (a .s) (a .hold .now) (feedingBy (feedingOf (a .s) (a .hold .now) (a .piece .now)) (a .s) (a .hold .now)) (feedRefusal (a .s) (a .hold .now) (a .piece .now)) (numberFor (c .before .c .given .0 .0))
     (sym (w .of-feed .ensures) ∙ ap refusalOf (c .before .c .given .1))
 
--- src/runs.rt:137:1
 same-length-2 : tie.Need-same-length-2
 same-length-2 c = search needs
 
--- src/runs.rt:137:1
 returns-2 : tie.Need-returns-2
 unfolding feedOf
 returns-2 c =

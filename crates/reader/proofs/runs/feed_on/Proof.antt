@@ -26,12 +26,6 @@ use Rattle.reader.proofs.Feeding.{Whole, WholeIf, fed-whole, end-whole,
 use borrow.Author.Needs.{needs}
 use Rattle.reader.proofs.runs.feed_on.Statement.{statement}
 use Rattle.reader.proofs.runs.feed_on.Tie as tie
-use Rattle.reader.proofs.runs.feed_on.Reads as reads
-use Rattle.reader.proofs.runs.feed_on.Lts as lts
-use Rattle.feed.proofs.feed.Reads as feed-reads
-use Rattle.reader.proofs.runs.block_at.Reads as block-at-reads
-use Rattle.reader.proofs.runs.went_on.Reads as went-on-reads
-use Rattle.reader.proofs.runs.with_run.Reads as with-run-reads
 
 room : (c : tie.Start) → Facts (c .args .s) × (65536 ≤ length (c .args .hold .now))
 unfolding feedRefusal
@@ -80,17 +74,14 @@ fewer d =
     rw (sym (rest-length (a .hold .now) (a .s .run .held) (a .s .run .standing) (f .0 .front) (omega (arith, f .0 .held, f .1))))
     (fed-few (restOf (a .hold .now) (a .s .run .held) (a .s .run .standing)) (a .piece .now) (limit - a .s .run .taken) (d .feed .result) (numbers d))
 
--- src/runs.rt:118:16
 sub-room : tie.Need-sub-room
 sub-room c = omega (arith, room (c .before .before .before .before) .0 .taken)
 
--- src/runs.rt:119:9
 feed-requires : tie.Need-feed-requires
 feed-requires c κs =
     let f = room (c .before .before .before .before .before) in
     (f .0 .front, f .0 .held, omega (arith, f .1))
 
--- src/runs.rt:122:9
 went-on-requires : tie.Need-went-on-requires
 went-on-requires c κs =
     let d = c .before .before in
@@ -98,15 +89,12 @@ went-on-requires c κs =
     let k = fewer d in
     (omega (arith, good d .taken, f .0 .taken), omega (arith, f .0 .blocks, f .0 .taken), omega (arith, k .skipped, f .0 .skipped, f .0 .taken, f .0 .held, good d .taken))
 
--- src/runs.rt:123:9
 with-run-requires : tie.Need-with-run-requires
 with-run-requires c κs = search needs
 
--- src/runs.rt:125:9
 same-length : tie.Need-same-length
 same-length c = search needs
 
--- src/runs.rt:125:9
 returns : tie.Need-returns
 returns c =
     let w = c .before in
@@ -117,7 +105,6 @@ returns c =
     (sym (ap (λ (o : Option ℕ). reportIf o (front (runOn phase.Feeding (entry d .args .s .run) (meaning d))) (meaning d .held)) e)))
     (state-is w) (left d)
 
--- src/runs.rt:130:32
 sub-block-at : tie.Need-sub-block-at
 sub-block-at c =
     let w = c .before .before .before in
@@ -129,17 +116,14 @@ sub-block-at c =
     let b = ap (λ (r : Run). r .held) n in
     omega (arith, k .held, f .0 .within, f .0 .front, a, b)
 
--- src/runs.rt:130:9
 block-at-requires : tie.Need-block-at-requires
 block-at-requires c κs =
     let d = c .before .before .before .before .before .before .before in
     omega (arith, room (entry d) .1, long-left d)
 
--- src/runs.rt:111:1
 same-length-2 : tie.Need-same-length-2
 same-length-2 c = search needs
 
--- src/runs.rt:111:1
 returns-2 : tie.Need-returns-2
 returns-2 c =
     let w = c .before .before .before .before in

@@ -9,32 +9,22 @@ use Rattle.reader.proofs.Accepted.{is-refused, is-done}
 use borrow.Author.Needs.{needs}
 use Rattle.reader.proofs.runs.finish.Statement.{statement}
 use Rattle.reader.proofs.runs.finish.Tie as tie
-use Rattle.reader.proofs.runs.finish.Reads as reads
-use Rattle.reader.proofs.runs.finish.Lts as lts
-use Rattle.reader.proofs.refusals.of_finish.Reads as of-finish-reads
-use Rattle.reader.proofs.runs.finish_on.Reads as finish-on-reads
 
--- src/runs.rt:177:9
 of-finish-requires : tie.Need-of-finish-requires
 of-finish-requires c κs = search needs
 
--- src/runs.rt:179:24
 enum-known-c : tie.Need-enum-known-c
 enum-known-c c = search needs
 
--- src/runs.rt:183:39
 enum-told : tie.Need-enum-told
 enum-told c = search needs
 
--- src/runs.rt:183:26
 finish-on-requires : tie.Need-finish-on-requires
 finish-on-requires c κs = let w = c .before .before .before in sym (w .of-finish .ensures) ∙ ap refusalOf (c .before .enum-told .given .1)
 
--- src/runs.rt:174:1
 same-length : tie.Need-same-length
 same-length c = search needs
 
--- src/runs.rt:174:1
 returns : tie.Need-returns
 unfolding finishOf
 returns c =
@@ -43,11 +33,9 @@ returns c =
     is-refused (a .s) (a .hold .now) (finishingBy (finishingOf (a .s) (a .hold .now)) (a .s) (a .hold .now)) (finishRefusal (a .s) (a .hold .now)) (numberFor (c .before .c .given .0 .0))
     (sym (w .of-finish .ensures) ∙ ap refusalOf (c .before .c .given .1))
 
--- src/runs.rt:174:1
 same-length-2 : tie.Need-same-length-2
 same-length-2 c = search needs
 
--- src/runs.rt:174:1
 returns-2 : tie.Need-returns-2
 unfolding finishOf
 returns-2 c =

@@ -26,12 +26,6 @@ use Rattle.reader.proofs.Feeding.{Whole, WholeIf, fed-whole, end-whole,
 use borrow.Author.Needs.{needs}
 use Rattle.reader.proofs.runs.finish_on.Statement.{statement}
 use Rattle.reader.proofs.runs.finish_on.Tie as tie
-use Rattle.reader.proofs.runs.finish_on.Reads as reads
-use Rattle.reader.proofs.runs.finish_on.Lts as lts
-use Rattle.feed.proofs.finish.Reads as finish-reads
-use Rattle.reader.proofs.runs.block_at.Reads as block-at-reads
-use Rattle.reader.proofs.runs.went_on.Reads as went-on-reads
-use Rattle.reader.proofs.runs.with_run.Reads as with-run-reads
 
 room : (c : tie.Start) → Facts (c .args .s) × (65536 ≤ length (c .args .hold .now))
 unfolding finishRefusal
@@ -80,25 +74,20 @@ fits d =
 run-of : (d : tie.After-finish) (x : Phase) → runBy x (entry d .args .s .run) (d .finish .result) ≡ runOn x (entry d .args .s .run) (meaning d)
 run-of d x = run-is x (entry d .args .s .run) (d .finish .result) (meaning d) (numbers d) (whole d)
 
--- src/runs.rt:157:9
 finish-requires : tie.Need-finish-requires
 finish-requires c κs =
     let f = room (c .before .before .before) in
     (f .0 .front, f .0 .held, omega (arith, f .1))
 
--- src/runs.rt:160:13
 went-on-requires : tie.Need-went-on-requires
 went-on-requires c κs = fits (c .before .before .before)
 
--- src/runs.rt:163:20
 with-run-requires : tie.Need-with-run-requires
 with-run-requires c κs = search needs
 
--- src/runs.rt:161:9
 same-length : tie.Need-same-length
 same-length c = search needs
 
--- src/runs.rt:161:9
 returns : tie.Need-returns
 returns c =
     let d = c .before .before .before .before .before in
@@ -111,11 +100,9 @@ returns c =
     (c .with-run .ensures ∙ ap (withRun (entry d .args .s)) (nr ∙ sym (ap (λ (o : Option ℕ). runOn (phaseAfter o) (entry d .args .s .run) (meaning d)) e)))
     (left d)
 
--- src/runs.rt:166:9
 went-on-requires-2 : tie.Need-went-on-requires-2
 went-on-requires-2 c κs = fits (c .before .before .before)
 
--- src/runs.rt:167:32
 sub-block-at : tie.Need-sub-block-at
 sub-block-at c =
     let d = c .before .before .before .before .before .before in
@@ -125,21 +112,17 @@ sub-block-at c =
     let b = ap (λ (r : Run). r .held) n in
     omega (arith, fewer d .held, f .0 .within, f .0 .front, a, b)
 
--- src/runs.rt:167:9
 block-at-requires : tie.Need-block-at-requires
 block-at-requires c κs =
     let d = c .before .before .before .before .before .before in
     omega (arith, room (entry d) .1, long-left d)
 
--- src/runs.rt:170:16
 with-run-requires-2 : tie.Need-with-run-requires-2
 with-run-requires-2 c κs = search needs
 
--- src/runs.rt:150:1
 same-length-2 : tie.Need-same-length-2
 same-length-2 c = search needs
 
--- src/runs.rt:150:1
 returns-2 : tie.Need-returns-2
 returns-2 c =
     let d = c .before .before .before .before .before .before .before .before in

@@ -7,18 +7,14 @@ use Rattle.reader.specs.Code.{oneIf}
 use borrow.Author.Needs.{needs}
 use Rattle.reader.proofs.runs.one_if.Statement.{statement}
 use Rattle.reader.proofs.runs.one_if.Tie as tie
-use Rattle.reader.proofs.runs.one_if.Reads as reads
-use Rattle.reader.proofs.runs.one_if.Lts as lts
 
 some-one : (n : ℕ) → (n ≡ 0 → ⊥) → 1 ≡ oneIf n
 some-one zero f = absurd (f refl)
 some-one (suc n) f = refl
 
--- src/runs.rt:69:1
 returns : tie.Need-returns
 returns c = search needs
 
--- src/runs.rt:69:1
 returns-2 : tie.Need-returns-2
 returns-2 c = (some-one (c .before .args .standing) (c .if1 .left), omega arith)
 

@@ -18,21 +18,13 @@ use Rattle.reader.proofs.Feeding.{same-outcome}
 use borrow.Author.Needs.{needs}
 use Rattle.reader.proofs.runs.open.Statement.{statement}
 use Rattle.reader.proofs.runs.open.Tie as tie
-use Rattle.reader.proofs.runs.open.Reads as reads
-use Rattle.reader.proofs.runs.open.Lts as lts
-use Rattle.feed.proofs.copy_in.Reads as copy-in-reads
-use Rattle.reader.proofs.refusals.open_answer.Reads as open-answer-reads
-use Rattle.reader.proofs.runs.open_state.Reads as open-state-reads
 
--- src/runs.rt:44:9
 open-answer-requires : tie.Need-open-answer-requires
 open-answer-requires c κs = search needs
 
--- src/runs.rt:46:25
 enum-known-a : tie.Need-enum-known-a
 enum-known-a c = search needs
 
--- src/runs.rt:50:25
 enum-known-a-2 : tie.Need-enum-known-a-2
 enum-known-a-2 c = search needs
 
@@ -56,22 +48,18 @@ done m e =
     let a = entry m .args in
     sym (is-done (a .s) (a .in-force .now) (opening (a .s) (a .in-force .now) (a .waiting .now)) (openRefusal (a .s) (a .in-force .now) (a .waiting .now)) (free m e))
 
--- src/runs.rt:54:17
 copy-in-requires : tie.Need-copy-in-requires
 copy-in-requires c κs =
     let m = c .before .before .before .before .before in
     let p = passed m (c .before .before .before .a2 .given .1) in
     (omega (arith, p .facts .waiting, p .long-force), omega (arith, p .facts .waiting, p .long-wait))
 
--- src/runs.rt:57:28
 open-state-requires : tie.Need-open-state-requires
 open-state-requires c κs = search needs
 
--- src/runs.rt:55:17
 same-length : tie.Need-same-length
 same-length c = search needs
 
--- src/runs.rt:55:17
 returns : tie.Need-returns
 returns c =
     let m = c .before .before .before .before .before .before .before .before .before in
@@ -87,15 +75,12 @@ returns c =
     ∙ sym (ap (λ (b : Bool). cond b (over (take (a .s .waiting) (a .waiting .now)) (a .in-force .now)) (a .in-force .now)) l))
     ∙ sym (done m (v .1))
 
--- src/runs.rt:62:24
 open-state-requires-2 : tie.Need-open-state-requires-2
 open-state-requires-2 c κs = search needs
 
--- src/runs.rt:41:1
 same-length-2 : tie.Need-same-length-2
 same-length-2 c = search needs
 
--- src/runs.rt:41:1
 returns-2 : tie.Need-returns-2
 unfolding openOf
 returns-2 c =
@@ -105,11 +90,9 @@ returns-2 c =
     (refused-by (a .s) (a .in-force .now) (opening (a .s) (a .in-force .now) (a .waiting .now)) (openRefusal (a .s) (a .in-force .now) (a .waiting .now)) (numberFor (c .before .a .given .0 .0)) refl
     (sym (m .open-answer .ensures) ∙ ap saidOpened (c .before .a .given .1)))
 
--- src/runs.rt:41:1
 same-length-3 : tie.Need-same-length-3
 same-length-3 c = search needs
 
--- src/runs.rt:41:1
 returns-3 : tie.Need-returns-3
 returns-3 c =
     let m = c .before .before .before .before .before in

@@ -5,27 +5,19 @@ use Prim.Native.Nat.{ℕ, _+_}
 use borrow.Author.Needs.{needs}
 use Rattle.reader.proofs.runs.went_on.Statement.{statement}
 use Rattle.reader.proofs.runs.went_on.Tie as tie
-use Rattle.reader.proofs.runs.went_on.Reads as reads
-use Rattle.reader.proofs.runs.went_on.Lts as lts
-use Rattle.reader.proofs.runs.one_if.Reads as one-if-reads
 
--- src/runs.rt:81:9
 one-if-requires : tie.Need-one-if-requires
 one-if-requires c κs = search needs
 
--- src/runs.rt:86:16
 add-t6 : tie.Need-add-t6
 add-t6 c = search needs
 
--- src/runs.rt:87:17
 add-t7 : tie.Need-add-t7
 add-t7 c = search needs
 
--- src/runs.rt:88:18
 add-t8 : tie.Need-add-t8
 add-t8 c = search needs
 
--- src/runs.rt:76:1
 returns : tie.Need-returns
 returns c =
     let m = c .before .before .before .before .before in

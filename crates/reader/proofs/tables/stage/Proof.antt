@@ -18,20 +18,13 @@ use Rattle.reader.proofs.Feeding.{same-outcome}
 use borrow.Author.Needs.{needs}
 use Rattle.reader.proofs.tables.stage.Statement.{statement}
 use Rattle.reader.proofs.tables.stage.Tie as tie
-use Rattle.reader.proofs.tables.stage.Reads as reads
-use Rattle.reader.proofs.tables.stage.Lts as lts
-use Rattle.feed.proofs.copy_in.Reads as copy-in-reads
-use Rattle.reader.proofs.refusals.stage_answer.Reads as stage-answer-reads
 
--- src/tables.rt:17:9
 stage-answer-requires : tie.Need-stage-answer-requires
 stage-answer-requires c κs = search needs
 
--- src/tables.rt:19:25
 enum-known-a : tie.Need-enum-known-a
 enum-known-a c = search needs
 
--- src/tables.rt:23:25
 enum-known-a-2 : tie.Need-enum-known-a-2
 enum-known-a-2 c = search needs
 
@@ -57,17 +50,14 @@ done m e =
     let a = entry m .args in
     sym (is-done (a .s) (a .waiting .now) (staging (a .s) (a .waiting .now) (a .t .now)) (stageRefusal (a .s) (a .waiting .now) (a .t .now)) (free m e))
 
--- src/tables.rt:25:13
 copy-in-requires : tie.Need-copy-in-requires
 copy-in-requires c κs =
     let p = passed (c .before .before .before .before) (c .before .before .a2 .given .1) in
     (omega (arith, p .0, p .1), omega arith)
 
--- src/tables.rt:14:1
 same-length : tie.Need-same-length
 same-length c = search needs
 
--- src/tables.rt:14:1
 returns : tie.Need-returns
 unfolding stageOf
 returns c =
@@ -77,11 +67,9 @@ returns c =
     (refused-by (a .s) (a .waiting .now) (staging (a .s) (a .waiting .now) (a .t .now)) (stageRefusal (a .s) (a .waiting .now) (a .t .now)) (numberFor (c .before .a .given .0 .0)) refl
     (sym (m .stage-answer .ensures) ∙ ap saidStaged (c .before .a .given .1)))
 
--- src/tables.rt:14:1
 same-length-2 : tie.Need-same-length-2
 same-length-2 c = search needs
 
--- src/tables.rt:14:1
 returns-2 : tie.Need-returns-2
 returns-2 c =
     let m = c .before .before .before .before .before .before .before .before in

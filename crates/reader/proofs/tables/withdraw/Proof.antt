@@ -10,23 +10,16 @@ use Rattle.reader.proofs.Accepted.{is-refused, is-done}
 use borrow.Author.Needs.{needs}
 use Rattle.reader.proofs.tables.withdraw.Statement.{statement}
 use Rattle.reader.proofs.tables.withdraw.Tie as tie
-use Rattle.reader.proofs.tables.withdraw.Reads as reads
-use Rattle.reader.proofs.tables.withdraw.Lts as lts
-use Rattle.reader.proofs.refusals.of_withdraw.Reads as of-withdraw-reads
 
--- src/tables.rt:42:9
 of-withdraw-requires : tie.Need-of-withdraw-requires
 of-withdraw-requires c κs = search needs
 
--- src/tables.rt:44:24
 enum-known-c : tie.Need-enum-known-c
 enum-known-c c = search needs
 
--- src/tables.rt:49:17
 enum-told : tie.Need-enum-told
 enum-told c = search needs
 
--- src/tables.rt:39:1
 returns : tie.Need-returns
 unfolding withdrawOf
 returns c =
@@ -34,7 +27,6 @@ returns c =
     is-refused (w .before .args .s) [] (withdrawing (w .before .args .s)) (withdrawRefusal (w .before .args .s)) (numberFor (c .before .c .given .0 .0))
     (sym (w .of-withdraw .ensures) ∙ ap refusalOf (c .before .c .given .1))
 
--- src/tables.rt:39:1
 returns-2 : tie.Need-returns-2
 unfolding withdrawOf
 returns-2 c =
