@@ -2,3 +2,16 @@ pub mod Keeping
 pub mod Apart
 pub mod Exact
 pub mod Soundness
+pub mod Steps
+pub mod Reached
+pub mod Live
+pub mod Force
+pub mod Untouched
+pub mod Moving
+pub mod Going
+pub mod Calls
+pub mod Reading
+pub mod Ending
+pub mod Refusing
+pub mod Stream
+pub mod Deciding

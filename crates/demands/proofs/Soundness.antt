@@ -71,7 +71,7 @@ went-on x s b n F h e sum l t o =
       wait = h .wait;
     }
 
-rest-bytes : (hold : List ℕ) (held standing : ℕ) → Bytes hold → Bytes (restOf hold held standing)
+pub rest-bytes : (hold : List ℕ) (held standing : ℕ) → Bytes hold → Bytes (restOf hold held standing)
 unfolding restOf
 rest-bytes hold held standing b = take-bytes (drop standing hold) (held - standing) (drop-bytes hold standing b)
 
@@ -134,7 +134,7 @@ unfolding finishOf
 finishes s b hold h = kept (finishRefusal s hold) s b hold (finishingBy (finishingOf s hold) s hold) h (finish-done s b hold h)
 
 -- with another waiting length
-waits-on : (s : State) (b n : ℕ) → Sound s b → n ≤ 8192 → Sound (record { run = s .run; «in_force» = s .«in_force»; waiting = n }) b
+pub waits-on : (s : State) (b n : ℕ) → Sound s b → n ≤ 8192 → Sound (record { run = s .run; «in_force» = s .«in_force»; waiting = n }) b
 waits-on s b n h l =
     record { few = h .few; front = h .front; among = h .among; count = h .count; sum = h .sum; most = h .most; force = h .force; wait = l }
 

@@ -3,3 +3,8 @@ pub mod One
 pub mod Exactly
 pub mod Sound
 pub mod World
+pub mod Sequence
+pub mod Demand1
+pub mod Demand3
+pub mod Demand2
+pub mod Progress

@@ -1,6 +1,10 @@
 // What was demanded, as theorems over the definitions that the reader's contracts cite.
+ghost use Rattle.demands.specs.Demand1.{Demand1};
+ghost use Rattle.demands.specs.Demand2.{Demand2};
+ghost use Rattle.demands.specs.Demand3.{BlocksOfTheWhole, HoweverCut, TakesTheStream, OneTable, Moved};
 ghost use Rattle.demands.specs.Exactly.{ExactlyWhen};
 ghost use Rattle.demands.specs.One.{OneOutcome};
+ghost use Rattle.demands.specs.Progress.{Progress};
 ghost use Rattle.demands.specs.Refused.{RefusedKeeps};
 ghost use Rattle.demands.specs.Sound.{SoundKept};
 
@@ -22,4 +26,46 @@ pub fn exactly_when()
 // A new reader's state is sound, every call keeps it so, and a sound state is none that refusal 1 names.
 pub fn sound_kept()
     ensures { λ _. ⌜ SoundKept ⌝ }
+{}
+
+// Demand 1, over the calls of a world: a refused call changes nothing and hands back nothing; states that are reached are sound.
+pub fn demand_1()
+    ensures { λ _. ⌜ Demand1 ⌝ }
+{}
+
+// Demand 2: at every moment of a run the blocks reported are the first ones of the reading rule, after More nothing more can be
+// decided, and records are read by the table in force.
+pub fn demand_2()
+    ensures { λ _. ⌜ Demand2 ⌝ }
+{}
+
+// Demand 3: "the blocks, their bytes and the counts are those of its whole bytes".
+pub fn blocks_of_the_whole()
+    ensures { λ _. ⌜ BlocksOfTheWhole ⌝ }
+{}
+
+// Demand 3: "however its bytes were cut between calls".
+pub fn however_cut()
+    ensures { λ _. ⌜ HoweverCut ⌝ }
+{}
+
+// Demand 3: "with unread bytes offered again first", what is taken is the caller's stream.
+pub fn takes_the_stream()
+    ensures { λ _. ⌜ TakesTheStream ⌝ }
+{}
+
+// Demand 3: "all records read while it was open are those of the bytes given to the record call, under the table in force at its opening".
+pub fn one_table()
+    ensures { λ _. ⌜ OneTable ⌝ }
+{}
+
+// Demand 3: "Moving those table calls, in their order, to just after the run's end changes no call's answer, nor the final state and
+// lent bytes."
+pub fn table_calls_move()
+    ensures { λ _. ⌜ Moved ⌝ }
+{}
+
+// More is answered only with all taken that may be, and Finish comes to End.
+pub fn progress()
+    ensures { λ _. ⌜ Progress ⌝ }
 {}

@@ -1,0 +1,158 @@
+-- One call more of a run: what is reported so far, and then from the place on, is the reading of the bytes taken.
+-- Assumes nothing.
+use Prim.Native.Nat.{ℕ, min, _+_, _-_, _≤_, _<_}
+use native.Mathlib.Omega.{arith}
+use native.Mathlib.Nat.{add-zero}
+use mathlib.Core.Path.{_≡_, refl, sym, ap, ap₂, _∙_, subst, subst⁻¹}
+use mathlib.Core.Bool.{Bool, true, false, _&&_, _||_}
+use mathlib.Core.List.{List, [], _∷_, _++_, append-nil, append-assoc}
+use mathlib.Core.Option.{Option, none, some}
+use lib.ListN.{length, take, drop, length-append, length-drop}
+use lib.Seq.{length-take-le, drop-append-le, drop-drop}
+use Rattle.frame.specs.Settle.{finishLit}
+use Rattle.frame.specs.Feed.{Feeding, feedLit, stop}
+use Rattle.frame.specs.ReadRun.{Block, Reading, both, readRun}
+use Rattle.frame.specs.Session.{size, placesFrom, blocksOf, answer}
+use Rattle.frame.proofs.Calls as calls
+use Rattle.frame.proofs.Runs.{skipMany, places-count, skip-none, both-both, read-end, read-frame, Ends, finished, finish-rest, finish-front, feed-read, fed-stands, answered}
+use Rattle.reader.specs.State.{limit, sound}
+use Rattle.reader.specs.Said.{Said, refused, ended}
+use Rattle.reader.specs.Refusals.{longHold, isFeeding, isClosed, feedRefusal, finishRefusal}
+use Rattle.reader.specs.Calls.{one, runOn, feedingBy, feedingOf, finishingBy, finishingOf, finishSaid, phaseAfter, opening}
+use Rattle.reader.specs.declared.Phase.{Phase}
+use Rattle.reader.specs.declared.Phase.the-variants as phase
+use Rattle.reader.specs.declared.Run.{Run}
+use Rattle.reader.proofs.Laws.{passes, with-hold}
+use Rattle.demands.specs.World.{World, TableCall, stage, withdraw, Look, Call, openRun, feed, finish, table, look, Answer, said, leftForce, leftHold, looked, step, end}
+use Rattle.demands.specs.Sequence.{Fed, AllFed, endSaid, isEnd, NoEnd, Within, Closes, opened, tookOf, reportIn, inHold, shown, taken, blocks, shownBlocks}
+use Rattle.demands.specs.Demand2.{MayFollow}
+use Rattle.demands.proofs.Steps.{How, isnt, is, how, refusal, done, tableDone, clash}
+use Rattle.demands.proofs.Reached.{Good, good-step, good-end}
+use Rattle.demands.proofs.Live.{Live, not-open, live-step, Stand, stands}
+use Rattle.demands.proofs.Going.{kept, place, going, within, kept-length, Fits, kept-after, place-after, in-hold, finish-report, shown-is}
+
+-- the run so far took the bytes t and reported the blocks b; with what follows it reads as these, and then from the place on
+pub record Reads (t : List ℕ) (b : List Block) (w : World) : Type 0 where
+  pub count : w .state .run .taken ≡ length t
+  pub sum : w .state .run .blocks ≡ length b
+  pub places : List ℕ
+  pub skips : w .state .run .skipped ≡ length places
+  pub rest : kept w ≡ drop (place w) t
+  pub so : (zs : List ℕ) → MayFollow (w .state .run .phase) zs → readRun 0 (t ++ zs) ≡ both (record { blocks = b; skipped = places }) (readRun (place w) (kept w ++ zs))
+
+follow-none : (x : Phase) → MayFollow x []
+follow-none phase.Closed = refl
+follow-none phase.Feeding = tt
+follow-none phase.Finishing = refl
+
+follow-fed : (x : Phase) (zs : List ℕ) → isFeeding x ≡ true → MayFollow x zs
+follow-fed phase.Closed zs e = clash (sym e)
+follow-fed phase.Feeding zs e = tt
+follow-fed phase.Finishing zs e = clash (sym e)
+
+length-blocks : (o : Option ℕ) (p : ℕ) (v : List ℕ) → length (blocksOf o p v) ≡ one o
+length-blocks none p v = refl
+length-blocks (some n) p v = refl
+
+-- ---- a call that goes on in the run
+
+module _ (x : Phase) (w : World) (bs : List ℕ) (f : Feeding) (blk : List Block)
+    (g : Good w) (h : Fits w f) (n : f .taken ≡ length bs) (a : blk ≡ blocksOf (f .standing) (place w + f .skipped) (f .held))
+    (d : f .held ≡ drop (f .skipped) (kept w ++ bs)) where
+  -- what is left is what was left and is new, without what was skipped and the block
+  rest-after : (ts : List ℕ) → w .state .run .taken ≡ length ts → kept w ≡ drop (place w) ts → kept (going x w f) ≡ drop (place (going x w f)) (ts ++ bs)
+  rest-after ts c r =
+      let o = size (f .standing) in
+      kept-after x w f g h
+      ∙ ap (drop o) (d ∙ ap (λ (y : List ℕ). drop (f .skipped) (y ++ bs)) r
+      ∙ ap (drop (f .skipped)) (sym (drop-append-le (place w) ts bs (omega (arith, c, within w g, g .sound .front))))
+      ∙ drop-drop (f .skipped) (place w) (ts ++ bs))
+      ∙ drop-drop o (place w + f .skipped) (ts ++ bs)
+      ∙ ap (λ (i : ℕ). drop i (ts ++ bs)) (sym (place-after x w f g h))
+
+  go : {ts : List ℕ} {b : List Block} → ((zs : List ℕ) → MayFollow x zs → MayFollow (w .state .run .phase) (bs ++ zs))
+      → ((zs : List ℕ) → MayFollow x zs
+      → readRun (place w) (kept w ++ (bs ++ zs)) ≡ both (answer (f .standing) (place w) (f .skipped) (f .held)) (readRun (place w + f .skipped + size (f .standing)) (drop (size (f .standing)) (f .held) ++ zs)))
+      → Reads ts b w → Reads (ts ++ bs) (b ++ blk) (going x w f)
+  go {ts} {b} fol e r =
+      record {
+        count = omega (arith, r .count, length-append ts bs, n);
+        sum = omega (arith, r .sum, length-append b blk, ap length a, length-blocks (f .standing) (place w + f .skipped) (f .held));
+        places = r .places ++ placesFrom (place w) (f .skipped);
+        skips = omega (arith, r .skips, length-append (r .places) (placesFrom (place w) (f .skipped)), places-count (place w) (f .skipped));
+        rest = rest-after ts (r .count) (r .rest);
+        so = λ zs y.
+            ap (readRun 0) (append-assoc ts bs zs)
+            ∙ r .so (bs ++ zs) (fol zs y)
+            ∙ ap (both (record { blocks = b; skipped = r .places })) (e zs y)
+            ∙ both-both (record { blocks = b; skipped = r .places }) (answer (f .standing) (place w) (f .skipped) (f .held)) (readRun (place w + f .skipped + size (f .standing)) (drop (size (f .standing)) (f .held) ++ zs))
+            ∙ ap (λ (i : List Block). both (record { blocks = b ++ i; skipped = r .places ++ placesFrom (place w) (f .skipped) }) (readRun (place w + f .skipped + size (f .standing)) (drop (size (f .standing)) (f .held) ++ zs))) (sym a)
+            ∙ ap₂ (λ (i : ℕ) (j : List ℕ). both (record { blocks = b ++ blk; skipped = r .places ++ placesFrom (place w) (f .skipped) }) (readRun i (j ++ zs)))
+            (sym (place-after x w f g h)) (sym (kept-after x w f g h));
+      }
+
+-- ---- Feed
+
+-- what it took and reported, with the result of the call
+abbrev pub Next : Call → List ℕ → List Block → Answer × World → Type 0
+Next c ts b x = Reads (ts ++ tookOf c (x .0)) (b ++ inHold (reportIn (x .0)) (x .1)) (x .1)
+
+pub feed-fits : (w : World) (piece : List ℕ) → Good w → Fits w (feedingOf (w .state) (w .hold) piece)
+unfolding feedingOf
+feed-fits w piece g =
+    let c = calls.call (kept w) piece (limit - w .state .run .taken) in
+    record { front = c .front; sum = omega (arith, c .sum, kept-length w g) }
+
+pub reads-feed : (w : World) {ts : List ℕ} {b : List Block} (piece : List ℕ) → Good w → refusal (feed piece) w ≡ none → Reads ts b w → Next (feed piece) ts b (done (feed piece) w)
+unfolding feedingOf feedRefusal
+reads-feed w piece g e r =
+    let room = limit - w .state .run .taken in
+    let f = feedLit (kept w) piece (limit - w .state .run .taken) in
+    let h = feed-fits w piece g in
+    let n : f .taken ≡ length (take (f .taken) piece) = sym (length-take-le (f .taken) piece (omega (arith, calls.call (kept w) piece room .taken))) in
+    let fed : isFeeding (w .state .run .phase) ≡ true = passes (isFeeding (w .state .run .phase)) 2 _ (passes (sound (w .state) && longHold (w .hold)) 1 _ e .1) .0 in
+    go phase.Feeding w (take (f .taken) piece) f (inHold (reportIn (done (feed piece) w .0)) (done (feed piece) w .1)) g h n
+    (in-hold phase.Feeding w f g h) (calls.fed-holds piece room (kept w))
+    (λ zs y. follow-fed (w .state .run .phase) (take (f .taken) piece ++ zs) fed)
+    (λ zs y. feed-read zs piece room (place w) (kept w) ∙ answered (f .standing) (place w) (f .skipped) (f .held) zs (fed-stands piece room (kept w)))
+    r
+
+-- ---- Finish
+
+finish-reads : (o : Option ℕ) (p k : ℕ) (h v zs : List ℕ) → readRun p h ≡ skipMany p k (readRun (p + k) v) → Ends o v → zs ≡ []
+    → readRun p (h ++ ([] ++ zs)) ≡ both (answer o p k v) (readRun (p + k + size o) (drop (size o) v ++ zs))
+finish-reads none p k h v zs e f z =
+    ap (λ (i : List ℕ). readRun p (h ++ i)) z ∙ ap (readRun p) (append-nil h) ∙ e
+    ∙ ap₂ (λ (i : ℕ) (j : List ℕ). skipMany p k (readRun i j)) (sym (add-zero (p + k))) (sym (ap (λ (i : List ℕ). v ++ i) z ∙ append-nil v))
+finish-reads (some n) p k h v zs e f z =
+    ap (λ (i : List ℕ). readRun p (h ++ i)) z ∙ ap (readRun p) (append-nil h) ∙ e
+    ∙ ap (skipMany p k) (read-frame (p + k) n v f)
+    ∙ ap (λ (j : List ℕ). both (answer (some n) p k v) (readRun (p + k + n) j)) (sym (ap (λ (i : List ℕ). drop n v ++ i) z ∙ append-nil (drop n v)))
+
+follow-finish : (o : Option ℕ) (zs : List ℕ) → MayFollow (phaseAfter o) zs → zs ≡ []
+follow-finish none zs e = e
+follow-finish (some n) zs e = e
+
+pub finish-fits : (w : World) → Good w → Fits w (finishingOf (w .state) (w .hold))
+unfolding finishingOf
+finish-fits w g =
+    let q = finish-rest (kept w) in
+    record {
+      front = finish-front (kept w);
+      sum = omega (arith, kept-length w g, q .few, ap length (q .is), length-drop (finishLit (kept w) .skipped) (kept w));
+    }
+
+pub reads-finish : (w : World) {ts : List ℕ} {b : List Block} → Good w → refusal finish w ≡ none → Reads ts b w → Next finish ts b (done finish w)
+unfolding finishingOf
+reads-finish w g e r =
+    let f = stop (finishLit (kept w)) in
+    let o = finishLit (kept w) .standing in
+    let x = phaseAfter (finishLit (kept w) .standing) in
+    let h = finish-fits w g in
+    let k = finished (kept w) (place w) in
+    go (phaseAfter (finishLit (kept w) .standing)) w [] (stop (finishLit (kept w))) (inHold (reportIn (done finish w .0)) (done finish w .1)) g h refl
+    (ap (λ (i : Option _). inHold i (done finish w .1)) (finish-report o (runOn x (w .state .run) f) (finishLit (kept w) .rest)) ∙ in-hold x w f g h)
+    (finish-rest (kept w) .is ∙ ap (drop (finishLit (kept w) .skipped)) (sym (append-nil (kept w))))
+    (λ zs y. subst⁻¹ (MayFollow (w .state .run .phase)) (follow-finish o zs y) (follow-none (w .state .run .phase)))
+    (λ zs y. finish-reads o (place w) (f .skipped) (kept w) (f .held) zs (k .same) (k .ends) (follow-finish o zs y))
+    r

@@ -1,0 +1,140 @@
+-- The table in force is not touched while a run is open, and every record is read by it.
+-- Assumes nothing.
+use Prim.Native.Nat.{ℕ, _≤_, _<_}
+use native.Mathlib.Omega.{arith}
+use mathlib.Core.Path.{_≡_, refl, sym, ap, ap₂, _∙_, subst, subst⁻¹}
+use mathlib.Core.Bool.{Bool, true, false, _&&_, _||_, cond}
+use mathlib.Core.List.{List, [], _∷_, _++_}
+use mathlib.Core.Option.{Option, none, some}
+use lib.ListN.{length, take, drop, length-append, length-drop}
+use lib.Seq.{take-append-seam, length-take-le}
+use lib.Dec.{leb, ltb}
+use borrow.Author.Tests.{le-leb, lt-ltb, ltb-true}
+use Rattle.table.specs.Rules.{tableOk}
+use Rattle.table.specs.Decode.{decode}
+use Rattle.record.specs.Calls.{bodyField, subField, subBlock, subBlockRefusal, towRow, wncRow, stamp}
+use Rattle.reader.specs.State.{sound}
+use Rattle.reader.specs.Refusals.{need, longStore, nextTable, tableRefusal}
+use Rattle.reader.specs.Calls.{over, opening}
+use Rattle.reader.specs.Records.{tableInForce, askRefusal, saidUnless, bodyOf, subOf, subBytesOf, firstOf, subBytesRefusal, stampOf}
+use Rattle.reader.specs.declared.State.{State}
+use Rattle.demands.specs.World.{World, TableCall, stage, withdraw, Look, bytes, body, sub, subBytes, tow, wnc, Call, openRun, feed, finish, table, look, Answer, said, part, value, leftForce, looked, step, end, trace}
+use Rattle.demands.specs.Sequence.{AllFed, NoEnd, Within, opened}
+use Rattle.demands.specs.Demand3.{LooksBy, ReadsBy, AllBy, foundBy, OneTable}
+use Rattle.demands.proofs.Steps.{How, isnt, is, how, refusal, done}
+use Rattle.demands.proofs.Reached.{Good, good-sound, good-step}
+use Rattle.demands.proofs.Live.{Live, not-open, live-step, MayOpen, Stand, stands}
+
+-- ---- it is not touched
+
+pub record SameForce (w u : World) : Type 0 where
+  pub number : u .state .«in_force» ≡ w .state .«in_force»
+  pub store : u .force ≡ w .force
+
+same-table : (t : TableCall) (w : World) → SameForce w (done (table t) w .1)
+same-table (stage t) w = record { number = refl; store = refl }
+same-table withdraw w = record { number = refl; store = refl }
+
+same-done : (c : Call) (w : World) → Live w → refusal c w ≡ none → SameForce w (done c w .1)
+same-done openRun w l e = not-open w l e
+same-done (feed piece) w l e = record { number = refl; store = refl }
+same-done finish w l e = record { number = refl; store = refl }
+same-done (table t) w l e = same-table t w
+same-done (look k) w l e = record { number = refl; store = refl }
+
+same-by : (c : Call) (w : World) → Live w → {r : Answer × World} → How c w r → SameForce w (r .1)
+same-by c w l (isnt n e) = record { number = refl; store = refl }
+same-by c w l (is e) = same-done c w l e
+
+-- ---- a record is read by it
+
+-- a table that keeps the rules is in force
+pub record ReadBy (t : List ℕ) (w : World) : Type 0 where
+  pub long : 8192 ≤ length (w .force)
+  pub some : 0 < w .state .«in_force»
+  pub is : tableInForce (w .state) (w .force) ≡ t
+  pub ok : tableOk t ≡ true
+
+kept-by : (t : List ℕ) (w u : World) → SameForce w u → ReadBy t w → ReadBy t u
+kept-by t w u s r =
+    record {
+      long = omega (arith, ap length (s .store), r .long);
+      some = omega (arith, s .number, r .some);
+      is = ap₂ (λ (n : ℕ) (x : List ℕ). take n x) (s .number) (s .store) ∙ r .is;
+      ok = r .ok;
+    }
+
+no-refusal : (t : List ℕ) (w : World) → Good w → ReadBy t w → askRefusal (w .state) (w .force) ≡ none
+unfolding askRefusal
+no-refusal t w g r =
+    rw (good-sound w g, le-leb 8192 (length (w .force)) (r .long), lt-ltb 0 (w .state .«in_force») (r .some), r .is, r .ok) refl
+
+pub look-by : (t : List ℕ) (l : Look) (w : World) → Good w → ReadBy t w → LooksBy (decode t) l (looked l w)
+unfolding bodyOf subOf subBytesOf subBytesRefusal stampOf
+look-by t bytes w g r = tt
+look-by t (body b i) w g r = rw (no-refusal t w g r, r .is) refl
+look-by t (sub b k j) w g r = rw (no-refusal t w g r, r .is) refl
+look-by t (subBytes b k) w g r = rw (no-refusal t w g r, r .is) refl
+look-by t (tow b) w g r = rw (good-sound w g) refl
+look-by t (wnc b) w g r = rw (good-sound w g) refl
+
+reads-by : (t : List ℕ) (c : Call) (w : World) → Good w → ReadBy t w → ReadsBy (decode t) c (step c w .0)
+unfolding step
+reads-by t openRun w g r = tt
+reads-by t (feed piece) w g r = tt
+reads-by t finish w g r = tt
+reads-by t (table k) w g r = tt
+reads-by t (look l) w g r = look-by t l w g r
+
+all-by : (t : List ℕ) (cs : List Call) (w : World) → AllFed cs → Good w → Live w → NoEnd cs w → ReadBy t w → AllBy (decode t) (trace cs w)
+unfolding trace AllBy AllFed NoEnd
+all-by t [] w b g l n r = tt
+all-by t (c ∷ cs) w b g l n r = (
+  reads-by t c w g r,
+  all-by t cs (step c w .1) (b .1) (good-step c w (b .0) g) (live-step c w l (n .0)) (n .1) (kept-by t w (step c w .1) (same-by c w l (how c w)) r),
+)
+
+-- ---- the table that Open found comes into force
+
+pub length-over : (v h : List ℕ) → length v ≤ length h → length (over v h) ≡ length h
+length-over v h l = omega (arith, length-append v (drop (length v) h), length-drop (length v) h)
+
+found-by : (b : Bool) (w : World) → Good w → MayOpen w → ltb 0 (w .state .waiting) ≡ b → ReadBy (nextTable (w .state) (w .force) (w .wait)) (leftForce w (opening (w .state) (w .force) (w .wait)) .1)
+found-by true w g m e =
+    let s = w .state in
+    let n = w .state .waiting in
+    let f = m .long in
+    let lt : length (take (w .state .waiting) (w .wait)) ≡ w .state .waiting = length-take-le n (w .wait) (omega (arith, f .facts .waiting, f .long-wait)) in
+    let lo = length-over (take (w .state .waiting) (w .wait)) (w .force) (omega (arith, f .facts .waiting, f .long-force)) in
+    record {
+      long = rw e (omega (arith, lo, f .long-force));
+      some = rw e (ltb-true 0 n e);
+      is = rw e (ap (λ (k : ℕ). take k (over (take (w .state .waiting) (w .wait)) (w .force))) (sym lt) ∙ take-append-seam (take (w .state .waiting) (w .wait)) (drop (length (take (w .state .waiting) (w .wait))) (w .force)));
+      ok = m .ok;
+    }
+found-by false w g m e =
+    record {
+      long = rw e (m .long .long-force);
+      some = rw e (ltb-true 0 (w .state .«in_force») (rw e at (m .one)));
+      is = rw e refl;
+      ok = m .ok;
+    }
+
+-- on it stands the run
+pub found : (w : World) (before mid : List Call) → Within w before mid
+    → ReadBy (nextTable (end before w .state) (end before w .force) (end before w .wait)) (opened w before)
+found w before mid h =
+    let s = stands w before mid h in
+    let t = nextTable (end before w .state) (end before w .force) (end before w .wait) in
+    subst⁻¹ (ReadBy t) (s .opens .is) (found-by (ltb 0 (end before w .state .waiting)) (end before w) (s .start) (s .opens .may) refl)
+
+pub read-end : (t : List ℕ) (cs : List Call) (w : World) → Live w → NoEnd cs w → ReadBy t w → ReadBy t (end cs w)
+unfolding end NoEnd
+read-end t [] w l n r = r
+read-end t (c ∷ cs) w l n r = read-end t cs (step c w .1) (live-step c w l (n .0)) (n .1) (kept-by t w (step c w .1) (same-by c w l (how c w)) r)
+
+pub one-table : OneTable
+one-table w before mid h =
+    let s = stands w before mid h in
+    let t = nextTable (end before w .state) (end before w .force) (end before w .wait) in
+    all-by t mid (opened w before) (h .fed) (s .good) (s .live) (h .noEnd) (found w before mid h)

@@ -1,0 +1,109 @@
+-- A run that stands open stays open until End; what it stands on.
+-- Assumes nothing.
+use Prim.Native.Nat.{ℕ, _≤_, _<_}
+use native.Mathlib.Omega.{arith}
+use mathlib.Core.Path.{_≡_, refl, sym, ap, _∙_, subst⁻¹}
+use mathlib.Core.Bool.{Bool, true, false, _&&_, _||_}
+use mathlib.Core.List.{List, [], _∷_}
+use mathlib.Core.Option.{Option, none, some}
+use lib.ListN.{length}
+use lib.Dec.{ltb}
+use Rattle.table.specs.Rules.{tableOk}
+use Rattle.reader.specs.State.{sound}
+use Rattle.reader.specs.Said.{Said, refused, version}
+use Rattle.reader.specs.Refusals.{need, isClosed, longStore, nextTable, tableRefusal, openRefusal}
+use Rattle.reader.specs.Calls.{opening, finishingOf, finishingBy, finishSaid, phaseAfter}
+use Rattle.reader.specs.declared.Run.{Run}
+use Rattle.reader.specs.declared.State.{State}
+use Rattle.reader.proofs.Laws.{passes}
+use Rattle.reader.proofs.Accepted.{OpenPassed, open-passed}
+use Rattle.demands.specs.World.{World, TableCall, stage, withdraw, Call, openRun, feed, finish, table, look, Answer, said, leftForce, step, end}
+use Rattle.demands.specs.Sequence.{AllFed, endSaid, isEnd, NoEnd, Within, opened}
+use Rattle.demands.proofs.Steps.{How, isnt, is, how, refusal, done, clash}
+use Rattle.demands.proofs.Reached.{Good, good-step, good-end, good-new}
+
+abbrev pub Live : World → Type 0
+Live w = isClosed (w .state .run .phase) ≡ false
+
+-- the refusals of Open taken apart
+pub record MayOpen (w : World) : Type 0 where
+  pub long : OpenPassed (w .state) (w .force) (w .wait)
+  pub closed : isClosed (w .state .run .phase) ≡ true
+  pub one : (ltb 0 (w .state .waiting) || ltb 0 (w .state .«in_force»)) ≡ true
+  pub ok : tableOk (nextTable (w .state) (w .force) (w .wait)) ≡ true
+
+pub may-open : (w : World) → refusal openRun w ≡ none → MayOpen w
+unfolding openRefusal
+may-open w e =
+    let s = w .state in
+    let a = passes (sound s && longStore (w .force) && longStore (w .wait)) 1 _ e .1 in
+    let b = passes (isClosed (s .run .phase)) 2 _ a in
+    let c = passes (ltb 0 (s .waiting) || ltb 0 (s .«in_force»)) 5 _ (b .1) in
+    record {
+      long = open-passed s (w .force) (w .wait) e;
+      closed = b .0;
+      one = c .0;
+      ok = passes (tableOk (nextTable s (w .force) (w .wait))) 4 none (c .1) .0;
+    }
+
+pub not-open : {X : Type 0} (w : World) → Live w → refusal openRun w ≡ none → X
+not-open w l e = clash (sym (may-open w e .closed) ∙ l)
+
+-- ---- it stays open
+
+live-finish : (o : Option ℕ) (v : List ℕ) (r : Run) → endSaid (finishSaid o r v) ≡ false → isClosed (phaseAfter o) ≡ false
+live-finish none v r e = e
+live-finish (some n) v r e = refl
+
+live-table : (t : TableCall) (w : World) → Live w → Live (done (table t) w .1)
+live-table (stage t) w l = l
+live-table withdraw w l = l
+
+live-done : (c : Call) (w : World) → Live w → refusal c w ≡ none → isEnd (done c w .0) ≡ false → Live (done c w .1)
+live-done openRun w l e n = not-open w l e
+live-done (feed piece) w l e n = refl
+live-done finish w l e n =
+    let f = finishingOf (w .state) (w .hold) in
+    live-finish (f .standing) (f .held) (finishingBy f (w .state) (w .hold) .state .run) n
+live-done (table t) w l e n = live-table t w l
+live-done (look k) w l e n = l
+
+live-by : (c : Call) (w : World) → Live w → {r : Answer × World} → How c w r → isEnd (r .0) ≡ false → Live (r .1)
+live-by c w l (isnt k e) n = l
+live-by c w l (is e) n = live-done c w l e n
+
+pub live-step : (c : Call) (w : World) → Live w → isEnd (step c w .0) ≡ false → Live (step c w .1)
+live-step c w l n = live-by c w l (how c w) n
+
+pub live-end : (cs : List Call) (w : World) → Live w → NoEnd cs w → Live (end cs w)
+unfolding end NoEnd
+live-end [] w l n = l
+live-end (c ∷ cs) w l n = live-end cs (step c w .1) (live-step c w l (n .0)) (n .1)
+
+-- ---- an Open that answered a version
+
+pub record Opened (w : World) (r : Answer × World) : Type 0 where
+  pub may : MayOpen w
+  pub is : r .1 ≡ leftForce w (opening (w .state) (w .force) (w .wait)) .1
+
+opened-by : (w : World) {r : Answer × World} → How openRun w r → (v : ℕ) → r .0 ≡ said (version v) → Opened w r
+opened-by w (isnt k e) v f = let z : _≡_ {A = ℕ} 0 1 = cc in let x : ⊥ = omega arith in absurd x
+opened-by w (is e) v f = record { may = may-open w e; is = refl }
+
+-- what a run within a sequence stands on
+pub record Stand (w : World) (before : List Call) : Type 0 where
+  pub start : Good (end before w)
+  pub opens : Opened (end before w) (step openRun (end before w))
+  pub good : Good (opened w before)
+  pub live : Live (opened w before)
+
+pub stands : (w : World) (before mid : List Call) → Within w before mid → Stand w before
+stands w before mid h =
+    let g = good-end before w (h .fedBefore) (good-new w (h .new)) in
+    let o = opened-by (end before w) (how openRun (end before w)) (h .number) (h .answer) in
+    record {
+      start = g;
+      opens = o;
+      good = good-step openRun (end before w) tt g;
+      live = ap (λ (x : World). isClosed (x .state .run .phase)) (o .is);
+    }

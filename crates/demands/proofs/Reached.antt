@@ -1,0 +1,114 @@
+-- What holds of every world that calls on a new reader leave: a sound state, and a hold of bytes that has the held ones.
+-- Assumes nothing.
+use Prim.Native.Nat.{ℕ, _+_, _-_, _≤_, _<_}
+use native.Mathlib.Omega.{arith}
+use mathlib.Core.Path.{_≡_, refl, sym, ap, _∙_, subst, subst⁻¹}
+use mathlib.Core.Bool.{true}
+use mathlib.Core.List.{List, [], _∷_, _++_}
+use mathlib.Core.Option.{Option, none, some}
+use lib.ListN.{length, take, drop, length-append, length-drop}
+use Rattle.frame.specs.Settle.{finishLit}
+use Rattle.frame.specs.Feed.{Feeding, feedLit, stop}
+use Rattle.frame.proofs.Bounds.{append-bytes, take-bytes, drop-bytes}
+use Rattle.frame.proofs.Calls.{fed-holds}
+use Rattle.frame.proofs.Runs.{finish-rest}
+use Rattle.feed.specs.Hold.{restOf, holdOf}
+use Rattle.reader.specs.State.{limit, newState, sound}
+use Rattle.reader.specs.Calls.{openOf, feedingOf, feedOf, finishingOf, finishOf, stageOf, withdrawOf}
+use Rattle.reader.specs.declared.State.{State}
+use Rattle.demands.specs.Sound.{Sound, Bytes}
+use Rattle.demands.specs.World.{World, TableCall, stage, withdraw, Call, openRun, feed, finish, table, look, Answer, step, end}
+use Rattle.demands.specs.Sequence.{New, Fed, AllFed}
+use Rattle.demands.proofs.Soundness.{sound-kept, rest-bytes}
+use Rattle.demands.proofs.Steps.{How, isnt, is, how, refusal, done}
+
+pub record Held (s : State) (hold : List ℕ) : Type 0 where
+  pub there : s .run .held ≤ length hold
+  pub clean : Bytes hold
+
+pub record Good (w : World) : Type 0 where
+  pub reported : ℕ
+  pub sound : Sound (w .state) reported
+  pub held : Held (w .state) (w .hold)
+
+pub good-sound : (w : World) → Good w → sound (w .state) ≡ true
+good-sound w g = sound-kept .passes (w .state) (g .reported) (g .sound)
+
+-- ---- the hold
+
+over-hold : (f : Feeding) (hold : List ℕ) → length (f .held) ≤ length (holdOf f hold)
+over-hold f hold = omega (arith, length-append (f .held) (drop (length (f .held)) hold))
+
+clean-hold : (f : Feeding) (hold : List ℕ) → Bytes (f .held) → Bytes hold → Bytes (holdOf f hold)
+clean-hold f hold a b = append-bytes (f .held) (drop (length (f .held)) hold) a (drop-bytes hold (length (f .held)) b)
+
+fed-clean : (s : State) (hold piece : List ℕ) → Bytes hold → Bytes piece → Bytes (feedingOf s hold piece .held)
+unfolding feedingOf
+fed-clean s hold piece b p =
+    let rest = restOf hold (s .run .held) (s .run .standing) in
+    let room = limit - s .run .taken in
+    let f = feedLit (restOf hold (s .run .held) (s .run .standing)) piece (limit - s .run .taken) in
+    subst⁻¹ Bytes (fed-holds piece room rest)
+    (drop-bytes (rest ++ take (f .taken) piece) (f .skipped)
+    (append-bytes rest (take (f .taken) piece) (rest-bytes hold (s .run .held) (s .run .standing) b) (take-bytes piece (f .taken) p)))
+
+end-clean : (s : State) (hold : List ℕ) → Bytes hold → Bytes (finishingOf s hold .held)
+unfolding finishingOf
+end-clean s hold b =
+    let rest = restOf hold (s .run .held) (s .run .standing) in
+    subst⁻¹ Bytes (finish-rest rest .is) (drop-bytes rest (finishLit rest .skipped) (rest-bytes hold (s .run .held) (s .run .standing) b))
+
+table-held : (t : TableCall) (w : World) → Held (w .state) (w .hold) → Held (done (table t) w .1 .state) (done (table t) w .1 .hold)
+table-held (stage t) w h = record { there = h .there; clean = h .clean }
+table-held withdraw w h = record { there = h .there; clean = h .clean }
+
+held-done : (c : Call) (w : World) → Fed c → Held (w .state) (w .hold) → Held (done c w .1 .state) (done c w .1 .hold)
+held-done openRun w b h = record { there = omega arith; clean = h .clean }
+held-done (feed piece) w b h =
+    record {
+      there = over-hold (feedingOf (w .state) (w .hold) piece) (w .hold);
+      clean = clean-hold (feedingOf (w .state) (w .hold) piece) (w .hold) (fed-clean (w .state) (w .hold) piece (h .clean) b) (h .clean);
+    }
+held-done finish w b h =
+    record {
+      there = over-hold (finishingOf (w .state) (w .hold)) (w .hold);
+      clean = clean-hold (finishingOf (w .state) (w .hold)) (w .hold) (end-clean (w .state) (w .hold) (h .clean)) (h .clean);
+    }
+held-done (table t) w b h = table-held t w h
+held-done (look l) w b h = h
+
+held-by : (c : Call) (w : World) → Fed c → Held (w .state) (w .hold) → {r : Answer × World} → How c w r → Held (r .1 .state) (r .1 .hold)
+held-by c w b h (isnt n e) = h
+held-by c w b h (is e) = held-done c w b h
+
+-- ---- the state
+
+sound-step : (c : Call) (w : World) → Fed c → Good w → (k : ℕ) × Sound (step c w .1 .state) k
+unfolding step
+sound-step openRun w b g = sound-kept .opens (w .state) (g .reported) (w .force) (w .wait) (g .sound)
+sound-step (feed piece) w b g = sound-kept .feeds (w .state) (g .reported) (w .hold) piece (g .held .clean) b (g .sound)
+sound-step finish w b g = sound-kept .finishes (w .state) (g .reported) (w .hold) (g .sound)
+sound-step (table (stage t)) w b g = sound-kept .stages (w .state) (g .reported) (w .wait) t (g .sound)
+sound-step (table withdraw) w b g = sound-kept .withdraws (w .state) (g .reported) (g .sound)
+sound-step (look l) w b g = (g .reported, g .sound)
+
+-- ---- every call keeps it
+
+pub good-step : (c : Call) (w : World) → Fed c → Good w → Good (step c w .1)
+good-step c w b g =
+    let s = sound-step c w b g in
+    record { reported = s .0; sound = s .1; held = held-by c w b (g .held) (how c w) }
+
+pub good-end : (cs : List Call) (w : World) → AllFed cs → Good w → Good (end cs w)
+unfolding end AllFed
+good-end [] w b g = g
+good-end (c ∷ cs) w b g = good-end cs (step c w .1) (b .1) (good-step c w (b .0) g)
+
+pub good-new : (w : World) → New w → Good w
+good-new w n =
+    let e : w .state .run .held ≡ 0 = ap (λ (s : State). s .run .held) (n .state) in
+    record {
+      reported = 0;
+      sound = subst⁻¹ (λ (s : State). Sound s 0) (n .state) (sound-kept .new);
+      held = record { there = omega arith; clean = n .hold };
+    }

@@ -1,0 +1,90 @@
+-- A refused call keeps the world and hands back nothing; reached states are sound.
+-- Assumes nothing.
+use Prim.Native.Nat.{ℕ}
+use native.Mathlib.Omega.{arith}
+use mathlib.Core.Path.{_≡_, refl, sym, _∙_}
+use mathlib.Core.List.{List, []}
+use mathlib.Core.Option.{Option, none, some}
+use Rattle.record.specs.Block.{Seen, refusedBy, row, seenSub}
+use Rattle.record.specs.Calls.{partBy, numberBy, subBlock, subBlockRefusal}
+use Rattle.table.specs.Decode.{decode}
+use Rattle.reader.specs.Refusals.{bytesRefusal}
+use Rattle.reader.specs.Calls.{finishingOf, finishingBy, finishSaid, partUnless, bytesOf}
+use Rattle.reader.specs.Records.{tableInForce, askRefusal, firstOf, subBytesOf, subBytesRefusal}
+use Rattle.reader.specs.declared.Run.{Run}
+use Rattle.demands.specs.World.{World, TableCall, stage, withdraw, Look, bytes, body, sub, subBytes, tow, wnc, Call, openRun, feed, finish, table, look, Answer, said, looked, step}
+use Rattle.demands.specs.Sequence.{partOf}
+use Rattle.demands.specs.Demand1.{refusalSaid, refusalIn, Demand1}
+use Rattle.demands.proofs.Steps.{How, isnt, is, how, done, tableDone, no-some}
+use Rattle.demands.proofs.Reached.{good-sound, good-end, good-new}
+
+-- ---- what is done where none is refused is no refusal, but for a look, which changes nothing
+
+finish-no : {X : Type 0} (o : Option ℕ) (v : List ℕ) (r : Run) (n : ℕ) → refusalSaid (finishSaid o r v) ≡ some n → X
+finish-no none v r n e = no-some (sym e)
+finish-no (some m) v r n e = no-some (sym e)
+
+table-keeps : (t : TableCall) (w : World) (n : ℕ) → refusalIn (tableDone t w .0) ≡ some n → tableDone t w .1 ≡ w
+table-keeps (stage t) w n e = no-some (sym e)
+table-keeps withdraw w n e = no-some (sym e)
+
+done-keeps : (c : Call) (w : World) (n : ℕ) → refusalIn (done c w .0) ≡ some n → done c w .1 ≡ w
+done-keeps openRun w n e = no-some (sym e)
+done-keeps (feed piece) w n e = no-some (sym e)
+done-keeps finish w n e =
+    let f = finishingOf (w .state) (w .hold) in
+    finish-no (f .standing) (f .held) (finishingBy f (w .state) (w .hold) .state .run) n e
+done-keeps (table t) w n e = table-keeps t w n e
+done-keeps (look l) w n e = refl
+
+keeps-by : (c : Call) (w : World) (n : ℕ) {r : Answer × World} → How c w r → refusalIn (r .0) ≡ some n → r .1 ≡ w
+keeps-by c w n (isnt m e) f = refl
+keeps-by c w n (is e) f = done-keeps c w n f
+
+-- ---- a part is empty where its second call gives a number
+
+bytes-empty : (o : Option ℕ) (n : ℕ) (p : List ℕ) → o ≡ some n → partUnless o p ≡ []
+bytes-empty none n p e = no-some (sym e)
+bytes-empty (some m) n p e = refl
+
+seen-empty : (b : List ℕ) (k n : ℕ) (s : Seen) → numberBy s ≡ some n → partBy b k s ≡ []
+seen-empty b k n (refusedBy m) e = refl
+seen-empty b k n (row r) e = no-some (sym e)
+
+sub-empty : (o q : Option ℕ) (n : ℕ) (p : List ℕ) → (q ≡ some n → p ≡ []) → firstOf o q ≡ some n → partUnless o p ≡ []
+sub-empty none q n p f e = f e
+sub-empty (some m) q n p f e = refl
+
+look-empty : (l : Look) (w : World) (n : ℕ) → refusalIn (looked l w) ≡ some n → partOf (looked l w) ≡ []
+unfolding bytesOf subBytesOf subBytesRefusal subBlock subBlockRefusal
+look-empty bytes w n e = bytes-empty (bytesRefusal (w .state) (w .hold)) n _ e
+look-empty (body b i) w n e = refl
+look-empty (sub b k j) w n e = refl
+look-empty (subBytes b k) w n e =
+    let t = decode (tableInForce (w .state) (w .force)) in
+    sub-empty (askRefusal (w .state) (w .force)) (subBlockRefusal t b k) n (subBlock t b k) (seen-empty b k n (seenSub t b k)) e
+look-empty (tow b) w n e = refl
+look-empty (wnc b) w n e = refl
+
+table-empty : (t : TableCall) (w : World) → partOf (tableDone t w .0) ≡ []
+table-empty (stage t) w = refl
+table-empty withdraw w = refl
+
+done-empty : (c : Call) (w : World) (n : ℕ) → refusalIn (done c w .0) ≡ some n → partOf (done c w .0) ≡ []
+done-empty openRun w n e = refl
+done-empty (feed piece) w n e = refl
+done-empty finish w n e = refl
+done-empty (table t) w n e = table-empty t w
+done-empty (look l) w n e = look-empty l w n e
+
+empty-by : (c : Call) (w : World) (n : ℕ) {r : Answer × World} → How c w r → refusalIn (r .0) ≡ some n → partOf (r .0) ≡ []
+empty-by c w n (isnt m e) f = refl
+empty-by c w n (is e) f = done-empty c w n f
+
+pub demand-1 : Demand1
+demand-1 =
+    record {
+      keeps = λ c w n e. keeps-by c w n (how c w) e;
+      empty = λ c w n e. empty-by c w n (how c w) e;
+      sound = λ w before n b. good-sound _ (good-end before w b (good-new w n));
+    }

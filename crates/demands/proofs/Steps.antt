@@ -1,0 +1,88 @@
+-- A step by its refusal: it is refused and nothing is done, or no refusal is due and it is done.
+-- Assumes nothing.
+use Prim.Native.Nat.{ℕ}
+use native.Mathlib.Omega.{arith}
+use mathlib.Core.Path.{_≡_, refl}
+use mathlib.Core.Bool.{Bool, true, false}
+use mathlib.Core.List.{List}
+use mathlib.Core.Option.{Option, none, some}
+use Rattle.reader.specs.Said.{refused}
+use Rattle.reader.specs.Refusals.{openRefusal, feedRefusal, finishRefusal, stageRefusal, withdrawRefusal}
+use Rattle.reader.specs.Calls.{Outcome, unless, opening, openOf, feedingBy, feedingOf, feedOf, finishingBy, finishingOf, finishOf, staging, stageOf, withdrawing, withdrawOf}
+use Rattle.demands.specs.World.{World, TableCall, stage, withdraw, Look, Call, openRun, feed, finish, table, look, Answer, said, part, value, leftForce, leftHold, leftWait, leftNone, looked, tabled, step}
+
+abbrev pub tableRefusals : TableCall → World → Option ℕ
+tableRefusals (stage t) w = stageRefusal (w .state) (w .wait) t
+tableRefusals withdraw w = withdrawRefusal (w .state)
+
+-- the refusal of a call that changes something
+abbrev pub refusal : Call → World → Option ℕ
+refusal openRun w = openRefusal (w .state) (w .force) (w .wait)
+refusal (feed piece) w = feedRefusal (w .state) (w .hold) piece
+refusal finish w = finishRefusal (w .state) (w .hold)
+refusal (table t) w = tableRefusals t w
+refusal (look l) w = none
+
+abbrev pub tableDone : TableCall → World → Answer × World
+tableDone (stage t) w = leftWait w (staging (w .state) (w .wait) t)
+tableDone withdraw w = leftNone w (withdrawing (w .state))
+
+-- what it does where none is due
+abbrev pub done : Call → World → Answer × World
+done openRun w = leftForce w (opening (w .state) (w .force) (w .wait))
+done (feed piece) w = leftHold w (feedingBy (feedingOf (w .state) (w .hold) piece) (w .state) (w .hold))
+done finish w = leftHold w (finishingBy (finishingOf (w .state) (w .hold)) (w .state) (w .hold))
+done (table t) w = tableDone t w
+done (look l) w = (looked l w, w)
+
+abbrev pub unlessRefused : Option ℕ → Call → World → Answer × World
+unlessRefused (some n) c w = (said (refused n), w)
+unlessRefused none c w = done c w
+
+open-by : (o : Option ℕ) (w : World) → leftForce w (unless o (w .state) (w .force) (opening (w .state) (w .force) (w .wait))) ≡ unlessRefused o openRun w
+open-by none w = refl
+open-by (some n) w = refl
+
+feed-by : (o : Option ℕ) (piece : List ℕ) (w : World)
+    → leftHold w (unless o (w .state) (w .hold) (feedingBy (feedingOf (w .state) (w .hold) piece) (w .state) (w .hold))) ≡ unlessRefused o (feed piece) w
+feed-by none piece w = refl
+feed-by (some n) piece w = refl
+
+finish-by : (o : Option ℕ) (w : World)
+    → leftHold w (unless o (w .state) (w .hold) (finishingBy (finishingOf (w .state) (w .hold)) (w .state) (w .hold))) ≡ unlessRefused o finish w
+finish-by none w = refl
+finish-by (some n) w = refl
+
+stage-by : (o : Option ℕ) (t : List ℕ) (w : World) → leftWait w (unless o (w .state) (w .wait) (staging (w .state) (w .wait) t)) ≡ unlessRefused o (table (stage t)) w
+stage-by none t w = refl
+stage-by (some n) t w = refl
+
+withdraw-by : (o : Option ℕ) (l : List ℕ) (w : World) → leftNone w (unless o (w .state) l (withdrawing (w .state))) ≡ unlessRefused o (table withdraw) w
+withdraw-by none l w = refl
+withdraw-by (some n) l w = refl
+
+pub by-refusal : (c : Call) (w : World) → step c w ≡ unlessRefused (refusal c w) c w
+unfolding step openOf feedOf finishOf stageOf withdrawOf
+by-refusal openRun w = open-by (openRefusal (w .state) (w .force) (w .wait)) w
+by-refusal (feed piece) w = feed-by (feedRefusal (w .state) (w .hold) piece) piece w
+by-refusal finish w = finish-by (finishRefusal (w .state) (w .hold)) w
+by-refusal (table (stage t)) w = stage-by (stageRefusal (w .state) (w .wait) t) t w
+by-refusal (table withdraw) w = withdraw-by (withdrawRefusal (w .state)) _ w
+by-refusal (look l) w = refl
+
+pub data How (c : Call) (w : World) : Answer × World → Type 0 where
+  isnt : (n : ℕ) → refusal c w ≡ some n → How c w (said (refused n), w)
+  is : refusal c w ≡ none → How c w (done c w)
+
+how-by : (o : Option ℕ) (c : Call) (w : World) → refusal c w ≡ o → How c w (unlessRefused o c w)
+how-by (some n) c w e = isnt n e
+how-by none c w e = is e
+
+pub how : (c : Call) (w : World) → How c w (step c w)
+how c w = rw (by-refusal c w) (how-by (refusal c w) c w refl)
+
+pub clash : {X : Type 0} → true ≡ false → X
+clash e = let z : _≡_ {A = ℕ} 0 1 = cc in let f : ⊥ = omega arith in absurd f
+
+pub no-some : {X : Type 0} {n : ℕ} → some n ≡ none → X
+no-some e = let z : _≡_ {A = ℕ} 0 1 = cc in let f : ⊥ = omega arith in absurd f

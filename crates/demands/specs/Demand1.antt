@@ -1,0 +1,45 @@
+-- Demand 1: "Every call answers on every input and ends. Bad tables, noise, cut blocks, short buffers and calls out of turn get the numbered
+-- refusals of document 01, and a refused call changes no lent byte and no state." That every call answers and ends is the language's: each
+-- function of the code is total, and each public call has no `requires`. When each number is given, `Exactly` says.
+-- Assumes nothing.
+use Prim.Native.Nat.{ℕ}
+use mathlib.Core.Path.{_≡_}
+use mathlib.Core.Bool.{true}
+use mathlib.Core.List.{List, []}
+use mathlib.Core.Option.{Option, none, some}
+use Rattle.record.specs.Answer as fields
+use Rattle.reader.specs.State.{sound}
+use Rattle.reader.specs.Said.{Said, refused, version, took, found, ended, waited}
+use Rattle.demands.specs.World.{World, Look, Call, look, Answer, said, part, value, step, end}
+use Rattle.demands.specs.Sequence.{New, AllFed, partOf}
+
+-- the number of a refusal, in an answer of each kind
+abbrev pub refusalSaid : Said → Option ℕ
+refusalSaid (refused n) = some n
+refusalSaid (version v) = none
+refusalSaid (took n r) = none
+refusalSaid (found r) = none
+refusalSaid (ended n b s) = none
+refusalSaid (waited b) = none
+
+abbrev pub refusalValue : fields.Said → Option ℕ
+refusalValue (fields.unsigned n) = none
+refusalValue (fields.signed z) = none
+refusalValue (fields.single b) = none
+refusalValue (fields.double b) = none
+refusalValue fields.doNotUse = none
+refusalValue fields.notInRevision = none
+refusalValue (fields.refused n) = some n
+
+abbrev pub refusalIn : Answer → Option ℕ
+refusalIn (said a) = refusalSaid a
+refusalIn (part n p) = n
+refusalIn (value v) = refusalValue v
+
+pub record Demand1 : Type 0 where
+  -- "a refused call changes no lent byte and no state"
+  pub keeps : (c : Call) (w : World) (n : ℕ) → refusalIn (step c w .0) ≡ some n → step c w .1 ≡ w
+  -- "A call that hands back a part then hands back an empty one"
+  pub empty : (c : Call) (w : World) (n : ℕ) → refusalIn (step c w .0) ≡ some n → partOf (step c w .0) ≡ []
+  -- no calls on a new reader lead to a state that refusal 1 names, whatever the buffers
+  pub sound : (w : World) (before : List Call) → New w → AllFed before → sound (end before w .state) ≡ true

@@ -1,0 +1,62 @@
+-- Demand 2: "The blocks reported are exactly those that the framing rules .. give for the run's bytes, taken from the left. Each field has
+-- the value, the Do-Not-Use mark, the absence from its revision or the refusal that the guide's types and the table in force give it."
+-- Assumes nothing.
+use Prim.Native.Nat.{ℕ, _+_, _-_}
+use mathlib.Core.Path.{_≡_}
+use mathlib.Core.List.{List, [], _∷_, _++_}
+use mathlib.Core.Option.{none}
+use lib.ListN.{length, drop}
+use Rattle.frame.specs.Judge.{judged}
+use Rattle.frame.specs.ReadRun.{readRun}
+use Rattle.frame.specs.declared.Verdict.the-variants.{Undecided}
+use Rattle.table.specs.Decode.{decode}
+use Rattle.reader.specs.Said.{took}
+use Rattle.reader.specs.Records.{tableInForce}
+use Rattle.reader.specs.declared.Phase.{Phase}
+use Rattle.reader.specs.declared.Phase.the-variants.{Closed, Feeding, Finishing}
+use Rattle.demands.specs.World.{World, Look, Call, feed, look, Answer, said, step, end}
+use Rattle.demands.specs.Sequence.{Within, opened, taken, blocks}
+use Rattle.demands.specs.Demand3.{LooksBy}
+
+-- what may follow: "After the first Finish no bytes are fed"
+abbrev pub MayFollow : Phase → List ℕ → Type 0
+MayFollow Closed more = more ≡ []
+MayFollow Feeding more = Unit {0}
+MayFollow Finishing more = more ≡ []
+
+-- the place where reading goes on: that of the first held byte, behind the standing block
+abbrev pub placeNow : World → ℕ
+placeNow w = w .state .run .taken - w .state .run .held + w .state .run .standing
+
+-- at a moment of a run whose calls took the bytes t: whatever follows, the whole run reads as the blocks reported so far and as many
+-- skipped bytes as are counted, and then as it reads from the place on
+pub record ReadSoFar (w : World) (mid : List Call) : Type 0 where
+  pub follows : (more : List ℕ) → MayFollow (end mid w .state .run .phase) more
+      → readRun 0 (taken mid w ++ more) .blocks
+      ≡ blocks mid w ++ readRun (placeNow (end mid w)) (drop (placeNow (end mid w)) (taken mid w) ++ more) .blocks
+  pub skips : (more : List ℕ) → MayFollow (end mid w .state .run .phase) more
+      → length (readRun 0 (taken mid w ++ more) .skipped)
+      ≡ end mid w .state .run .skipped + length (readRun (placeNow (end mid w)) (drop (placeNow (end mid w)) (taken mid w) ++ more) .skipped)
+  pub took : end mid w .state .run .taken ≡ length (taken mid w)
+  pub counted : end mid w .state .run .blocks ≡ length (blocks mid w)
+
+abbrev pub FirstOnes : Type 0
+FirstOnes = (w : World) (before mid : List Call) → Within w before mid → ReadSoFar (opened w before) mid
+
+-- "one that answers More has decided all it can": the bytes taken leave the place undecided where reading goes on
+abbrev pub MoreDecided : Type 0
+MoreDecided =
+    (w : World) (before mid : List Call) (piece : List ℕ) (n : ℕ) → Within w before mid
+    → step (feed piece) (end mid (opened w before)) .0 ≡ said (took n none)
+    → judged (drop (placeNow (end (mid ++ feed piece ∷ []) (opened w before))) (taken (mid ++ feed piece ∷ []) (opened w before))) ≡ Undecided
+
+-- a record call at a moment of a run is answered by the table in force at that moment
+abbrev pub ByTheTable : Type 0
+ByTheTable =
+    (w : World) (before mid : List Call) → Within w before mid → (l : Look)
+    → LooksBy (decode (tableInForce (end mid (opened w before) .state) (end mid (opened w before) .force))) l (step (look l) (end mid (opened w before)) .0)
+
+pub record Demand2 : Type 0 where
+  pub first : FirstOnes
+  pub more : MoreDecided
+  pub records : ByTheTable
