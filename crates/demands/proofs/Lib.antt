@@ -2,3 +2,9 @@ pub mod Keeping
 pub mod Apart
 pub mod Exact
 pub mod Soundness
+pub mod Framed
+pub mod Listed
+pub mod Numbers
+pub mod Fits
+pub mod Asked
+pub mod Told

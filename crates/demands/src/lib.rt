@@ -1,4 +1,5 @@
 // What was demanded, as theorems over the definitions that the reader's contracts cite.
+ghost use Rattle.demands.specs.Asked.{AskedExactlyWhen, SaidExactlyWhen};
 ghost use Rattle.demands.specs.Exactly.{ExactlyWhen};
 ghost use Rattle.demands.specs.One.{OneOutcome};
 ghost use Rattle.demands.specs.Refused.{RefusedKeeps};
@@ -22,4 +23,14 @@ pub fn exactly_when()
 // A new reader's state is sound, every call keeps it so, and a sound state is none that refusal 1 names.
 pub fn sound_kept()
     ensures { λ _. ⌜ SoundKept ⌝ }
+{}
+
+// The same for the record calls, 1 to 10: their answers are refusals exactly when document 01 says.
+pub fn asked_exactly_when()
+    ensures { λ _. ⌜ AskedExactlyWhen ⌝ }
+{}
+
+// The answers of the other calls are refusals exactly when `exactly_when` says, and a refused part is empty.
+pub fn said_exactly_when()
+    ensures { λ _. ⌜ SaidExactlyWhen ⌝ }
 {}
