@@ -8,3 +8,4 @@ pub mod Numbers
 pub mod Fits
 pub mod Asked
 pub mod Told
+pub mod Single

@@ -10,7 +10,7 @@ pub fn refused_keeps()
     ensures { λ _. ⌜ RefusedKeeps ⌝ }
 {}
 
-// "it is proved that one input admits one outcome": no two answers of the code read the same.
+// "it is proved that one input admits one outcome": two outcomes that meet a contract of the reader are one.
 pub fn one_outcome()
     ensures { λ _. ⌜ OneOutcome ⌝ }
 {}
