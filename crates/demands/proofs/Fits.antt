@@ -104,6 +104,6 @@ sub-tells b k r = by (eqb (length (r .subs)) 0) refl where
       record { fine = λ f g. let l = ltb-true k 0 f in omega arith; holds = λ f. inl (eqb-true (length (r .subs)) 0 e) }
   by false e =
       record {
-        fine = λ f g. ⊎-elim (eqb-false (length (r .subs)) 0 e) (below k (N b) .fine f) g;
-        holds = λ f. inr (ltb-false k (N b) f);
+        fine = λ f g. let l = ltb-true k (N b) f in ⊎-elim (eqb-false (length (r .subs)) 0 e) (λ h. omega arith) g;
+        holds = λ f. let l = ltb-false k (N b) f in inr (omega arith);
       }

@@ -43,6 +43,10 @@ is-frame w p f =
     (le-leb (p + lengthAt w p) (length w) (f .within)))
     (eq-eqb (crcAt w p) (crcOf (drop (p + 4) (take (p + lengthAt w p) w))) (f .crc))
 
+is-whole : (b : List ℕ) → OneFrame b → wholeFrame b ≡ true
+unfolding wholeFrame
+is-whole b f = both-true (is-frame b 0 (f .stands)) (eq-eqb (lengthAt b 0) (length b) (f .all))
+
 pub one-frame : (b : List ℕ) → wholeFrame b ≡ true → OneFrame b
 unfolding wholeFrame
 one-frame b e =
@@ -50,10 +54,6 @@ one-frame b e =
       stands = stands b 0 (both-left (frameAt b 0) (eqb (lengthAt b 0) (length b)) e);
       all = eqb-true (lengthAt b 0) (length b) (both-right (frameAt b 0) (eqb (lengthAt b 0) (length b)) e);
     }
-
-is-whole : (b : List ℕ) → OneFrame b → wholeFrame b ≡ true
-unfolding wholeFrame
-is-whole b f = both-true (is-frame b 0 (f .stands)) (eq-eqb (lengthAt b 0) (length b) (f .all))
 
 pub frame-tells : (b : List ℕ) → Tells (wholeFrame b) (NotOneFrame b)
 frame-tells b = record { fine = λ e f. f (one-frame b e); holds = λ e f. never (is-whole b f) e }
