@@ -1,15 +1,13 @@
--- The readings of the answers tell them apart.
+-- The readings of the answers tell them apart: equal readings are of equal answers.
 -- Assumes nothing.
 use Prim.Native.Nat.{ℕ}
 use native.Mathlib.Omega.{arith}
 use mathlib.Core.Path.{_≡_, refl, sym, ap, ap₂, _∙_}
-use mathlib.Core.Bool.{Bool}
-use mathlib.Core.Option.{Option, none, some}
 use Rattle.record.specs.Answer.{numberFor}
 use Rattle.record.specs.Answer as record-answer
 use Rattle.record.specs.declared.Refusal.{Refusal}
 use Rattle.record.specs.declared.Refusal.the-variants.{BadBuffer, OutOfTurn, RunFull, BadTable, NoTable, NoRow, TooShort, BadSubBlocks, NoSuchField, NotOneFrame}
-use Rattle.reader.specs.Said.{Report, Said, reportOf, refusalOf, saidOpened, saidFed, saidFinished, saidStaged, saidWithdrawn}
+use Rattle.reader.specs.Said.{Report, reportOf, refusalOf, saidOpened, saidFed, saidFinished, saidStaged, saidWithdrawn}
 use Rattle.reader.specs.declared.Block.{Block}
 use Rattle.reader.specs.declared.Check.{Check}
 use Rattle.reader.specs.declared.Check.the-variants as check
@@ -23,7 +21,6 @@ use Rattle.reader.specs.declared.Staged.{Staged}
 use Rattle.reader.specs.declared.Staged.the-variants as staged
 use Rattle.reader.specs.declared.Withdrawn.{Withdrawn}
 use Rattle.reader.specs.declared.Withdrawn.the-variants as withdrawn
-use Rattle.demands.specs.One.{OneOutcome}
 
 -- the refusal of a number
 back : (x : Refusal) → record-answer.refusalOf (numberFor x) ≡ x
@@ -46,19 +43,19 @@ same-block a b e =
     ap₂ (λ (i k : ℕ). record { place = i; number = k; revision = a .revision; length = a .length }) (ap (λ (r : Report). r .place) e) (ap (λ (r : Report). r .number) e)
     ∙ ap₂ (λ (i k : ℕ). record { place = b .place; number = b .number; revision = i; length = k }) (ap (λ (r : Report). r .revision) e) (ap (λ (r : Report). r .size) e)
 
-checks : (a b : Check) → refusalOf a ≡ refusalOf b → a ≡ b
+pub checks : (a b : Check) → refusalOf a ≡ refusalOf b → a ≡ b
 checks check.Passed check.Passed e = refl
 checks check.Passed (check.Refused y) e = let z : _≡_ {A = ℕ} 0 1 = cc in let f : ⊥ = omega arith in absurd f
 checks (check.Refused x) check.Passed e = let z : _≡_ {A = ℕ} 0 1 = cc in let f : ⊥ = omega arith in absurd f
 checks (check.Refused x) (check.Refused y) e = let q : numberFor x ≡ numberFor y = cc in ap check.Refused (same-refusal x y q)
 
-opens : (a b : Opened) → saidOpened a ≡ saidOpened b → a ≡ b
+pub opens : (a b : Opened) → saidOpened a ≡ saidOpened b → a ≡ b
 opens (opened.Version v) (opened.Version w) e = let q : v ≡ w = cc in ap opened.Version q
 opens (opened.Version v) (opened.Refused y) e = let z : _≡_ {A = ℕ} 0 1 = cc in let f : ⊥ = omega arith in absurd f
 opens (opened.Refused x) (opened.Version w) e = let z : _≡_ {A = ℕ} 0 1 = cc in let f : ⊥ = omega arith in absurd f
 opens (opened.Refused x) (opened.Refused y) e = let q : numberFor x ≡ numberFor y = cc in ap opened.Refused (same-refusal x y q)
 
-feeds : (a b : Fed) → saidFed a ≡ saidFed b → a ≡ b
+pub feeds : (a b : Fed) → saidFed a ≡ saidFed b → a ≡ b
 feeds (fed.Block t a) (fed.Block u b) e =
     let p : t ≡ u = cc in
     let q : reportOf a ≡ reportOf b = cc in
@@ -72,7 +69,7 @@ feeds (fed.Refused x) (fed.Block u b) e = let z : _≡_ {A = ℕ} 0 1 = cc in le
 feeds (fed.Refused x) (fed.More u) e = let z : _≡_ {A = ℕ} 0 1 = cc in let f : ⊥ = omega arith in absurd f
 feeds (fed.Refused x) (fed.Refused y) e = let q : numberFor x ≡ numberFor y = cc in ap fed.Refused (same-refusal x y q)
 
-finishes : (a b : Finished) → saidFinished a ≡ saidFinished b → a ≡ b
+pub finishes : (a b : Finished) → saidFinished a ≡ saidFinished b → a ≡ b
 finishes (finished.Block a) (finished.Block b) e = let q : reportOf a ≡ reportOf b = cc in ap finished.Block (same-block a b q)
 finishes (finished.Block a) (finished.End n b s) e = let z : _≡_ {A = ℕ} 0 1 = cc in let f : ⊥ = omega arith in absurd f
 finishes (finished.Block a) (finished.Refused y) e = let z : _≡_ {A = ℕ} 0 1 = cc in let f : ⊥ = omega arith in absurd f
@@ -87,17 +84,14 @@ finishes (finished.Refused x) (finished.Block b) e = let z : _≡_ {A = ℕ} 0 1
 finishes (finished.Refused x) (finished.End m l t) e = let z : _≡_ {A = ℕ} 0 1 = cc in let f : ⊥ = omega arith in absurd f
 finishes (finished.Refused x) (finished.Refused y) e = let q : numberFor x ≡ numberFor y = cc in ap finished.Refused (same-refusal x y q)
 
-stages : (a b : Staged) → saidStaged a ≡ saidStaged b → a ≡ b
+pub stages : (a b : Staged) → saidStaged a ≡ saidStaged b → a ≡ b
 stages (staged.Version v) (staged.Version w) e = let q : v ≡ w = cc in ap staged.Version q
 stages (staged.Version v) (staged.Refused y) e = let z : _≡_ {A = ℕ} 0 1 = cc in let f : ⊥ = omega arith in absurd f
 stages (staged.Refused x) (staged.Version w) e = let z : _≡_ {A = ℕ} 0 1 = cc in let f : ⊥ = omega arith in absurd f
 stages (staged.Refused x) (staged.Refused y) e = let q : numberFor x ≡ numberFor y = cc in ap staged.Refused (same-refusal x y q)
 
-withdraws : (a b : Withdrawn) → saidWithdrawn a ≡ saidWithdrawn b → a ≡ b
+pub withdraws : (a b : Withdrawn) → saidWithdrawn a ≡ saidWithdrawn b → a ≡ b
 withdraws (withdrawn.Waited v) (withdrawn.Waited w) e = let q : v ≡ w = cc in ap withdrawn.Waited q
 withdraws (withdrawn.Waited v) (withdrawn.Refused y) e = let z : _≡_ {A = ℕ} 0 1 = cc in let f : ⊥ = omega arith in absurd f
 withdraws (withdrawn.Refused x) (withdrawn.Waited w) e = let z : _≡_ {A = ℕ} 0 1 = cc in let f : ⊥ = omega arith in absurd f
 withdraws (withdrawn.Refused x) (withdrawn.Refused y) e = let q : numberFor x ≡ numberFor y = cc in ap withdrawn.Refused (same-refusal x y q)
-
-pub one : OneOutcome
-one = record { checks = checks; opens = opens; feeds = feeds; finishes = finishes; stages = stages; withdraws = withdraws }

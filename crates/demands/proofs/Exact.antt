@@ -25,11 +25,11 @@ use Rattle.demands.specs.Exactly.{Order, nothing, first, Given, Exactly,
 -- ---- a row of tests
 
 -- a test that fails exactly where its condition holds
-record Tells (b : Bool) (P : Type 0) : Type 0 where
+pub record Tells (b : Bool) (P : Type 0) : Type 0 where
   pub fine : b ≡ true → P → ⊥
   pub holds : b ≡ false → P
 
-exactly-none : Exactly none nothing
+pub exactly-none : Exactly none nothing
 exactly-none = record { gives = λ n e. let z : _≡_ {A = ℕ} 0 1 = cc in omega arith; given = λ n g. absurd g }
 
 gives-by : (b : Bool) (m : ℕ) {P : Type 0} (o : Option ℕ) {r : Order} → Tells b P → Exactly o r → (n : ℕ) → need b m o ≡ some n → Given (first m P r) n
@@ -49,19 +49,19 @@ both-holds : (a b : Bool) {P Q : Type 0} → Tells a P → Tells b Q → (a && b
 both-holds true b t u e = inr (u .holds e)
 both-holds false b t u e = inl (t .holds refl)
 
-both : {a b : Bool} {P Q : Type 0} → Tells a P → Tells b Q → Tells (a && b) (P ⊎ Q)
+pub both : {a b : Bool} {P Q : Type 0} → Tells a P → Tells b Q → Tells (a && b) (P ⊎ Q)
 both {a} {b} t u =
     record {
       fine = λ e g. ⊎-elim (λ p. t .fine (both-left a b e) p) (λ q. u .fine (both-right a b e) q) g;
       holds = both-holds a b t u;
     }
 
-within : (m n : ℕ) → Tells (leb m n) (n < m)
+pub within : (m n : ℕ) → Tells (leb m n) (n < m)
 within m n = record { fine = λ e l. let g = leb-true m n e in omega arith; holds = λ e. leb-false m n e }
 
 -- ---- the conditions
 
-bad-state : (s : State) → Tells (sound s) (BadState s)
+pub bad-state : (s : State) → Tells (sound s) (BadState s)
 unfolding sound
 bad-state s =
     both
@@ -91,10 +91,10 @@ open-tells Closed = record { fine = λ e q. never e refl; holds = λ e. refl }
 open-tells Feeding = record { fine = λ e q. let z : _≡_ {A = ℕ} 0 1 = cc in omega arith; holds = λ e. never refl e }
 open-tells Finishing = record { fine = λ e q. let z : _≡_ {A = ℕ} 0 1 = cc in omega arith; holds = λ e. never refl e }
 
-table-tells : (t : List ℕ) → Tells (tableOk t) (Breaks t)
+pub table-tells : (t : List ℕ) → Tells (tableOk t) (Breaks t)
 table-tells t = record { fine = λ e f. never e f; holds = λ e. e }
 
-some-tells : (n : ℕ) → Tells (ltb 0 n) (n ≡ 0)
+pub some-tells : (n : ℕ) → Tells (ltb 0 n) (n ≡ 0)
 some-tells n = record { fine = λ e q. let l = ltb-true 0 n e in omega arith; holds = λ e. let l = ltb-false 0 n e in omega arith }
 
 either-left : (a b : Bool) → (a || b) ≡ false → a ≡ false
@@ -110,14 +110,14 @@ orelse-fine : (a b : Bool) {P Q : Type 0} → Tells a P → Tells b Q → (a || 
 orelse-fine true b t u e g = t .fine refl (g .0)
 orelse-fine false b t u e g = u .fine e (g .1)
 
-orelse : {a b : Bool} {P Q : Type 0} → Tells a P → Tells b Q → Tells (a || b) (P × Q)
+pub orelse : {a b : Bool} {P Q : Type 0} → Tells a P → Tells b Q → Tells (a || b) (P × Q)
 orelse {a} {b} t u =
     record { fine = orelse-fine a b t u; holds = λ e. (t .holds (either-left a b e), u .holds (either-right a b e)) }
 
 full-tells : (n : ℕ) → Tells (ltb n limit) (4294967295 ≤ n)
 full-tells n = record { fine = λ e q. let l = ltb-true n limit e in omega arith; holds = λ e. ltb-false n limit e }
 
-empty-tells : (n : ℕ) → Tells (eqb n 0) (0 < n)
+pub empty-tells : (n : ℕ) → Tells (eqb n 0) (0 < n)
 empty-tells n =
     record {
       fine = λ e q. let l = eqb-true n 0 e in omega arith;
@@ -133,7 +133,7 @@ gives-tells (some n) = record { fine = λ e q. let z : _≡_ {A = ℕ} 0 1 = cc 
 hold-tells : (s : State) (hold : List ℕ) → Tells (sound s && longHold hold) (BadState s ⊎ ShortHold hold)
 hold-tells s hold = both (bad-state s) (within 65536 (length hold))
 
-store-tells : (s : State) (store : List ℕ) → Tells (sound s && longStore store) (BadState s ⊎ ShortStore store)
+pub store-tells : (s : State) (store : List ℕ) → Tells (sound s && longStore store) (BadState s ⊎ ShortStore store)
 store-tells s store = both (bad-state s) (within 8192 (length store))
 
 broken : (t : List ℕ) → Exactly (tableRefusal t) (first 4 (Breaks t) nothing)

@@ -17,7 +17,7 @@ keeps-by : (o : Option ℕ) (s : State) (l : List ℕ) (d : Outcome) → ((n : �
 keeps-by (some m) s l d f n e = (refl, refl)
 keeps-by none s l d f n e = absurd (f n e)
 
-finish-said : (o : Option ℕ) (r : Run) (v : List ℕ) (n : ℕ) → finishSaid o r v ≡ refused n → ⊥
+pub finish-said : (o : Option ℕ) (r : Run) (v : List ℕ) (n : ℕ) → finishSaid o r v ≡ refused n → ⊥
 finish-said none r v n e = let z : _≡_ {A = ℕ} 0 1 = cc in omega arith
 finish-said (some k) r v n e = let z : _≡_ {A = ℕ} 0 1 = cc in omega arith
 

@@ -15,3 +15,10 @@ pub mod Ending
 pub mod Refusing
 pub mod Stream
 pub mod Deciding
+pub mod Framed
+pub mod Listed
+pub mod Numbers
+pub mod Fits
+pub mod Asked
+pub mod Told
+pub mod Single

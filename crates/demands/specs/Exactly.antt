@@ -1,5 +1,6 @@
--- The refusal table of document 01 (1 to 5), "given exactly when", for the calls that open, feed, finish and stage: the conditions as
--- propositions in the paper's words, written apart from the tests of the code's definitions.
+-- The refusal table of document 01 (1 to 5), "given exactly when", for Open, Feed, Finish, Bytes, Withdraw, Stage and the first three numbers of
+-- the record calls: the conditions as propositions in the paper's words, written apart from the tests of the code's definitions. Shared with
+-- these are what the conditions speak of: `tableOk`, `nextTable`, `tableInForce`, `settle` and `restOf`.
 -- Assumes nothing.
 use Prim.Native.Nat.{ℕ, _≤_, _<_}
 use mathlib.Core.Path.{_≡_}

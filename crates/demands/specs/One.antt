@@ -1,19 +1,44 @@
--- "it is proved that one input admits one outcome": each contract equates the reading of the answer, the new state and the lent bytes
--- with a function of the inputs, and these readings tell all answers apart. The record answers have `record::one_answer`.
+-- "it is proved that one input admits one outcome": of every input, two outcomes that meet a call's contract are one. Each statement has the
+-- very definition that the contract cites: the answer, the new state and the lent bytes; the part handed back; a field's answer.
 -- Assumes nothing.
+use Prim.Native.Nat.{ℕ}
 use mathlib.Core.Path.{_≡_}
-use Rattle.reader.specs.Said.{refusalOf, saidOpened, saidFed, saidFinished, saidStaged, saidWithdrawn}
+use mathlib.Core.List.{List}
+use Rattle.record.specs.Answer.{Answers, handedSays}
+use Rattle.record.specs.Answer as record-answer
+use Rattle.record.specs.declared.Answer.{Answer}
+use Rattle.record.specs.declared.Handed.{Handed}
+use Rattle.reader.specs.Said.{Said, refusalOf, saidOpened, saidFed, saidFinished, saidStaged, saidWithdrawn}
+use Rattle.reader.specs.Refusals.{bytesRefusal}
+use Rattle.reader.specs.Calls.{Outcome, outcome, openOf, feedOf, finishOf, bytesOf, stageOf, withdrawOf}
+use Rattle.reader.specs.Records.{bodyOf, subOf, subBytesOf, subBytesRefusal, towOf, wncOf}
 use Rattle.reader.specs.declared.Check.{Check}
-use Rattle.reader.specs.declared.Opened.{Opened}
-use Rattle.reader.specs.declared.Fed.{Fed}
-use Rattle.reader.specs.declared.Finished.{Finished}
-use Rattle.reader.specs.declared.Staged.{Staged}
-use Rattle.reader.specs.declared.Withdrawn.{Withdrawn}
+use Rattle.reader.specs.declared.State.{State}
+
+-- two answers, states and buffers that are read as this outcome are one
+abbrev pub One : {A : Type 0} → (A → Said) → Outcome → Type 0
+One {A} said o = (a b : A) (s t : State) (l m : List ℕ) → outcome (said a) s l ≡ o → outcome (said b) t m ≡ o → ((a ≡ b) × (s ≡ t)) × (l ≡ m)
+
+-- two parts that are this one are one
+abbrev pub OnePart : List ℕ → Type 0
+OnePart part = (v w : List ℕ) → v ≡ part → w ≡ part → v ≡ w
+
+-- two answers of a field that say this are one, its case too
+abbrev pub OneField : record-answer.Said → Type 0
+OneField said = (a b : Answer) → Answers a said → Answers b said → a ≡ b
 
 pub record OneOutcome : Type 0 where
-  pub checks : (a b : Check) → refusalOf a ≡ refusalOf b → a ≡ b
-  pub opens : (a b : Opened) → saidOpened a ≡ saidOpened b → a ≡ b
-  pub feeds : (a b : Fed) → saidFed a ≡ saidFed b → a ≡ b
-  pub finishes : (a b : Finished) → saidFinished a ≡ saidFinished b → a ≡ b
-  pub stages : (a b : Staged) → saidStaged a ≡ saidStaged b → a ≡ b
-  pub withdraws : (a b : Withdrawn) → saidWithdrawn a ≡ saidWithdrawn b → a ≡ b
+  pub opens : (s : State) (force wait : List ℕ) → One saidOpened (openOf s force wait)
+  pub feeds : (s : State) (hold piece : List ℕ) → One saidFed (feedOf s hold piece)
+  pub finishes : (s : State) (hold : List ℕ) → One saidFinished (finishOf s hold)
+  pub stages : (s : State) (wait t : List ℕ) → One saidStaged (stageOf s wait t)
+  pub withdraws : (s : State) → One saidWithdrawn (withdrawOf s)
+  pub bytes : (s : State) (hold : List ℕ) → OnePart (bytesOf s hold)
+  pub bytes-refused : (s : State) (hold : List ℕ) (a b : Check) → refusalOf a ≡ bytesRefusal s hold → refusalOf b ≡ bytesRefusal s hold → a ≡ b
+  pub bodies : (s : State) (force b : List ℕ) (i : ℕ) → OneField (bodyOf s force b i)
+  pub subs : (s : State) (force b : List ℕ) (k j : ℕ) → OneField (subOf s force b k j)
+  pub sub-bytes : (s : State) (force b : List ℕ) (k : ℕ) → OnePart (subBytesOf s force b k)
+  pub sub-bytes-refused : (s : State) (force b : List ℕ) (k : ℕ) (x y : Handed) → handedSays x ≡ subBytesRefusal s force b k
+      → handedSays y ≡ subBytesRefusal s force b k → x ≡ y
+  pub tows : (s : State) (b : List ℕ) → OneField (towOf s b)
+  pub wncs : (s : State) (b : List ℕ) → OneField (wncOf s b)

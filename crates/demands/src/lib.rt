@@ -2,6 +2,7 @@
 ghost use Rattle.demands.specs.Demand1.{Demand1};
 ghost use Rattle.demands.specs.Demand2.{Demand2};
 ghost use Rattle.demands.specs.Demand3.{BlocksOfTheWhole, HoweverCut, TakesTheStream, OneTable, Moved};
+ghost use Rattle.demands.specs.Asked.{AskedExactlyWhen, SaidExactlyWhen};
 ghost use Rattle.demands.specs.Exactly.{ExactlyWhen};
 ghost use Rattle.demands.specs.One.{OneOutcome};
 ghost use Rattle.demands.specs.Progress.{Progress};
@@ -13,7 +14,7 @@ pub fn refused_keeps()
     ensures { λ _. ⌜ RefusedKeeps ⌝ }
 {}
 
-// "it is proved that one input admits one outcome": no two answers of the code read the same.
+// "it is proved that one input admits one outcome": two outcomes that meet a contract of the reader are one.
 pub fn one_outcome()
     ensures { λ _. ⌜ OneOutcome ⌝ }
 {}
@@ -68,4 +69,14 @@ pub fn table_calls_move()
 // More is answered only with all taken that may be, and Finish comes to End.
 pub fn progress()
     ensures { λ _. ⌜ Progress ⌝ }
+{}
+
+// The same for the record calls, 1 to 10: their answers are refusals exactly when document 01 says.
+pub fn asked_exactly_when()
+    ensures { λ _. ⌜ AskedExactlyWhen ⌝ }
+{}
+
+// The answers of the other calls are refusals exactly when `exactly_when` says, and a refused part is empty.
+pub fn said_exactly_when()
+    ensures { λ _. ⌜ SaidExactlyWhen ⌝ }
 {}

@@ -1,6 +1,6 @@
 -- `demands::one_outcome`: the law `one`.
 -- Assumes nothing.
-use Rattle.demands.proofs.Apart.{one}
+use Rattle.demands.proofs.Single.{one}
 use Rattle.demands.proofs.one_outcome.Statement.{statement}
 use Rattle.demands.proofs.one_outcome.Tie as tie
 

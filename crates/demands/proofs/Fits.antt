@@ -1,0 +1,109 @@
+-- The tests on a block and its row, and the conditions of refusals 6 to 9.
+-- Assumes nothing.
+use Prim.Native.Nat.{ℕ, _+_, _*_, _≤_, _<_}
+use native.Mathlib.Omega.{arith}
+use mathlib.Core.Path.{_≡_, refl, sym, ap, _∙_, subst}
+use mathlib.Core.Bool.{Bool, true, false, not, cond}
+use mathlib.Core.List.{List}
+use mathlib.Core.Logic.{_⊎_, inl, inr, ⊎-elim}
+use mathlib.Core.Option.{none, some}
+use lib.ListN.{length}
+use lib.Dec.{leb, ltb, eqb}
+use borrow.Author.Tests.{leb-true, leb-false, ltb-true, ltb-false, eqb-true, eqb-false, not-true, not-false, eq-eqb}
+use Rattle.table.specs.declared.FieldRow.{FieldRow}
+use Rattle.table.specs.Lists.{every, pick}
+use Rattle.table.specs.Rows.{BlockRow, Table, ends}
+use Rattle.table.specs.Decode.{decode}
+use Rattle.table.specs.Rules.{tableOk}
+use Rattle.table.specs.Lookup.{hasNumber, findRow}
+use Rattle.table.proofs.Laws.{one-row}
+use Rattle.record.specs.Block.{endsBy, bodyFits, subsFit, subCount}
+use Rattle.demands.specs.Asked.{OneFrame, number, revision, L, N, SBLength, RowOf, OfRow, EndsPast, NotInTable, TooShort, SubsDoNotFit, NoField, NoSubBlock}
+use Rattle.demands.proofs.Exact.{Tells, both, within, orelse, empty-tells}
+use Rattle.demands.proofs.Listed.{first-there, first-none, every-tells}
+
+-- ---- the block's row
+
+pub row-there : (t : Table) (b : List ℕ) {r : BlockRow} → findRow t (number b) ≡ some r → RowOf t b r
+unfolding findRow
+row-there t b {r} e =
+    let h = first-there (hasNumber (number b)) (t .rows) e in
+    record { among = h .0; same = eqb-true (r .number) (number b) (h .1) }
+
+pub row-none : (t : Table) (b : List ℕ) → findRow t (number b) ≡ none → NotInTable t b
+unfolding findRow
+row-none t b e r h =
+    first-none (hasNumber (number b)) (t .rows) e (h .among .0) (h .among .1) (eq-eqb (r .number) (number b) (h .same))
+
+-- "strictly rising": a table that passes has one row of a number
+pub only : (t b : List ℕ) → tableOk t ≡ true → (q r : BlockRow) → RowOf (decode t) b q → RowOf (decode t) b r → q ≡ r
+only t b ok q r h k =
+    let i : h .among .0 ≡ k .among .0 = one-row t ok (h .among .0) (k .among .0) q r (h .among .1) (k .among .1) (h .same ∙ sym (k .same)) in
+    let e : some q ≡ some r = sym (h .among .1) ∙ ap (pick (decode t .rows)) i ∙ k .among .1 in
+    cc
+
+-- a condition on that row tells what one on the block's row does
+pub of-row : (t : Table) (b : List ℕ) (r : BlockRow) → RowOf t b r → ((q : BlockRow) → RowOf t b q → q ≡ r) → (P : BlockRow → Type 0) {c : Bool}
+    → Tells c (P r) → Tells c (OfRow t b P)
+of-row t b r mine one P u =
+    record { fine = λ e g. u .fine e (subst P (one (g .0) (g .1 .0)) (g .1 .1)); holds = λ e. (r, (mine, u .holds e)) }
+
+-- ---- tests turned round
+
+swap : {c : Bool} {P Q : Type 0} → Tells c (P ⊎ Q) → Tells c (Q ⊎ P)
+swap u = record { fine = λ e g. u .fine e (⊎-elim inr inl g); holds = λ e. ⊎-elim inr inl (u .holds e) }
+
+above : (m n : ℕ) → Tells (not (leb m n)) (m ≤ n)
+above m n =
+    record {
+      fine = λ e h. let l = leb-false m n (not-true (leb m n) e) in omega arith;
+      holds = λ e. leb-true m n (not-false (leb m n) e);
+    }
+
+below : (m n : ℕ) → Tells (ltb m n) (n ≤ m)
+below m n = record { fine = λ e h. let l = ltb-true m n e in omega arith; holds = λ e. ltb-false m n e }
+
+twice : (c : Bool) {P : Type 0} → Tells c P → Tells (not (not c)) P
+twice true u = u
+twice false u = u
+
+-- ---- the fields
+
+past-tells : (fs : List FieldRow) (b : List ℕ) (n : ℕ) → Tells (every (endsBy (revision b) n) fs) (EndsPast fs b n)
+past-tells fs b n =
+    every-tells (endsBy (revision b) n) (λ (f : FieldRow). (f .first ≤ revision b) × (n < ends f))
+    (λ f. orelse (above (f .first) (revision b)) (within (ends f) n)) fs
+
+-- a test on the number of the bytes is one on L
+pub of-length : (b : List ℕ) → OneFrame b → (P : ℕ → Type 0) {c : Bool} → Tells c (P (length b)) → Tells c (P (L b))
+of-length b frame P {c} u = subst (λ (n : ℕ). Tells c (P n)) (sym (frame .all)) u
+
+module _ (t : Table) (b : List ℕ) (r : BlockRow) (mine : RowOf t b r) (one : (q : BlockRow) → RowOf t b q → q ≡ r) (frame : OneFrame b) where
+  pub seven-tells : Tells (bodyFits b r) (TooShort t b)
+  unfolding bodyFits
+  seven-tells =
+      swap
+      (both (of-length b frame (λ (n : ℕ). n < 14) (within 14 (length b)))
+      (of-row t b r mine one (λ (q : BlockRow). EndsPast (q .body) b (L b)) (of-length b frame (EndsPast (r .body) b) (past-tells (r .body) b (length b)))))
+
+  pub eight-tells : Tells (subsFit b r) (SubsDoNotFit t b)
+  unfolding subsFit
+  eight-tells =
+      of-row t b r mine one _
+      (orelse (twice (eqb (length (r .subs)) 0) (empty-tells (length (r .subs))))
+      (both (orelse (empty-tells (N b)) (past-tells (r .subs) b (SBLength b)))
+      (of-length b frame (λ (n : ℕ). n < 16 + N b * SBLength b) (within (16 + N b * SBLength b) (length b)))))
+
+pub field-tells : (fs : List FieldRow) (i : ℕ) → Tells (ltb i (length fs)) (NoField fs i)
+field-tells fs i = below i (length fs)
+
+pub sub-tells : (b : List ℕ) (k : ℕ) (r : BlockRow) → Tells (ltb k (subCount b r)) (NoSubBlock b k r)
+sub-tells b k r = by (eqb (length (r .subs)) 0) refl where
+  by : (c : Bool) → eqb (length (r .subs)) 0 ≡ c → Tells (ltb k (cond (not c) (N b) 0)) (NoSubBlock b k r)
+  by true e =
+      record { fine = λ f g. let l = ltb-true k 0 f in omega arith; holds = λ f. inl (eqb-true (length (r .subs)) 0 e) }
+  by false e =
+      record {
+        fine = λ f g. let l = ltb-true k (N b) f in ⊎-elim (eqb-false (length (r .subs)) 0 e) (λ h. omega arith) g;
+        holds = λ f. let l = ltb-false k (N b) f in inr (omega arith);
+      }

@@ -1,0 +1,41 @@
+-- One input, one outcome: a contract equates the reading of what a call gives with one definition, and the readings tell answers apart.
+-- Assumes nothing.
+use mathlib.Core.Path.{_≡_, sym, ap, _∙_}
+use mathlib.Core.List.{List}
+use Prim.Native.Nat.{ℕ}
+use Rattle.record.specs.Answer as record-answer
+use Rattle.record.proofs.Theorems.{one-answer}
+use Rattle.reader.specs.Said.{Said, saidOpened, saidFed, saidFinished, saidStaged, saidWithdrawn}
+use Rattle.reader.specs.Calls.{Outcome, outcome, openOf, feedOf, finishOf, bytesOf, stageOf, withdrawOf}
+use Rattle.reader.specs.Records.{bodyOf, subOf, subBytesOf, towOf, wncOf}
+use Rattle.demands.specs.One.{One, OnePart, OneField, OneOutcome}
+use Rattle.demands.proofs.Apart.{checks, opens, feeds, finishes, stages, withdraws}
+
+one-by : {A : Type 0} (said : A → Said) → ((a b : A) → said a ≡ said b → a ≡ b) → (o : Outcome) → One said o
+one-by said apart o a b s t l m p q =
+    let e : outcome (said a) s l ≡ outcome (said b) t m = p ∙ sym q in
+    ((apart a b (ap (λ (x : Outcome). x .said) e), ap (λ (x : Outcome). x .state) e), ap (λ (x : Outcome). x .lent) e)
+
+one-part : (v : List ℕ) → OnePart v
+one-part v x y p q = p ∙ sym q
+
+one-field : (said : record-answer.Said) → OneField said
+one-field said a b p q = one-answer .answers a b said p q
+
+pub one : OneOutcome
+one =
+    record {
+      opens = λ s force wait. one-by saidOpened opens (openOf s force wait);
+      feeds = λ s hold piece. one-by saidFed feeds (feedOf s hold piece);
+      finishes = λ s hold. one-by saidFinished finishes (finishOf s hold);
+      stages = λ s wait t. one-by saidStaged stages (stageOf s wait t);
+      withdraws = λ s. one-by saidWithdrawn withdraws (withdrawOf s);
+      bytes = λ s hold. one-part (bytesOf s hold);
+      bytes-refused = λ s hold a b p q. checks a b (p ∙ sym q);
+      bodies = λ s force b i. one-field (bodyOf s force b i);
+      subs = λ s force b k j. one-field (subOf s force b k j);
+      sub-bytes = λ s force b k. one-part (subBytesOf s force b k);
+      sub-bytes-refused = λ s force b k x y p q. one-answer .handed x y (p ∙ sym q);
+      tows = λ s b. one-field (towOf s b);
+      wncs = λ s b. one-field (wncOf s b);
+    }
