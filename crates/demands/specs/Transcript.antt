@@ -10,7 +10,7 @@ use Rattle.reader.specs.State.{newState}
 use Rattle.demands.specs.World.{World, Call, Answer, said, value, trace}
 
 -- a new reader, lent the shortest buffers allowed: "a hold of at least 65,536 bytes, a store for the table in force and one for the
--- waiting table, each at least 8,192"
+-- waiting table, each at least 8,192", full of bytes 7
 unfoldable pub newWorld : World
 newWorld = record { state = newState; hold = replicate 65536 7; force = replicate 8192 7; wait = replicate 8192 7 }
 
