@@ -22,3 +22,4 @@ pub mod Fits
 pub mod Asked
 pub mod Told
 pub mod Single
+pub mod Computed

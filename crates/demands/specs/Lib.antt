@@ -9,3 +9,6 @@ pub mod Demand3
 pub mod Demand2
 pub mod Progress
 pub mod Asked
+pub mod Transcript
+pub mod Samples
+pub mod Flight

@@ -4,9 +4,11 @@ ghost use Rattle.demands.specs.Demand2.{Demand2};
 ghost use Rattle.demands.specs.Demand3.{BlocksOfTheWhole, HoweverCut, TakesTheStream, OneTable, Moved};
 ghost use Rattle.demands.specs.Asked.{AskedExactlyWhen, SaidExactlyWhen};
 ghost use Rattle.demands.specs.Exactly.{ExactlyWhen};
+ghost use Rattle.demands.specs.Flight.{FlightLine};
 ghost use Rattle.demands.specs.One.{OneOutcome};
 ghost use Rattle.demands.specs.Progress.{Progress};
 ghost use Rattle.demands.specs.Refused.{RefusedKeeps};
+ghost use Rattle.demands.specs.Samples.{SamplesHold};
 ghost use Rattle.demands.specs.Sound.{SoundKept};
 
 // Demand 1: "a refused call changes no lent byte and no state".
@@ -79,4 +81,14 @@ pub fn asked_exactly_when()
 // The answers of the other calls are refusals exactly when `exactly_when` says, and a refused part is empty.
 pub fn said_exactly_when()
     ensures { λ _. ⌜ SaidExactlyWhen ⌝ }
+{}
+
+// Document 01's samples (a) to (j): one table of cases, one theorem.
+pub fn samples_hold()
+    ensures { λ _. ⌜ SamplesHold ⌝ }
+{}
+
+// The story that started this, worked through: a table staged in mid-run changes no field of the open run, and is read by in the next.
+pub fn flight_line()
+    ensures { λ _. ⌜ FlightLine ⌝ }
 {}

@@ -1,0 +1,35 @@
+-- What antt computes: the samples, and the answers of the flight line. The `unfolding` line names all that a call's answer is made of.
+-- Assumes nothing.
+use mathlib.Core.Path.{_≡_, refl}
+use Rattle.crc.specs.Crc.{crcOf, crcFrom, crcByte, crcBits8, crcBit}
+use Rattle.wire.specs.Little.{littleAt}
+use Rattle.frame.specs.Frame.{syncAt, allowed, endsWithin, crcRight, frameAt, wholeFrame}
+use Rattle.frame.specs.Judge.{judged, final}
+use Rattle.frame.specs.Settle.{settle, finishLit}
+use Rattle.frame.specs.Feed.{feedLit}
+use Rattle.frame.specs.ReadRun.{blockAt}
+use Rattle.feed.specs.Hold.{restOf}
+use Rattle.table.specs.Lists.{tabulate, every, chain, neighbours, first, pick}
+use Rattle.table.specs.Types.{sizeOf, markFits}
+use Rattle.table.specs.Decode.{fieldAt, rowFrom, rowAt, rowsOf, blockOf, decode}
+use Rattle.table.specs.Rules.{fileOk, risingOk, rowOk, counts, indexOk, rowsOk, fieldsOk, isPair, blockOk, tableOk}
+use Rattle.table.specs.Lookup.{findRow}
+use Rattle.record.specs.Bits.{withSign, readAs, isDoNotUse, valueOf, fieldValue}
+use Rattle.record.specs.Block.{bodyFits, subsFit, seenRow, seen, seenSubRow, seenSub}
+use Rattle.record.specs.Calls.{fieldSaid, bodyField, subBytes, subField, subBlock, subBlockRefusal, stamp}
+use Rattle.reader.specs.State.{sound}
+use Rattle.reader.specs.Refusals.{openRefusal, feedRefusal, finishRefusal, bytesRefusal, stageRefusal, withdrawRefusal}
+use Rattle.reader.specs.Calls.{openOf, feedingOf, feedOf, finishingOf, finishOf, bytesOf, stageOf, withdrawOf}
+use Rattle.reader.specs.Records.{askRefusal, bodyOf, subOf, subBytesOf, subBytesRefusal, stampOf}
+use Rattle.demands.specs.World.{step, trace}
+use Rattle.demands.specs.Transcript.{newWorld, replayed}
+use Rattle.demands.specs.Samples.{SamplesHold}
+use Rattle.demands.specs.Flight.{flight}
+
+pub record Computed : Type 0 where
+  pub samples : SamplesHold
+  pub told : replayed flight ≡ flight
+
+pub computed : Computed
+unfolding crcOf crcFrom crcByte crcBits8 crcBit littleAt syncAt allowed endsWithin crcRight frameAt wholeFrame judged final settle finishLit feedLit blockAt restOf tabulate every chain neighbours first pick sizeOf markFits fieldAt rowFrom rowAt rowsOf blockOf decode fileOk risingOk rowOk counts indexOk rowsOk fieldsOk isPair blockOk tableOk findRow withSign readAs isDoNotUse valueOf fieldValue bodyFits subsFit seenRow seen seenSubRow seenSub fieldSaid bodyField subBytes subField subBlock subBlockRefusal stamp sound openRefusal feedRefusal finishRefusal bytesRefusal stageRefusal withdrawRefusal openOf feedingOf feedOf finishingOf finishOf bytesOf stageOf withdrawOf askRefusal bodyOf subOf subBytesOf subBytesRefusal stampOf step trace newWorld replayed
+computed = record { samples = refl; told = refl }

@@ -1,0 +1,55 @@
+-- A transcript: calls on a new reader, each with what it answers. It is true when the definitions answer the same.
+-- Assumes nothing.
+use Prim.Native.Nat.{ℕ}
+use mathlib.Core.List.{List, map}
+use mathlib.Core.Option.{none, some}
+use lib.ListN.{replicate}
+use Rattle.record.specs.Answer as fields
+use Rattle.reader.specs.Said.{Report, version, took, found, ended}
+use Rattle.reader.specs.State.{newState}
+use Rattle.demands.specs.World.{World, Call, Answer, said, value, trace}
+
+-- a new reader, lent the shortest buffers allowed: "a hold of at least 65,536 bytes, a store for the table in force and one for the
+-- waiting table, each at least 8,192", full of bytes 7
+unfoldable pub newWorld : World
+newWorld = record { state = newState; hold = replicate 65536 7; force = replicate 8192 7; wait = replicate 8192 7 }
+
+-- a line: a call, and what it answers
+infix 80 _⇒_
+abbrev pub _⇒_ : Call → Answer → Call × Answer
+c ⇒ a = (c, a)
+
+abbrev pub Transcript : Type 0
+Transcript = List (Call × Answer)
+
+-- the same calls on a new reader, each with what the definitions answer
+unfoldable pub replayed : Transcript → Transcript
+replayed t = trace (map (λ (line : Call × Answer). line .0) t) newWorld
+
+-- Open, Stage: the version
+abbrev pub versionIs : ℕ → Answer
+versionIs v = said (version v)
+
+-- Feed: the count taken, with More
+abbrev pub more : ℕ → Answer
+more taken = said (took taken none)
+
+-- Feed: the count taken, with Block
+abbrev pub block : ℕ → Report → Answer
+block taken b = said (took taken (some b))
+
+-- Finish: Block
+abbrev pub gives : Report → Answer
+gives b = said (found b)
+
+-- Finish: End (bytes, blocks, skipped bytes)
+abbrev pub ends : ℕ → ℕ → ℕ → Answer
+ends bytes blocks skipped = said (ended bytes blocks skipped)
+
+-- a record call: a refusal
+abbrev pub refusal : ℕ → Answer
+refusal n = value (fields.refused n)
+
+-- "Block (place, number, revision, length)"
+abbrev pub report : ℕ → ℕ → ℕ → ℕ → Report
+report place number revision size = record { place = place; number = number; revision = revision; size = size }
