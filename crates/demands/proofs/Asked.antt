@@ -22,11 +22,12 @@ use Rattle.reader.specs.State.{sound}
 use Rattle.reader.specs.Refusals.{need, longStore}
 use Rattle.reader.specs.Records.{tableInForce, askRefusal, firstOf, bodyOf, subOf, subBytesRefusal, stampOf}
 use Rattle.reader.specs.declared.State.{State}
+use Rattle.demands.specs.Demand1.{refusalValue}
 use Rattle.demands.specs.Exactly.{Order, nothing, first, Exactly, BadState, ShortStore, Breaks}
 use Rattle.demands.specs.Asked.{Says, OneFrame, number, RowOf, OfRow, NotOneFrame, NotInTable, TooShort, SubsDoNotFit, NoField, NoSubBlock, recordOrder, bodyOrder, subOrder, subBytesOrder, stampOrder, AskedExactlyWhen}
 use Rattle.demands.proofs.Exact.{Tells, exactly-none, both, within, bad-state, store-tells, some-tells, table-tells}
 use Rattle.demands.proofs.Framed.{one-frame, frame-tells}
-use Rattle.demands.proofs.Numbers.{numberIn, says, thenOf, body-row, sub-row, twin-row, seen-need, row-less, row-need, stamp-need, first-need, number-unless}
+use Rattle.demands.proofs.Numbers.{says, thenOf, body-row, sub-row, twin-row, seen-need, row-less, row-need, stamp-need, first-need, number-unless}
 use Rattle.demands.proofs.Fits.{of-length, row-there, row-none, only, of-row, seven-tells, eight-tells, field-tells, sub-tells}
 
 -- ---- a row of tests, of which each may use those before it
@@ -121,7 +122,7 @@ stamp-exact : (f : FieldRow) (s : State) (b : List ℕ) → Says refused (stampO
 unfolding stampOf
 stamp-exact f s b =
     says (stampOf f s b)
-    (same (number-unless (need (sound s) 1 none) (stamp f b) ∙ first-need (sound s) 1 none (numberIn (stamp f b)) ∙ ap (need (sound s) 1) (stamp-need f b))
+    (same (number-unless (need (sound s) 1 none) (stamp f b) ∙ first-need (sound s) 1 none (refusalValue (stamp f b)) ∙ ap (need (sound s) 1) (stamp-need f b))
     (passed-by (sound s) 1 _ (bad-state s)
     (λ _. passed-by (wholeFrame b) 10 _ (frame-tells b) (λ e. last 7 (of-length b (one-frame b e) (λ (n : ℕ). n < 14) (within 14 (length b)))))))
 

@@ -12,6 +12,7 @@ pub mod Going
 pub mod Calls
 pub mod Reading
 pub mod Ending
+pub mod Never
 pub mod Refusing
 pub mod Stream
 pub mod Deciding

@@ -20,19 +20,11 @@ use Rattle.record.specs.Calls.{fieldSaid, fieldOr9, bodyBy, subBytes, subBy, nu
 use Rattle.reader.specs.Refusals.{need}
 use Rattle.reader.specs.Records.{saidUnless, firstOf}
 use Rattle.demands.specs.Exactly.{Order, Exactly}
+use Rattle.demands.specs.Demand1.{refusalValue}
 use Rattle.demands.specs.Asked.{Says, number}
 use Rattle.demands.proofs.Listed.{nothing-there, pick-there, pick-none}
 
-abbrev pub numberIn : Said → Option ℕ
-numberIn (unsigned n) = none
-numberIn (signed z) = none
-numberIn (single b) = none
-numberIn (double b) = none
-numberIn doNotUse = none
-numberIn notInRevision = none
-numberIn (refused n) = some n
-
-back : (a : Said) (n : ℕ) → numberIn a ≡ some n → a ≡ refused n
+pub back : (a : Said) (n : ℕ) → refusalValue a ≡ some n → a ≡ refused n
 back (unsigned m) n e = nothing-there e
 back (signed z) n e = nothing-there e
 back (single b) n e = nothing-there e
@@ -41,13 +33,13 @@ back doNotUse n e = nothing-there e
 back notInRevision n e = nothing-there e
 back (refused m) n e = let q : m ≡ n = cc in ap refused q
 
-pub says : (a : Said) {order : Order} → Exactly (numberIn a) order → Says refused a order
+pub says : (a : Said) {order : Order} → Exactly (refusalValue a) order → Says refused a order
 says a x =
-    record { gives = λ n e. x .gives n (ap numberIn e); given = λ n g. back a n (x .given n g) }
+    record { gives = λ n e. x .gives n (ap refusalValue e); given = λ n g. back a n (x .given n g) }
 
 -- ---- a field's value is no refusal
 
-read-none : (kind x : ℕ) → numberIn (readAs kind x) ≡ none
+read-none : (kind x : ℕ) → refusalValue (readAs kind x) ≡ none
 unfolding readAs
 read-none zero x = refl
 read-none (suc zero) x = refl
@@ -62,26 +54,26 @@ read-none (suc (suc (suc (suc (suc (suc (suc (suc (suc zero))))))))) x = refl
 read-none (suc (suc (suc (suc (suc (suc (suc (suc (suc (suc zero)))))))))) x = refl
 read-none (suc (suc (suc (suc (suc (suc (suc (suc (suc (suc (suc k))))))))))) x = refl
 
-cond-none : (c : Bool) (a b : Said) → numberIn a ≡ none → numberIn b ≡ none → numberIn (cond c a b) ≡ none
+cond-none : (c : Bool) (a b : Said) → refusalValue a ≡ none → refusalValue b ≡ none → refusalValue (cond c a b) ≡ none
 cond-none true a b e f = e
 cond-none false a b e f = f
 
-value-none : (s : List ℕ) (f : FieldRow) → numberIn (fieldValue s f) ≡ none
+value-none : (s : List ℕ) (f : FieldRow) → refusalValue (fieldValue s f) ≡ none
 unfolding fieldValue valueOf
 value-none s f = cond-none (isDoNotUse (f .mark) (f .kind) _) doNotUse (readAs (f .kind) _) refl (read-none (f .kind) _)
 
-field-none : (revision : ℕ) (s : List ℕ) (f : FieldRow) → numberIn (fieldSaid revision s f) ≡ none
+field-none : (revision : ℕ) (s : List ℕ) (f : FieldRow) → refusalValue (fieldSaid revision s f) ≡ none
 unfolding fieldSaid
 field-none revision s f = cond-none (carried revision f) (fieldValue s f) notInRevision (value-none s f) refl
 
 -- ---- 9 of a list of fields
 
 nine-by : (revision : ℕ) (s : List ℕ) (o : Option FieldRow) (fs : List FieldRow) (i : ℕ) → pick fs i ≡ o
-    → numberIn (fieldOr9 revision s o) ≡ need (ltb i (length fs)) 9 none
+    → refusalValue (fieldOr9 revision s o) ≡ need (ltb i (length fs)) 9 none
 nine-by revision s none fs i e = rw (le-ltb i (length fs) (pick-none fs i e))
 nine-by revision s (some f) fs i e = rw (lt-ltb i (length fs) (pick-there fs i e)) (field-none revision s f)
 
-pub nine : (revision : ℕ) (s : List ℕ) (fs : List FieldRow) (i : ℕ) → numberIn (fieldOr9 revision s (pick fs i)) ≡ need (ltb i (length fs)) 9 none
+pub nine : (revision : ℕ) (s : List ℕ) (fs : List FieldRow) (i : ℕ) → refusalValue (fieldOr9 revision s (pick fs i)) ≡ need (ltb i (length fs)) 9 none
 nine revision s fs i = nine-by revision s (pick fs i) fs i refl
 
 -- ---- what was seen of the block, and then what is asked of its row
@@ -90,7 +82,7 @@ abbrev pub thenOf : Seen → (BlockRow → Option ℕ) → Option ℕ
 thenOf (refusedBy n) f = some n
 thenOf (row r) f = f r
 
-pub body-row : (b : List ℕ) (i : ℕ) (x : Seen) → numberIn (bodyBy b i x) ≡ thenOf x (λ r. need (ltb i (length (r .body))) 9 none)
+pub body-row : (b : List ℕ) (i : ℕ) (x : Seen) → refusalValue (bodyBy b i x) ≡ thenOf x (λ r. need (ltb i (length (r .body))) 9 none)
 body-row b i (refusedBy n) = refl
 body-row b i (row r) = nine (revisionIn b) b (r .body) i
 
@@ -99,12 +91,12 @@ two-nines : (c d : Bool) → need c 9 (need d 9 none) ≡ need (c && d) 9 none
 two-nines true d = refl
 two-nines false d = refl
 
-sub-by : (c : Bool) (b : List ℕ) (k j : ℕ) (r : BlockRow) → numberIn (subBy b k j (cond c (row r) (refusedBy 9))) ≡ need (c && ltb j (length (r .subs))) 9 none
+sub-by : (c : Bool) (b : List ℕ) (k j : ℕ) (r : BlockRow) → refusalValue (subBy b k j (cond c (row r) (refusedBy 9))) ≡ need (c && ltb j (length (r .subs))) 9 none
 sub-by true b k j r = nine (revisionIn b) (subBytes b k) (r .subs) j
 sub-by false b k j r = refl
 
 pub sub-row : (b : List ℕ) (k j : ℕ) (x : Seen)
-    → numberIn (subBy b k j (seenSubRow b k x)) ≡ thenOf x (λ r. need (ltb k (subCount b r) && ltb j (length (r .subs))) 9 none)
+    → refusalValue (subBy b k j (seenSubRow b k x)) ≡ thenOf x (λ r. need (ltb k (subCount b r) && ltb j (length (r .subs))) 9 none)
 unfolding seenSubRow
 sub-row b k j (refusedBy n) = refl
 sub-row b k j (row r) = sub-by (ltb k (subCount b r)) b k j r
@@ -137,10 +129,10 @@ pub row-need : (b : List ℕ) (r : BlockRow) (f : BlockRow → Option ℕ) → t
 unfolding seenRow
 row-need b r f = then-cond (bodyFits b r) _ 7 f ∙ ap (need (bodyFits b r) 7) (then-cond (subsFit b r) (row r) 8 f)
 
-pub stamp-need : (f : FieldRow) (b : List ℕ) → numberIn (stamp f b) ≡ need (wholeFrame b) 10 (need (leb 14 (length b)) 7 none)
+pub stamp-need : (f : FieldRow) (b : List ℕ) → refusalValue (stamp f b) ≡ need (wholeFrame b) 10 (need (leb 14 (length b)) 7 none)
 unfolding stamp
 stamp-need f b = by (wholeFrame b) (leb 14 (length b)) where
-  by : (c d : Bool) → numberIn (cond c (cond d (fieldValue b f) (refused 7)) (refused 10)) ≡ need c 10 (need d 7 none)
+  by : (c d : Bool) → refusalValue (cond c (cond d (fieldValue b f) (refused 7)) (refused 10)) ≡ need c 10 (need d 7 none)
   by true true = value-none b f
   by true false = refl
   by false d = refl
@@ -150,6 +142,6 @@ pub first-need : (c : Bool) (n : ℕ) (o rest : Option ℕ) → firstOf (need c 
 first-need true n o rest = refl
 first-need false n o rest = refl
 
-pub number-unless : (o : Option ℕ) (a : Said) → numberIn (saidUnless o a) ≡ firstOf o (numberIn a)
+pub number-unless : (o : Option ℕ) (a : Said) → refusalValue (saidUnless o a) ≡ firstOf o (refusalValue a)
 number-unless none a = refl
 number-unless (some n) a = refl

@@ -5,17 +5,14 @@ use native.Mathlib.Omega.{arith}
 use mathlib.Core.Path.{_≡_, refl, sym, _∙_}
 use mathlib.Core.List.{List, []}
 use mathlib.Core.Option.{Option, none, some}
-use Rattle.record.specs.Block.{Seen, refusedBy, row, seenSub}
-use Rattle.record.specs.Calls.{partBy, numberBy, subBlock, subBlockRefusal}
-use Rattle.table.specs.Decode.{decode}
-use Rattle.reader.specs.Refusals.{bytesRefusal}
-use Rattle.reader.specs.Calls.{finishingOf, finishingBy, finishSaid, partUnless, bytesOf}
-use Rattle.reader.specs.Records.{tableInForce, askRefusal, firstOf, subBytesOf, subBytesRefusal}
+use Rattle.reader.specs.Calls.{finishingOf, finishingBy, finishSaid}
 use Rattle.reader.specs.declared.Run.{Run}
 use Rattle.demands.specs.World.{World, TableCall, stage, withdraw, Look, bytes, body, sub, subBytes, tow, wnc, Call, openRun, feed, finish, table, look, Answer, said, looked, step}
 use Rattle.demands.specs.Sequence.{partOf}
 use Rattle.demands.specs.Demand1.{refusalSaid, refusalIn, Demand1}
 use Rattle.demands.proofs.Steps.{How, isnt, is, how, done, tableDone, no-some}
+use Rattle.demands.proofs.Told.{told}
+use Rattle.demands.proofs.Never.{never-one}
 use Rattle.demands.proofs.Reached.{good-sound, good-end, good-new}
 
 -- ---- what is done where none is refused is no refusal, but for a look, which changes nothing
@@ -43,26 +40,11 @@ keeps-by c w n (is e) f = done-keeps c w n f
 
 -- ---- a part is empty where its second call gives a number
 
-bytes-empty : (o : Option ℕ) (n : ℕ) (p : List ℕ) → o ≡ some n → partUnless o p ≡ []
-bytes-empty none n p e = no-some (sym e)
-bytes-empty (some m) n p e = refl
-
-seen-empty : (b : List ℕ) (k n : ℕ) (s : Seen) → numberBy s ≡ some n → partBy b k s ≡ []
-seen-empty b k n (refusedBy m) e = refl
-seen-empty b k n (row r) e = no-some (sym e)
-
-sub-empty : (o q : Option ℕ) (n : ℕ) (p : List ℕ) → (q ≡ some n → p ≡ []) → firstOf o q ≡ some n → partUnless o p ≡ []
-sub-empty none q n p f e = f e
-sub-empty (some m) q n p f e = refl
-
 look-empty : (l : Look) (w : World) (n : ℕ) → refusalIn (looked l w) ≡ some n → partOf (looked l w) ≡ []
-unfolding bytesOf subBytesOf subBytesRefusal subBlock subBlockRefusal
-look-empty bytes w n e = bytes-empty (bytesRefusal (w .state) (w .hold)) n _ e
+look-empty bytes w n e = told .bytes (w .state) (w .hold) n e
 look-empty (body b i) w n e = refl
 look-empty (sub b k j) w n e = refl
-look-empty (subBytes b k) w n e =
-    let t = decode (tableInForce (w .state) (w .force)) in
-    sub-empty (askRefusal (w .state) (w .force)) (subBlockRefusal t b k) n (subBlock t b k) (seen-empty b k n (seenSub t b k)) e
+look-empty (subBytes b k) w n e = told .sub-bytes (w .state) (w .force) b k n e
 look-empty (tow b) w n e = refl
 look-empty (wnc b) w n e = refl
 
@@ -87,4 +69,5 @@ demand-1 =
       keeps = λ c w n e. keeps-by c w n (how c w) e;
       empty = λ c w n e. empty-by c w n (how c w) e;
       sound = λ w before n b. good-sound _ (good-end before w b (good-new w n));
+      never = never-one;
     }

@@ -1,8 +1,8 @@
 // What was demanded, as theorems over the definitions that the reader's contracts cite.
+ghost use Rattle.demands.specs.Asked.{AskedExactlyWhen, SaidExactlyWhen};
 ghost use Rattle.demands.specs.Demand1.{Demand1};
 ghost use Rattle.demands.specs.Demand2.{Demand2};
 ghost use Rattle.demands.specs.Demand3.{BlocksOfTheWhole, HoweverCut, TakesTheStream, OneTable, Moved};
-ghost use Rattle.demands.specs.Asked.{AskedExactlyWhen, SaidExactlyWhen};
 ghost use Rattle.demands.specs.Exactly.{ExactlyWhen};
 ghost use Rattle.demands.specs.Flight.{FlightLine};
 ghost use Rattle.demands.specs.One.{OneOutcome};
@@ -16,14 +16,19 @@ pub fn refused_keeps()
     ensures { λ _. ⌜ RefusedKeeps ⌝ }
 {}
 
-// "it is proved that one input admits one outcome": two outcomes that meet a contract of the reader are one.
-pub fn one_outcome()
-    ensures { λ _. ⌜ OneOutcome ⌝ }
-{}
-
 // Document 01's refusal table, 1 to 5: each number is given exactly when its condition holds and none before it does.
 pub fn exactly_when()
     ensures { λ _. ⌜ ExactlyWhen ⌝ }
+{}
+
+// The same for the record calls and all their numbers: their answers are refusals exactly when document 01 says.
+pub fn asked_exactly_when()
+    ensures { λ _. ⌜ AskedExactlyWhen ⌝ }
+{}
+
+// The answers of the other calls are refusals exactly when `exactly_when` says, and a refused part is empty.
+pub fn said_exactly_when()
+    ensures { λ _. ⌜ SaidExactlyWhen ⌝ }
 {}
 
 // A new reader's state is sound, every call keeps it so, and a sound state is none that refusal 1 names.
@@ -31,9 +36,15 @@ pub fn sound_kept()
     ensures { λ _. ⌜ SoundKept ⌝ }
 {}
 
-// Demand 1, over the calls of a world: a refused call changes nothing and hands back nothing; states that are reached are sound.
+// Demand 1, over the calls of a world: a refused call changes nothing and hands back nothing; states that are reached are sound;
+// with long enough buffers refusal 1 is not given.
 pub fn demand_1()
     ensures { λ _. ⌜ Demand1 ⌝ }
+{}
+
+// "it is proved that one input admits one outcome": two outcomes that meet a contract of the reader are one.
+pub fn one_outcome()
+    ensures { λ _. ⌜ OneOutcome ⌝ }
 {}
 
 // Demand 2: at every moment of a run the blocks reported are the first ones of the reading rule, after More nothing more can be
@@ -71,16 +82,6 @@ pub fn table_calls_move()
 // More is answered only with all taken that may be, and Finish comes to End.
 pub fn progress()
     ensures { λ _. ⌜ Progress ⌝ }
-{}
-
-// The same for the record calls, 1 to 10: their answers are refusals exactly when document 01 says.
-pub fn asked_exactly_when()
-    ensures { λ _. ⌜ AskedExactlyWhen ⌝ }
-{}
-
-// The answers of the other calls are refusals exactly when `exactly_when` says, and a refused part is empty.
-pub fn said_exactly_when()
-    ensures { λ _. ⌜ SaidExactlyWhen ⌝ }
 {}
 
 // Document 01's samples (a) to (j): one table of cases, one theorem.
