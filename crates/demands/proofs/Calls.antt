@@ -1,35 +1,32 @@
 -- One call more of a run: what is reported so far, and then from the place on, is the reading of the bytes taken.
 -- Assumes nothing.
-use Prim.Native.Nat.{ℕ, min, _+_, _-_, _≤_, _<_}
+use Prim.Native.Nat.{ℕ, _+_, _-_}
 use native.Mathlib.Omega.{arith}
 use native.Mathlib.Nat.{add-zero}
 use mathlib.Core.Path.{_≡_, refl, sym, ap, ap₂, _∙_, subst, subst⁻¹}
-use mathlib.Core.Bool.{Bool, true, false, _&&_, _||_}
-use mathlib.Core.List.{List, [], _∷_, _++_, append-nil, append-assoc}
+use mathlib.Core.Bool.{true, _&&_}
+use mathlib.Core.List.{List, [], _++_, append-nil, append-assoc}
 use mathlib.Core.Option.{Option, none, some}
 use lib.ListN.{length, take, drop, length-append, length-drop}
 use lib.Seq.{length-take-le, drop-append-le, drop-drop}
 use Rattle.frame.specs.Settle.{finishLit}
 use Rattle.frame.specs.Feed.{Feeding, feedLit, stop}
-use Rattle.frame.specs.ReadRun.{Block, Reading, both, readRun}
+use Rattle.frame.specs.ReadRun.{Block, both, readRun}
 use Rattle.frame.specs.Session.{size, placesFrom, blocksOf, answer}
 use Rattle.frame.proofs.Calls as calls
-use Rattle.frame.proofs.Runs.{skipMany, places-count, skip-none, both-both, read-end, read-frame, Ends, finished, finish-rest, finish-front, feed-read, fed-stands, answered}
+use Rattle.frame.proofs.Runs.{skipMany, places-count, both-both, read-frame, Ends, finished, finish-rest, finish-front, feed-read, fed-stands, answered}
 use Rattle.reader.specs.State.{limit, sound}
-use Rattle.reader.specs.Said.{Said, refused, ended}
-use Rattle.reader.specs.Refusals.{longHold, isFeeding, isClosed, feedRefusal, finishRefusal}
-use Rattle.reader.specs.Calls.{one, runOn, feedingBy, feedingOf, finishingBy, finishingOf, finishSaid, phaseAfter, opening}
+use Rattle.reader.specs.Refusals.{longHold, isFeeding, feedRefusal}
+use Rattle.reader.specs.Calls.{one, runOn, feedingOf, finishingOf, phaseAfter}
 use Rattle.reader.specs.declared.Phase.{Phase}
 use Rattle.reader.specs.declared.Phase.the-variants as phase
-use Rattle.reader.specs.declared.Run.{Run}
-use Rattle.reader.proofs.Laws.{passes, with-hold}
-use Rattle.demands.specs.World.{World, TableCall, stage, withdraw, Look, Call, openRun, feed, finish, table, look, Answer, said, leftForce, leftHold, looked, step, end}
-use Rattle.demands.specs.Sequence.{Fed, AllFed, endSaid, isEnd, NoEnd, Within, Closes, opened, tookOf, reportIn, inHold, shown, taken, blocks, shownBlocks}
+use Rattle.reader.proofs.Laws.{passes}
+use Rattle.demands.specs.World.{World, Call, feed, finish, Answer}
+use Rattle.demands.specs.Sequence.{tookOf, reportIn, inHold, taken, blocks}
 use Rattle.demands.specs.Demand2.{MayFollow}
-use Rattle.demands.proofs.Steps.{How, isnt, is, how, refusal, done, tableDone, clash}
-use Rattle.demands.proofs.Reached.{Good, good-step, good-end}
-use Rattle.demands.proofs.Live.{Live, not-open, live-step, Stand, stands}
-use Rattle.demands.proofs.Going.{kept, place, going, within, kept-length, Fits, kept-after, place-after, in-hold, finish-report, shown-is}
+use Rattle.demands.proofs.Steps.{is, refusal, done, clash}
+use Rattle.demands.proofs.Reached.{Good}
+use Rattle.demands.proofs.Going.{kept, place, going, within, kept-length, Fits, kept-after, place-after, in-hold, finish-report}
 
 -- the run so far took the bytes t and reported the blocks b; with what follows it reads as these, and then from the place on
 pub record Reads (t : List ℕ) (b : List Block) (w : World) : Type 0 where

@@ -1,11 +1,11 @@
 -- Demand 2: after More nothing more can be decided, and records are read by the table in force.
 -- Assumes nothing.
-use Prim.Native.Nat.{ℕ, _+_, _-_, _≤_}
+use Prim.Native.Nat.{ℕ, _+_, _-_}
 use native.Mathlib.Omega.{arith}
-use mathlib.Core.Path.{_≡_, refl, sym, ap, ap₂, _∙_, subst, subst⁻¹}
+use mathlib.Core.Path.{_≡_, sym, ap, ap₂, _∙_, subst, subst⁻¹}
 use mathlib.Core.List.{List, [], _∷_, _++_, append-nil, append-assoc}
-use mathlib.Core.Option.{Option, none, some}
-use lib.ListN.{length, drop}
+use mathlib.Core.Option.{Option, none}
+use lib.ListN.{drop}
 use Rattle.frame.specs.Feed.{Feeding, feedLit}
 use Rattle.frame.specs.Judge.{judged}
 use Rattle.frame.specs.Session.{size}
@@ -16,19 +16,18 @@ use Rattle.reader.specs.State.{limit}
 use Rattle.reader.specs.Said.{took}
 use Rattle.reader.specs.Refusals.{nextTable}
 use Rattle.reader.specs.Calls.{feedingOf, front}
-use Rattle.reader.specs.Records.{tableInForce}
 use Rattle.reader.specs.declared.Phase.the-variants as phase
-use Rattle.demands.specs.World.{World, Look, Call, feed, look, Answer, said, looked, step, end}
-use Rattle.demands.specs.Sequence.{AllFed, NoEnd, Within, opened, tookOf, taken}
+use Rattle.demands.specs.World.{World, Call, feed, Answer, said, looked, step, end}
+use Rattle.demands.specs.Sequence.{opened, tookOf, taken}
 use Rattle.demands.specs.Demand2.{MoreDecided, ByTheTable, Demand2}
 use Rattle.demands.specs.Demand3.{LooksBy}
 use Rattle.demands.proofs.Steps.{How, isnt, is, how, done}
 use Rattle.demands.proofs.Reached.{Good, good-end}
-use Rattle.demands.proofs.Live.{Live, live-end, Stand, stands}
-use Rattle.demands.proofs.Force.{ReadBy, read-end, look-by, found}
+use Rattle.demands.proofs.Live.{live-end, stands}
+use Rattle.demands.proofs.Force.{read-end, look-by, found}
 use Rattle.demands.proofs.Moving.{end-append}
 use Rattle.demands.proofs.Going.{kept, place, kept-after}
-use Rattle.demands.proofs.Calls.{Reads, feed-fits}
+use Rattle.demands.proofs.Calls.{feed-fits}
 use Rattle.demands.proofs.Reading.{reads-by, reads-within, first-ones}
 use Rattle.demands.proofs.Ending.{none-if, said-is}
 

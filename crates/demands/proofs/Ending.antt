@@ -1,34 +1,33 @@
 -- Progress: More takes all, and Finish comes to End.
 -- Assumes nothing.
-use Prim.Native.Nat.{ℕ, zero, suc, min, _+_, _-_, _≤_, _<_}
+use Prim.Native.Nat.{ℕ, zero, suc, min, _-_, _≤_, _<_}
 use native.Mathlib.Omega.{arith}
-use mathlib.Core.Path.{_≡_, refl, sym, ap, ap₂, _∙_, subst, subst⁻¹}
-use mathlib.Core.Bool.{Bool, true, false, not, _&&_}
-use mathlib.Core.List.{List, [], _∷_}
+use mathlib.Core.Path.{_≡_, refl, ap, _∙_, subst, subst⁻¹}
+use mathlib.Core.Bool.{true, false, _&&_}
+use mathlib.Core.List.{List}
 use mathlib.Core.Logic.{_⊎_, inl, inr}
 use mathlib.Core.Option.{Option, none, some}
-use lib.ListN.{length, drop, length-drop}
+use lib.ListN.{length, length-drop}
 use borrow.Author.Tests.{le-leb}
 use Rattle.frame.specs.Settle.{finishLit}
-use Rattle.frame.specs.Feed.{Feeding, feedLit, stop}
+use Rattle.frame.specs.Feed.{feedLit, stop}
 use Rattle.frame.specs.Session.{size}
 use Rattle.frame.proofs.Calls.{Took, fed-took}
 use Rattle.frame.proofs.Runs.{finish-rest}
 use Rattle.frame.proofs.Tests.{lt?}
 use Rattle.reader.specs.State.{limit, sound}
-use Rattle.reader.specs.Said.{Report, Said, took}
-use Rattle.reader.specs.Refusals.{need, isClosed, longHold, feedRefusal, finishRefusal}
-use Rattle.reader.specs.Calls.{reportIf, feedingOf, finishingOf, finishingBy, finishSaid, phaseAfter, front, runOn}
-use Rattle.reader.specs.declared.Run.{Run}
-use Rattle.reader.proofs.Laws.{passes, Facts, with-hold}
+use Rattle.reader.specs.Said.{Said, took}
+use Rattle.reader.specs.Refusals.{longHold, feedRefusal, finishRefusal}
+use Rattle.reader.specs.Calls.{reportIf, feedingOf, finishingOf, finishSaid, phaseAfter, front}
+use Rattle.reader.proofs.Laws.{passes, with-hold}
 use Rattle.reader.proofs.Feeding.{Whole, WholeIf, end-whole}
-use Rattle.demands.specs.World.{World, Call, feed, finish, Answer, said, step, end}
-use Rattle.demands.specs.Sequence.{endSaid, isEnd, Within, opened}
+use Rattle.demands.specs.World.{World, feed, finish, Answer, said, step, end}
+use Rattle.demands.specs.Sequence.{endSaid, isEnd, opened}
 use Rattle.demands.specs.Progress.{MoreTakesAll, finishes, foundSaid, isFound, AllFound, Reaches, FinishEnds, Progress}
-use Rattle.demands.proofs.Steps.{How, isnt, is, how, refusal, done, unlessRefused, by-refusal, clash}
+use Rattle.demands.proofs.Steps.{How, isnt, is, how, refusal, done, unlessRefused, by-refusal}
 use Rattle.demands.proofs.Reached.{Good, good-sound, good-step, good-end}
-use Rattle.demands.proofs.Live.{Live, live-step, live-end, Stand, stands}
-use Rattle.demands.proofs.Going.{kept, going, kept-length, kept-after, hold-length}
+use Rattle.demands.proofs.Live.{Live, live-step, live-end, stands}
+use Rattle.demands.proofs.Going.{kept, kept-length, kept-after, hold-length}
 use Rattle.demands.proofs.Calls.{finish-fits}
 
 -- ---- More

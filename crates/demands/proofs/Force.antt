@@ -3,27 +3,24 @@
 use Prim.Native.Nat.{ℕ, _≤_, _<_}
 use native.Mathlib.Omega.{arith}
 use mathlib.Core.Path.{_≡_, refl, sym, ap, ap₂, _∙_, subst, subst⁻¹}
-use mathlib.Core.Bool.{Bool, true, false, _&&_, _||_, cond}
-use mathlib.Core.List.{List, [], _∷_, _++_}
-use mathlib.Core.Option.{Option, none, some}
+use mathlib.Core.Bool.{Bool, true, false}
+use mathlib.Core.List.{List, [], _∷_}
+use mathlib.Core.Option.{none, some}
 use lib.ListN.{length, take, drop, length-append, length-drop}
 use lib.Seq.{take-append-seam, length-take-le}
-use lib.Dec.{leb, ltb}
+use lib.Dec.{ltb}
 use borrow.Author.Tests.{le-leb, lt-ltb, ltb-true}
 use Rattle.table.specs.Rules.{tableOk}
 use Rattle.table.specs.Decode.{decode}
-use Rattle.record.specs.Calls.{bodyField, subField, subBlock, subBlockRefusal, towRow, wncRow, stamp}
-use Rattle.reader.specs.State.{sound}
-use Rattle.reader.specs.Refusals.{need, longStore, nextTable, tableRefusal}
+use Rattle.reader.specs.Refusals.{nextTable}
 use Rattle.reader.specs.Calls.{over, opening}
-use Rattle.reader.specs.Records.{tableInForce, askRefusal, saidUnless, bodyOf, subOf, subBytesOf, firstOf, subBytesRefusal, stampOf}
-use Rattle.reader.specs.declared.State.{State}
-use Rattle.demands.specs.World.{World, TableCall, stage, withdraw, Look, bytes, body, sub, subBytes, tow, wnc, Call, openRun, feed, finish, table, look, Answer, said, part, value, leftForce, looked, step, end, trace}
+use Rattle.reader.specs.Records.{tableInForce, askRefusal, bodyOf, subOf, subBytesOf, subBytesRefusal, stampOf}
+use Rattle.demands.specs.World.{World, TableCall, stage, withdraw, Look, bytes, body, sub, subBytes, tow, wnc, Call, openRun, feed, finish, table, look, Answer, leftForce, looked, step, end, trace}
 use Rattle.demands.specs.Sequence.{AllFed, NoEnd, Within, opened}
-use Rattle.demands.specs.Demand3.{LooksBy, ReadsBy, AllBy, foundBy, OneTable}
+use Rattle.demands.specs.Demand3.{LooksBy, ReadsBy, AllBy, OneTable}
 use Rattle.demands.proofs.Steps.{How, isnt, is, how, refusal, done}
 use Rattle.demands.proofs.Reached.{Good, good-sound, good-step}
-use Rattle.demands.proofs.Live.{Live, not-open, live-step, MayOpen, Stand, stands}
+use Rattle.demands.proofs.Live.{Live, not-open, live-step, MayOpen, stands}
 
 -- ---- it is not touched
 

@@ -1,14 +1,12 @@
 -- A call that goes on in the run: the hold it leaves, the place where reading goes on, and the block it reports.
 -- Assumes nothing.
-use Prim.Native.Nat.{ℕ, min, _+_, _-_, _≤_, _<_}
+use Prim.Native.Nat.{ℕ, _+_, _-_, _≤_}
 use native.Mathlib.Omega.{arith}
-use mathlib.Core.Path.{_≡_, refl, sym, ap, ap₂, _∙_}
-use mathlib.Core.Bool.{true, _&&_}
+use mathlib.Core.Path.{_≡_, refl, ap, ap₂, _∙_}
 use mathlib.Core.List.{List, [], _∷_, _++_}
 use mathlib.Core.Option.{Option, none, some}
 use lib.ListN.{length, take, drop, length-append, length-drop}
 use lib.Seq.{take-append-le}
-use lib.Dec.{leb}
 use borrow.Author.Tests.{le-leb}
 use Rattle.frame.specs.Feed.{Feeding}
 use Rattle.frame.specs.ReadRun.{Block, blockAt}
@@ -16,14 +14,12 @@ use Rattle.frame.specs.Session.{size, blocksOf}
 use Rattle.feed.specs.Hold.{restOf, holdOf}
 use Rattle.feed.proofs.Literally.{goes-on}
 use Rattle.reader.specs.State.{sound}
-use Rattle.reader.specs.Said.{Report, took}
 use Rattle.reader.specs.Refusals.{bytesRefusal}
 use Rattle.reader.specs.Calls.{reported, reportIf, front, runOn, withRun, finishSaid, bytesOf}
 use Rattle.reader.specs.declared.Phase.{Phase}
 use Rattle.reader.specs.declared.Run.{Run}
 use Rattle.reader.proofs.Feeding.{rest-length}
-use Rattle.demands.specs.Sound.{Sound}
-use Rattle.demands.specs.World.{World, bytes, look, Answer, said, step}
+use Rattle.demands.specs.World.{World, bytes, look, step}
 use Rattle.demands.specs.Sequence.{blockOf, inHold, partOf, shown, reportSaid}
 use Rattle.demands.proofs.Reached.{Good, good-sound}
 

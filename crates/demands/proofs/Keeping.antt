@@ -5,8 +5,7 @@ use native.Mathlib.Omega.{arith}
 use mathlib.Core.Path.{_≡_, refl}
 use mathlib.Core.List.{List, []}
 use mathlib.Core.Option.{Option, none, some}
-use Rattle.frame.specs.Feed.{Feeding}
-use Rattle.reader.specs.Said.{Said, refused, version, took, found, ended, waited}
+use Rattle.reader.specs.Said.{refused}
 use Rattle.reader.specs.Refusals.{openRefusal, feedRefusal, finishRefusal, stageRefusal, withdrawRefusal}
 use Rattle.reader.specs.Calls.{Outcome, unless, opening, openOf, feedingBy, feedingOf, feedOf, finishSaid, finishingBy, finishingOf, finishOf, staging, stageOf, withdrawing, withdrawOf}
 use Rattle.reader.specs.declared.Run.{Run}

@@ -1,24 +1,22 @@
 -- A run that stands open stays open until End; what it stands on.
 -- Assumes nothing.
-use Prim.Native.Nat.{ℕ, _≤_, _<_}
+use Prim.Native.Nat.{ℕ}
 use native.Mathlib.Omega.{arith}
-use mathlib.Core.Path.{_≡_, refl, sym, ap, _∙_, subst⁻¹}
-use mathlib.Core.Bool.{Bool, true, false, _&&_, _||_}
+use mathlib.Core.Path.{_≡_, refl, sym, ap, _∙_}
+use mathlib.Core.Bool.{true, false, _&&_, _||_}
 use mathlib.Core.List.{List, [], _∷_}
 use mathlib.Core.Option.{Option, none, some}
-use lib.ListN.{length}
 use lib.Dec.{ltb}
 use Rattle.table.specs.Rules.{tableOk}
 use Rattle.reader.specs.State.{sound}
-use Rattle.reader.specs.Said.{Said, refused, version}
-use Rattle.reader.specs.Refusals.{need, isClosed, longStore, nextTable, tableRefusal, openRefusal}
+use Rattle.reader.specs.Said.{version}
+use Rattle.reader.specs.Refusals.{isClosed, longStore, nextTable, openRefusal}
 use Rattle.reader.specs.Calls.{opening, finishingOf, finishingBy, finishSaid, phaseAfter}
 use Rattle.reader.specs.declared.Run.{Run}
-use Rattle.reader.specs.declared.State.{State}
 use Rattle.reader.proofs.Laws.{passes}
 use Rattle.reader.proofs.Accepted.{OpenPassed, open-passed}
 use Rattle.demands.specs.World.{World, TableCall, stage, withdraw, Call, openRun, feed, finish, table, look, Answer, said, leftForce, step, end}
-use Rattle.demands.specs.Sequence.{AllFed, endSaid, isEnd, NoEnd, Within, opened}
+use Rattle.demands.specs.Sequence.{endSaid, isEnd, NoEnd, Within, opened}
 use Rattle.demands.proofs.Steps.{How, isnt, is, how, refusal, done, clash}
 use Rattle.demands.proofs.Reached.{Good, good-step, good-end, good-new}
 

@@ -8,7 +8,7 @@ use Rattle.demands.specs.Sequence.{AllFed, NoEnd, opened}
 use Rattle.demands.specs.Demand3.{isTable, consIf, tables, others, tableAnswers, otherAnswers, Same, Moved}
 use Rattle.demands.proofs.Steps.{how}
 use Rattle.demands.proofs.Reached.{Good, good-step, good-end}
-use Rattle.demands.proofs.Live.{Live, live-step, live-end, Stand, stands}
+use Rattle.demands.proofs.Live.{Live, live-step, live-end, stands}
 use Rattle.demands.proofs.Untouched.{Waiting, waits, with, Fit, mirror, base-by, apart, left-by, same-by, same-length}
 
 -- ---- the two kinds

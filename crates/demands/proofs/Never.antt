@@ -1,19 +1,18 @@
 -- With long enough buffers no call on a new reader gets refusal 1.
 -- Assumes nothing.
-use Prim.Native.Nat.{ℕ, _≤_, _<_}
+use Prim.Native.Nat.{ℕ, _≤_}
 use native.Mathlib.Omega.{arith}
-use mathlib.Core.Path.{_≡_, refl, sym, ap, _∙_}
+use mathlib.Core.Path.{_≡_, refl, ap}
 use mathlib.Core.Bool.{Bool, true, false, cond}
 use mathlib.Core.List.{List, [], _∷_}
 use mathlib.Core.Logic.{_⊎_, ⊎-elim}
-use mathlib.Core.Option.{Option, none, some}
+use mathlib.Core.Option.{none, some}
 use lib.ListN.{length, take}
 use lib.Seq.{length-take-le}
 use lib.Dec.{ltb}
 use Rattle.reader.specs.State.{sound}
 use Rattle.reader.specs.Said.{Said, refused, version, took, found, ended, waited}
 use Rattle.reader.specs.Calls.{over, feedingOf, finishingOf}
-use Rattle.demands.specs.Sound.{Sound}
 use Rattle.demands.specs.World.{World, TableCall, stage, withdraw, Look, bytes, body, sub, subBytes, tow, wnc, Call, openRun, feed, finish, table, look, Answer, looked, step, end}
 use Rattle.demands.specs.Sequence.{New, Fed, AllFed}
 use Rattle.demands.specs.Demand1.{refusalSaid, refusalIn, Long}
@@ -24,7 +23,8 @@ use Rattle.demands.proofs.Exact.{bad-state, exact}
 use Rattle.demands.proofs.Told.{told}
 use Rattle.demands.proofs.Numbers.{back}
 use Rattle.demands.proofs.Asked.{asked}
-use Rattle.demands.proofs.Steps.{How, isnt, is, how, refusal, done, tableDone, no-some}
+use Rattle.demands.proofs.Listed.{nothing-there}
+use Rattle.demands.proofs.Steps.{How, isnt, is, how, refusal, done, tableDone}
 use Rattle.demands.proofs.Reached.{Good, good-sound, good-step, good-new}
 use Rattle.demands.proofs.Force.{length-over}
 use Rattle.demands.proofs.Untouched.{same-by}
@@ -100,11 +100,11 @@ no-bad w g b = bad-state (w .state) .fine (good-sound w g) b
 
 back-said : (a : Said) → refusalSaid a ≡ some 1 → a ≡ refused 1
 back-said (refused m) e = let q : m ≡ 1 = cc in ap refused q
-back-said (version v) e = no-some (sym e)
-back-said (took n r) e = no-some (sym e)
-back-said (found r) e = no-some (sym e)
-back-said (ended n b s) e = no-some (sym e)
-back-said (waited b) e = no-some (sym e)
+back-said (version v) e = nothing-there e
+back-said (took n r) e = nothing-there e
+back-said (found r) e = nothing-there e
+back-said (ended n b s) e = nothing-there e
+back-said (waited b) e = nothing-there e
 
 module _ (w : World) (g : Good w) (l : Long w) where
   with-hold : BadState (w .state) ⊎ ShortHold (w .hold) → ⊥

@@ -1,26 +1,25 @@
 -- What holds of every world that calls on a new reader leave: a sound state, and a hold of bytes that has the held ones.
 -- Assumes nothing.
-use Prim.Native.Nat.{ℕ, _+_, _-_, _≤_, _<_}
+use Prim.Native.Nat.{ℕ, _+_, _-_, _≤_}
 use native.Mathlib.Omega.{arith}
-use mathlib.Core.Path.{_≡_, refl, sym, ap, _∙_, subst, subst⁻¹}
+use mathlib.Core.Path.{_≡_, ap, subst, subst⁻¹}
 use mathlib.Core.Bool.{true}
 use mathlib.Core.List.{List, [], _∷_, _++_}
-use mathlib.Core.Option.{Option, none, some}
-use lib.ListN.{length, take, drop, length-append, length-drop}
+use lib.ListN.{length, take, drop, length-append}
 use Rattle.frame.specs.Settle.{finishLit}
-use Rattle.frame.specs.Feed.{Feeding, feedLit, stop}
+use Rattle.frame.specs.Feed.{Feeding, feedLit}
 use Rattle.frame.proofs.Bounds.{append-bytes, take-bytes, drop-bytes}
 use Rattle.frame.proofs.Calls.{fed-holds}
 use Rattle.frame.proofs.Runs.{finish-rest}
 use Rattle.feed.specs.Hold.{restOf, holdOf}
-use Rattle.reader.specs.State.{limit, newState, sound}
-use Rattle.reader.specs.Calls.{openOf, feedingOf, feedOf, finishingOf, finishOf, stageOf, withdrawOf}
+use Rattle.reader.specs.State.{limit, sound}
+use Rattle.reader.specs.Calls.{feedingOf, finishingOf}
 use Rattle.reader.specs.declared.State.{State}
 use Rattle.demands.specs.Sound.{Sound, Bytes}
 use Rattle.demands.specs.World.{World, TableCall, stage, withdraw, Call, openRun, feed, finish, table, look, Answer, step, end}
 use Rattle.demands.specs.Sequence.{New, Fed, AllFed}
 use Rattle.demands.proofs.Soundness.{sound-kept, rest-bytes}
-use Rattle.demands.proofs.Steps.{How, isnt, is, how, refusal, done}
+use Rattle.demands.proofs.Steps.{How, isnt, is, how, done}
 
 pub record Held (s : State) (hold : List ℕ) : Type 0 where
   pub there : s .run .held ≤ length hold

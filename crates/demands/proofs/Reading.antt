@@ -1,10 +1,8 @@
 -- What a run reports is the reading of the bytes that it took, whatever its calls.
 -- Assumes nothing.
-use Prim.Native.Nat.{ℕ, _+_, _-_, _≤_, _<_}
-use native.Mathlib.Omega.{arith}
-use native.Mathlib.Nat.{add-zero}
+use Prim.Native.Nat.{ℕ, _+_, _-_}
 use mathlib.Core.Path.{_≡_, refl, sym, ap, ap₂, _∙_, subst, subst⁻¹}
-use mathlib.Core.Bool.{Bool, true, false, _&&_}
+use mathlib.Core.Bool.{true, _&&_}
 use mathlib.Core.List.{List, [], _∷_, _++_, append-nil, append-assoc}
 use mathlib.Core.Option.{Option, none, some}
 use lib.ListN.{length, drop, length-append}
@@ -12,23 +10,22 @@ use Rattle.frame.specs.Settle.{finishLit}
 use Rattle.frame.specs.Feed.{Feeding, stop}
 use Rattle.frame.specs.ReadRun.{Block, Reading, both, readRun}
 use Rattle.frame.specs.Session.{size}
-use Rattle.frame.proofs.Runs.{skip-none, read-end, Ends, finished}
+use Rattle.frame.proofs.Runs.{read-end, Ends, finished}
 use Rattle.reader.specs.State.{sound}
 use Rattle.reader.specs.Said.{Report, ended, refused}
 use Rattle.reader.specs.Refusals.{longHold, feedRefusal, finishRefusal}
-use Rattle.reader.specs.Calls.{front, runOn, feedingOf, finishingOf, finishingBy, finishSaid, phaseAfter, opening}
+use Rattle.reader.specs.Calls.{front, runOn, feedingOf, finishingOf, finishSaid, phaseAfter, opening}
 use Rattle.reader.specs.declared.Phase.the-variants as phase
 use Rattle.reader.specs.declared.Phase.{Phase}
-use Rattle.reader.specs.declared.Run.{Run}
 use Rattle.reader.proofs.Laws.{passes, with-hold}
 use Rattle.feed.specs.Hold.{restOf}
 use Rattle.demands.specs.World.{World, TableCall, stage, withdraw, Look, bytes, body, sub, subBytes, tow, wnc, Call, openRun, feed, finish, table, look, Answer, said, leftForce, looked, step, end}
-use Rattle.demands.specs.Sequence.{Fed, AllFed, endSaid, isEnd, NoEnd, Within, Closes, opened, tookOf, reportIn, inHold, shown, taken, blocks, shownBlocks}
-use Rattle.demands.specs.Demand2.{MayFollow, ReadSoFar, FirstOnes}
-use Rattle.demands.specs.Demand3.{OfTheWhole, BlocksOfTheWhole, HoweverCut}
+use Rattle.demands.specs.Sequence.{Fed, AllFed, endSaid, isEnd, NoEnd, Within, opened, tookOf, reportIn, inHold, shown, taken, blocks, shownBlocks}
+use Rattle.demands.specs.Demand2.{MayFollow, FirstOnes}
+use Rattle.demands.specs.Demand3.{BlocksOfTheWhole, HoweverCut}
 use Rattle.demands.proofs.Steps.{How, isnt, is, how, refusal, done, tableDone, clash}
 use Rattle.demands.proofs.Reached.{Good, good-step, good-end}
-use Rattle.demands.proofs.Live.{Live, not-open, live-step, Stand, stands}
+use Rattle.demands.proofs.Live.{Live, not-open, live-step, stands}
 use Rattle.demands.proofs.Going.{kept, place, going, kept-after, Fits, finish-report, shown-is}
 use Rattle.demands.proofs.Calls.{Reads, Next, reads-feed, reads-finish, finish-fits}
 

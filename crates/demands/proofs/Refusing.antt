@@ -1,16 +1,16 @@
 -- A refused call keeps the world and hands back nothing; reached states are sound.
 -- Assumes nothing.
 use Prim.Native.Nat.{ℕ}
-use native.Mathlib.Omega.{arith}
-use mathlib.Core.Path.{_≡_, refl, sym, _∙_}
+use mathlib.Core.Path.{_≡_, refl}
 use mathlib.Core.List.{List, []}
 use mathlib.Core.Option.{Option, none, some}
 use Rattle.reader.specs.Calls.{finishingOf, finishingBy, finishSaid}
 use Rattle.reader.specs.declared.Run.{Run}
-use Rattle.demands.specs.World.{World, TableCall, stage, withdraw, Look, bytes, body, sub, subBytes, tow, wnc, Call, openRun, feed, finish, table, look, Answer, said, looked, step}
+use Rattle.demands.specs.World.{World, TableCall, stage, withdraw, Look, bytes, body, sub, subBytes, tow, wnc, Call, openRun, feed, finish, table, look, Answer, looked}
 use Rattle.demands.specs.Sequence.{partOf}
 use Rattle.demands.specs.Demand1.{refusalSaid, refusalIn, Demand1}
-use Rattle.demands.proofs.Steps.{How, isnt, is, how, done, tableDone, no-some}
+use Rattle.demands.proofs.Listed.{nothing-there}
+use Rattle.demands.proofs.Steps.{How, isnt, is, how, done, tableDone}
 use Rattle.demands.proofs.Told.{told}
 use Rattle.demands.proofs.Never.{never-one}
 use Rattle.demands.proofs.Reached.{good-sound, good-end, good-new}
@@ -18,16 +18,16 @@ use Rattle.demands.proofs.Reached.{good-sound, good-end, good-new}
 -- ---- what is done where none is refused is no refusal, but for a look, which changes nothing
 
 finish-no : {X : Type 0} (o : Option ℕ) (v : List ℕ) (r : Run) (n : ℕ) → refusalSaid (finishSaid o r v) ≡ some n → X
-finish-no none v r n e = no-some (sym e)
-finish-no (some m) v r n e = no-some (sym e)
+finish-no none v r n e = nothing-there e
+finish-no (some m) v r n e = nothing-there e
 
 table-keeps : (t : TableCall) (w : World) (n : ℕ) → refusalIn (tableDone t w .0) ≡ some n → tableDone t w .1 ≡ w
-table-keeps (stage t) w n e = no-some (sym e)
-table-keeps withdraw w n e = no-some (sym e)
+table-keeps (stage t) w n e = nothing-there e
+table-keeps withdraw w n e = nothing-there e
 
 done-keeps : (c : Call) (w : World) (n : ℕ) → refusalIn (done c w .0) ≡ some n → done c w .1 ≡ w
-done-keeps openRun w n e = no-some (sym e)
-done-keeps (feed piece) w n e = no-some (sym e)
+done-keeps openRun w n e = nothing-there e
+done-keeps (feed piece) w n e = nothing-there e
 done-keeps finish w n e =
     let f = finishingOf (w .state) (w .hold) in
     finish-no (f .standing) (f .held) (finishingBy f (w .state) (w .hold) .state .run) n e

@@ -1,12 +1,12 @@
 -- The invariant of states is kept by every call.
 -- Assumes nothing.
-use Prim.Native.Nat.{ℕ, min, max, _+_, _-_, _≤_, _<_}
+use Prim.Native.Nat.{ℕ, _+_, _-_, _≤_}
 use native.Mathlib.Omega.{arith}
-use mathlib.Core.Path.{_≡_, refl, sym, ap, ap₂, _∙_, subst}
+use mathlib.Core.Path.{_≡_, refl, ap, _∙_}
 use mathlib.Core.Bool.{Bool, true, false, _&&_, cond}
 use mathlib.Core.List.{List, [], _++_}
 use mathlib.Core.Option.{Option, none, some}
-use lib.ListN.{length, take, drop, length-take, length-drop, length-append}
+use lib.ListN.{length, take, drop, length-take, length-drop}
 use lib.Dec.{ltb}
 use borrow.Author.Tests.{le-leb}
 use Rattle.frame.specs.Scan.{scanFrom}
@@ -15,23 +15,22 @@ use Rattle.frame.specs.Feed.{Feeding, feedLit, stop}
 use Rattle.frame.specs.Session.{size}
 use Rattle.frame.specs.declared.Found.{Found}
 use Rattle.frame.specs.declared.Found.the-variants.{Block, More}
-use Rattle.frame.proofs.Tests.{both-true, bool?}
+use Rattle.frame.proofs.Tests.{both-true}
 use Rattle.frame.proofs.Bounds.{Bound, scan-bound, append-bytes, take-bytes, drop-bytes}
 use Rattle.frame.proofs.Literal.{toLit, literal}
 use Rattle.frame.proofs.Calls.{call}
-use Rattle.frame.proofs.Runs.{finish-rest, finish-front}
+use Rattle.frame.proofs.Runs.{finish-rest}
 use Rattle.feed.specs.Hold.{restOf}
-use Rattle.table.specs.Rules.{tableOk}
 use Rattle.table.proofs.Passed as table
-use Rattle.reader.specs.State.{limit, noRun, newState, sound}
+use Rattle.reader.specs.State.{limit, sound}
 use Rattle.reader.specs.Refusals.{openRefusal, feedRefusal, finishRefusal, stageRefusal, withdrawRefusal}
 use Rattle.reader.specs.Refusals as refusals
-use Rattle.reader.specs.Calls.{Outcome, unless, one, runOn, withRun, opening, openOf, feedingBy, feedingOf, feedOf, phaseAfter, finishingBy, finishingOf, finishOf, staging, stageOf, withdrawing, withdrawOf}
+use Rattle.reader.specs.Calls.{Outcome, unless, one, runOn, withRun, opening, openOf, feedingBy, feedingOf, feedOf, finishingBy, finishingOf, finishOf, staging, stageOf, withdrawing, withdrawOf}
 use Rattle.reader.specs.declared.Phase.{Phase}
 use Rattle.reader.specs.declared.State.{State}
 use Rattle.reader.proofs.Laws.{passes, with-hold}
 use Rattle.reader.proofs.Accepted.{stage-passed}
-use Rattle.reader.proofs.Feeding.{Whole, WholeIf, fed-whole, end-whole, rest-length}
+use Rattle.reader.proofs.Feeding.{WholeIf, fed-whole, end-whole, rest-length}
 use Rattle.demands.specs.Sound.{Sound, Bytes, SoundKept}
 
 -- a refused call keeps the state; else what is done has to

@@ -1,15 +1,15 @@
 -- A step by its refusal: it is refused and nothing is done, or no refusal is due and it is done.
 -- Assumes nothing.
 use Prim.Native.Nat.{ℕ}
-use native.Mathlib.Omega.{arith}
 use mathlib.Core.Path.{_≡_, refl}
-use mathlib.Core.Bool.{Bool, true, false}
+use mathlib.Core.Bool.{true, false}
 use mathlib.Core.List.{List}
 use mathlib.Core.Option.{Option, none, some}
+use Rattle.frame.proofs.Tests.{never}
 use Rattle.reader.specs.Said.{refused}
 use Rattle.reader.specs.Refusals.{openRefusal, feedRefusal, finishRefusal, stageRefusal, withdrawRefusal}
-use Rattle.reader.specs.Calls.{Outcome, unless, opening, openOf, feedingBy, feedingOf, feedOf, finishingBy, finishingOf, finishOf, staging, stageOf, withdrawing, withdrawOf}
-use Rattle.demands.specs.World.{World, TableCall, stage, withdraw, Look, Call, openRun, feed, finish, table, look, Answer, said, part, value, leftForce, leftHold, leftWait, leftNone, looked, tabled, step}
+use Rattle.reader.specs.Calls.{unless, opening, openOf, feedingBy, feedingOf, feedOf, finishingBy, finishingOf, finishOf, staging, stageOf, withdrawing, withdrawOf}
+use Rattle.demands.specs.World.{World, TableCall, stage, withdraw, Call, openRun, feed, finish, table, look, Answer, said, leftForce, leftHold, leftWait, leftNone, looked, step}
 
 abbrev pub tableRefusals : TableCall → World → Option ℕ
 tableRefusals (stage t) w = stageRefusal (w .state) (w .wait) t
@@ -82,7 +82,4 @@ pub how : (c : Call) (w : World) → How c w (step c w)
 how c w = rw (by-refusal c w) (how-by (refusal c w) c w refl)
 
 pub clash : {X : Type 0} → true ≡ false → X
-clash e = let z : _≡_ {A = ℕ} 0 1 = cc in let f : ⊥ = omega arith in absurd f
-
-pub no-some : {X : Type 0} {n : ℕ} → some n ≡ none → X
-no-some e = let z : _≡_ {A = ℕ} 0 1 = cc in let f : ⊥ = omega arith in absurd f
+clash e = never refl e

@@ -1,13 +1,13 @@
 -- Where the unread rest is offered again first, the bytes taken are the front of the caller's stream.
 -- Assumes nothing.
-use Prim.Native.Nat.{ℕ, zero, suc, min, _+_, _≤_}
+use Prim.Native.Nat.{ℕ, zero, suc, _+_}
 use native.Mathlib.Omega.{arith}
 use mathlib.Core.Path.{_≡_, refl, sym, ap, ap₂, _∙_}
 use mathlib.Core.List.{List, [], _∷_, _++_}
 use lib.ListN.{length, take, drop, length-append, length-take}
 use lib.Seq.{take-take, take-add}
 use Rattle.reader.specs.Said.{Said, refused, version, took, found, ended, waited}
-use Rattle.demands.specs.World.{World, Call, openRun, feed, finish, table, look, Answer, said, part, value, step}
+use Rattle.demands.specs.World.{openRun, feed, finish, table, look, Answer, said, part, value, step}
 use Rattle.demands.specs.Sequence.{tookSaid, tookBy, taken}
 use Rattle.demands.specs.Demand3.{Offers, TakesTheStream}
 

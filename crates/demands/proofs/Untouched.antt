@@ -2,27 +2,24 @@
 -- Assumes nothing.
 use Prim.Native.Nat.{ℕ, _≤_}
 use native.Mathlib.Omega.{arith}
-use mathlib.Core.Path.{_≡_, refl, sym, ap, ap₂, _∙_, subst}
-use mathlib.Core.Bool.{Bool, true, false, _&&_}
+use mathlib.Core.Path.{_≡_, refl, sym, ap, _∙_, subst}
+use mathlib.Core.Bool.{false}
 use mathlib.Core.List.{List, [], _∷_}
 use mathlib.Core.Option.{Option, none, some}
 use lib.ListN.{length}
 use Rattle.table.proofs.Passed as passed
 use Rattle.reader.specs.State.{sound}
-use Rattle.reader.specs.Refusals.{need, longStore, openRefusal, feedRefusal, finishRefusal, bytesRefusal, stageRefusal, withdrawRefusal}
+use Rattle.reader.specs.Refusals.{openRefusal, feedRefusal, finishRefusal, bytesRefusal, stageRefusal, withdrawRefusal}
 use Rattle.reader.specs.Calls.{feedingOf, finishingOf, bytesOf}
 use Rattle.reader.specs.Records.{askRefusal, bodyOf, subOf, subBytesOf, subBytesRefusal, stampOf}
-use Rattle.reader.specs.declared.State.{State}
 use Rattle.reader.proofs.Accepted.{stage-passed}
-use Rattle.demands.specs.Sound.{Sound}
 use Rattle.demands.specs.World.{World, TableCall, stage, withdraw, Look, bytes, body, sub, subBytes, tow, wnc, Call, openRun, feed, finish, table, look, Answer, looked, step, end}
-use Rattle.demands.specs.Sequence.{AllFed}
 use Rattle.demands.specs.Demand3.{isTable}
 use Rattle.demands.proofs.Steps.{How, isnt, is, how, refusal, tableRefusals, done, tableDone, unlessRefused, by-refusal, clash}
-use Rattle.demands.proofs.Reached.{Good, good-sound, good-step}
+use Rattle.demands.proofs.Reached.{Good, good-sound}
 use Rattle.demands.proofs.Live.{Live, not-open}
 use Rattle.demands.proofs.Force.{length-over}
-use Rattle.demands.proofs.Soundness.{waits-on, sound-kept}
+use Rattle.demands.proofs.Soundness.{waits-on}
 
 -- the waiting place: how long the table is that waits, and the store
 pub record Waiting : Type 0 where

@@ -11,7 +11,7 @@ use lib.ListN.{length}
 use Rattle.record.specs.Answer as fields
 use Rattle.reader.specs.State.{sound}
 use Rattle.reader.specs.Said.{Said, refused, version, took, found, ended, waited}
-use Rattle.demands.specs.World.{World, Look, Call, look, Answer, said, part, value, step, end}
+use Rattle.demands.specs.World.{World, Call, Answer, said, part, value, step, end}
 use Rattle.demands.specs.Sequence.{New, AllFed, partOf}
 
 -- the number of a refusal, in an answer of each kind

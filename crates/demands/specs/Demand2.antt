@@ -14,7 +14,7 @@ use Rattle.reader.specs.Said.{took}
 use Rattle.reader.specs.Records.{tableInForce}
 use Rattle.reader.specs.declared.Phase.{Phase}
 use Rattle.reader.specs.declared.Phase.the-variants.{Closed, Feeding, Finishing}
-use Rattle.demands.specs.World.{World, Look, Call, feed, look, Answer, said, step, end}
+use Rattle.demands.specs.World.{World, Look, Call, feed, look, said, step, end}
 use Rattle.demands.specs.Sequence.{Within, opened, taken, blocks}
 use Rattle.demands.specs.Demand3.{LooksBy}
 
