@@ -18,22 +18,10 @@ One second of the mix: MeasEpoch (24 satellites, about 1 KiB), PVTCartesian 96,
 BaseVectorCart 68, AttEuler 44, ReceiverTime 24, EndOfPVT 16, DOP 32, every third
 second ExtEvent 32, every 30th GPSNav 140.
 """
+import binascii
 import random
 import struct
 import sys
-
-TABLE = []
-for i in range(256):
-    c = i << 8
-    for _ in range(8):
-        c = (c << 1 ^ 0x1021 if c & 0x8000 else c << 1) & 0xFFFF
-    TABLE.append(c)
-
-
-def crc16(data, crc=0):
-    for b in data:
-        crc = (crc << 8 & 0xFFFF) ^ TABLE[crc >> 8 ^ b]
-    return crc
 
 
 def block(number, body, revision=0, pad=True):
@@ -41,7 +29,7 @@ def block(number, body, revision=0, pad=True):
     if pad:
         body += bytes(-(len(body) + 8) % 4)
     rest = struct.pack("<HH", revision << 13 | number, len(body) + 8) + body
-    return b"$@" + struct.pack("<H", crc16(rest)) + rest
+    return b"$@" + struct.pack("<H", binascii.crc_hqx(rest, 0)) + rest
 
 
 def meas_epoch(rng, tow, wnc, sats=24, sb1=20, sb2=12, revision=1):

@@ -8,12 +8,10 @@ import binascii
 import os
 import random
 import struct
-import subprocess
 import sys
-from concurrent.futures import ThreadPoolExecutor
 
-TOP = os.path.dirname(os.path.dirname(os.path.abspath(__file__)))
-PROGRAM = os.path.join(TOP, "target", "bin", "lister")
+from programs import TOP, Program
+
 SAMPLE = bytes.fromhex("00 24 40 A9 89 00 00 08 00 24")
 SAMPLE_LIST = "block 1 0 0 8\nend 10 1 2\n"
 SYNC = b"\x24\x40"
@@ -127,73 +125,22 @@ def stream(seed):
 SEEDS = range(49)
 
 
-# ---- comparing
-
-def said(data, env):
-    """What the program writes for this input, or how it failed."""
-    try:
-        ran = subprocess.run([os.path.join(TOP, "tools", "x86run"), PROGRAM], input=data, env=env,
-                             stdout=subprocess.PIPE, stderr=subprocess.PIPE, timeout=60)
-    except (OSError, subprocess.TimeoutExpired) as error:
-        return str(error)
-    if ran.returncode != 0 or ran.stderr:
-        return f"status {ran.returncode}: {ran.stderr.decode(errors='replace').strip()}"
-    return ran.stdout.decode(errors="replace")
-
-
-def difference(want, got):
-    """The first line that differs, of both."""
-    want, got = want.split("\n"), got.split("\n")
-    for n in range(max(len(want), len(got))):
-        a, b = (x[n] if n < len(x) else "nothing more" for x in (want, got))
-        if a != b:
-            return f"line {n + 1}: the lister says {b!r}, the rule {a!r}"
-    return "none"
-
-
 def cases():
-    """(name, input, expected output); what is kept in files is compared with the rule too."""
+    """(name, input, expected output); what is kept as expected is held to the rule too."""
     with open(os.path.join(TOP, "samples", "flight.sbf"), "rb") as f:
         flight = f.read()
     with open(os.path.join(TOP, "samples", "flight.list"), encoding="ascii") as f:
         flight_list = f.read()
-    yield "document 01's sample", SAMPLE, SAMPLE_LIST
-    yield "samples/flight.sbf", flight, flight_list
-    for name, data, want in [("document 01's sample, by the rule", SAMPLE, SAMPLE_LIST),
-                             ("samples/flight.list, by the rule", flight, flight_list)]:
-        yield name, None, difference(listed(data), want)
+    for name, data, kept in [("document 01's sample", SAMPLE, SAMPLE_LIST), ("samples/flight.sbf", flight, flight_list)]:
+        yield f"test_lister: {name}, as kept", data, kept
+        yield f"test_lister: {name}", data, listed(data)
     for seed in SEEDS:
         data = stream(seed)
-        yield f"seed {seed}, {len(data)} bytes", data, listed(data)
-
-
-def main():
-    if not os.path.exists(PROGRAM):
-        print("test_lister: there is no target/bin/lister; `rt check lister` makes it\n0 passed, 1 failed")
-        return 1
-    env = dict(os.environ)
-    if "RATTLE_HOME" not in env:  # ask rt once, and not at each run
-        guide = subprocess.run(["rt", "doc"], stdout=subprocess.PIPE, text=True, check=True).stdout.strip()
-        env["RATTLE_HOME"] = os.path.dirname(os.path.dirname(guide))
-
-    def compare(case):
-        name, data, want = case
-        return name, want if data is None else difference(want, said(data, env))
-
-    passed = 0
-    with ThreadPoolExecutor(2) as pool:
-        for name, differs in pool.map(compare, cases()):
-            if differs != "none":
-                pool.shutdown(wait=False, cancel_futures=True)
-                print(f"test_lister: {name}: {differs}\n{passed} passed, 1 failed")
-                return 1
-            passed += 1
-    print(f"{passed} passed, 0 failed")
-    return 0
+        yield f"test_lister: seed {seed}, {len(data)} bytes", data, listed(data)
 
 
 if __name__ == "__main__":
     if len(sys.argv) == 2:
         sys.stdout.buffer.write(stream(int(sys.argv[1])))
     else:
-        sys.exit(main())
+        sys.exit(Program("lister", "expected is").compare(cases()))

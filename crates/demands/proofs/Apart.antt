@@ -2,11 +2,9 @@
 -- Assumes nothing.
 use Prim.Native.Nat.{ℕ}
 use native.Mathlib.Omega.{arith}
-use mathlib.Core.Path.{_≡_, refl, sym, ap, ap₂, _∙_}
+use mathlib.Core.Path.{_≡_, refl, ap, ap₂, _∙_}
 use Rattle.record.specs.Answer.{numberFor}
-use Rattle.record.specs.Answer as record-answer
-use Rattle.record.specs.declared.Refusal.{Refusal}
-use Rattle.record.specs.declared.Refusal.the-variants.{BadBuffer, OutOfTurn, RunFull, BadTable, NoTable, NoRow, TooShort, BadSubBlocks, NoSuchField, NotOneFrame}
+use Rattle.record.proofs.Calls.{same-refusal}
 use Rattle.reader.specs.Said.{Report, reportOf, refusalOf, saidOpened, saidFed, saidFinished, saidStaged, saidWithdrawn}
 use Rattle.reader.specs.declared.Block.{Block}
 use Rattle.reader.specs.declared.Check.{Check}
@@ -21,22 +19,6 @@ use Rattle.reader.specs.declared.Staged.{Staged}
 use Rattle.reader.specs.declared.Staged.the-variants as staged
 use Rattle.reader.specs.declared.Withdrawn.{Withdrawn}
 use Rattle.reader.specs.declared.Withdrawn.the-variants as withdrawn
-
--- the refusal of a number
-back : (x : Refusal) → record-answer.refusalOf (numberFor x) ≡ x
-back BadBuffer = refl
-back OutOfTurn = refl
-back RunFull = refl
-back BadTable = refl
-back NoTable = refl
-back NoRow = refl
-back TooShort = refl
-back BadSubBlocks = refl
-back NoSuchField = refl
-back NotOneFrame = refl
-
-same-refusal : (x y : Refusal) → numberFor x ≡ numberFor y → x ≡ y
-same-refusal x y e = sym (back x) ∙ ap record-answer.refusalOf e ∙ back y
 
 same-block : (a b : Block) → reportOf a ≡ reportOf b → a ≡ b
 same-block a b e =

@@ -1,6 +1,6 @@
 -- One call more of a run: what is reported so far, and then from the place on, is the reading of the bytes taken.
 -- Assumes nothing.
-use Prim.Native.Nat.{ℕ, _+_, _-_}
+use Prim.Native.Nat.{ℕ, zero, suc, _+_, _-_}
 use native.Mathlib.Omega.{arith}
 use native.Mathlib.Nat.{add-zero}
 use mathlib.Core.Path.{_≡_, refl, sym, ap, ap₂, _∙_, subst, subst⁻¹}
@@ -14,7 +14,7 @@ use Rattle.frame.specs.Feed.{Feeding, feedLit, stop}
 use Rattle.frame.specs.ReadRun.{Block, both, readRun}
 use Rattle.frame.specs.Session.{size, placesFrom, blocksOf, answer}
 use Rattle.frame.proofs.Calls as calls
-use Rattle.frame.proofs.Runs.{skipMany, places-count, both-both, read-frame, Ends, finished, finish-rest, finish-front, feed-read, fed-stands, answered}
+use Rattle.frame.proofs.Runs.{skipMany, both-both, read-frame, Ends, finished, finish-rest, finish-front, feed-read, fed-stands, answered}
 use Rattle.reader.specs.State.{limit, sound}
 use Rattle.reader.specs.Refusals.{longHold, isFeeding, feedRefusal}
 use Rattle.reader.specs.Calls.{one, runOn, feedingOf, finishingOf, phaseAfter}
@@ -46,6 +46,11 @@ follow-fed : (x : Phase) (zs : List ℕ) → isFeeding x ≡ true → MayFollow 
 follow-fed phase.Closed zs e = clash (sym e)
 follow-fed phase.Feeding zs e = tt
 follow-fed phase.Finishing zs e = clash (sym e)
+
+places-count : (p n : ℕ) → length (placesFrom p n) ≡ n
+unfolding placesFrom
+places-count p zero = refl
+places-count p (suc n) = ap suc (places-count (p + 1) n)
 
 length-blocks : (o : Option ℕ) (p : ℕ) (v : List ℕ) → length (blocksOf o p v) ≡ one o
 length-blocks none p v = refl

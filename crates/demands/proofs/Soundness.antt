@@ -21,6 +21,7 @@ use Rattle.frame.proofs.Literal.{toLit, literal}
 use Rattle.frame.proofs.Calls.{call}
 use Rattle.frame.proofs.Runs.{finish-rest}
 use Rattle.feed.specs.Hold.{restOf}
+use Rattle.feed.proofs.Literally.{rest-length}
 use Rattle.table.proofs.Passed as table
 use Rattle.reader.specs.State.{limit, sound}
 use Rattle.reader.specs.Refusals.{openRefusal, feedRefusal, finishRefusal, stageRefusal, withdrawRefusal}
@@ -30,7 +31,7 @@ use Rattle.reader.specs.declared.Phase.{Phase}
 use Rattle.reader.specs.declared.State.{State}
 use Rattle.reader.proofs.Laws.{passes, with-hold}
 use Rattle.reader.proofs.Accepted.{stage-passed}
-use Rattle.reader.proofs.Feeding.{WholeIf, fed-whole, end-whole, rest-length}
+use Rattle.reader.proofs.Feeding.{WholeIf, fed-whole, end-whole}
 use Rattle.demands.specs.Sound.{Sound, Bytes, SoundKept}
 
 -- a refused call keeps the state; else what is done has to

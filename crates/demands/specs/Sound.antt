@@ -9,8 +9,7 @@ use Rattle.reader.specs.State.{limit, newState, sound}
 use Rattle.reader.specs.Calls.{openOf, feedOf, finishOf, stageOf, withdrawOf}
 use Rattle.reader.specs.declared.State.{State}
 
--- `reported` is the number of bytes in the blocks reported so far, the standing one among them: these, the skipped ones and those held
--- behind the standing block are the bytes taken
+-- `reported` is the number of taken bytes that are neither skipped nor held behind the standing block
 pub record Sound (s : State) (reported : ℕ) : Type 0 where
   pub few : s .run .held ≤ 65532
   pub front : s .run .standing ≤ s .run .held

@@ -9,6 +9,13 @@ use lib.ListN.{length, take, drop, getD, length-drop}
 use lib.Seq.{paste, take-append-add, drop-append-le, drop-append-add, length-take-le, drop-at, take-at, drop-drop}
 use Rattle.frame.proofs.Parts.{take-drop}
 
+-- n bytes of the hold behind the standing block, from the p-th on
+pub own : (h : List ℕ) (block n p : ℕ) → block + n ≤ length h → p ≤ n → drop p (take n (drop block h)) ≡ take (n - p) (drop (block + p) h)
+own h block n p fits l =
+    let e : n ≡ p + (n - p) = omega arith in
+    ap (λ (x : ℕ). drop p (take x (drop block h))) e ∙ sym (take-drop (n - p) p (drop block h) (omega (arith, length-drop block h)))
+    ∙ ap (take (n - p)) (drop-drop p block h)
+
 module _ (h : List ℕ) (block n : ℕ) (piece : List ℕ) (p m : ℕ) (fits : block + n ≤ length h) (pm : p ≤ m) (nm : n ≤ m) where
   long : n ≤ length (drop block h)
   long = omega (arith, length-drop block h)
@@ -26,15 +33,11 @@ module _ (h : List ℕ) (block n : ℕ) (piece : List ℕ) (p m : ℕ) (fits : b
   from-hold l =
       let k : ℕ = n - p in
       let s : List ℕ = drop (block + p) h in
-      let e : p + (n - p) ≡ n = omega arith in
       let f : n - p + (m - n) ≡ m - p = omega arith in
       let ls : n - p ≤ length s = omega (arith, length-drop (block + p) h) in
-      let own : drop p (take n (drop block h)) ≡ take (n - p) s =
-      ap (λ (x : ℕ). drop p (take x (drop block h))) (sym e) ∙ sym (take-drop (n - p) p (drop block h) (omega (arith, long)))
-      ∙ ap (take (n - p)) (drop-drop p block h) in
       let xs : drop p (take m (take n (drop block h) ++ piece)) ≡ take (n - p) s ++ take (m - n) piece =
       ap (drop p) first ∙ drop-append-le p (take n (drop block h)) (take (m - n) piece) (omega (arith, length-take-le n (drop block h) long))
-      ∙ ap (λ (x : List ℕ). x ++ take (m - n) piece) own in
+      ∙ ap (λ (x : List ℕ). x ++ take (m - n) piece) (own h block n p fits (omega arith)) in
       let h1 : List ℕ = take (n - p) s ++ drop (0 + (n - p)) h in
       let front : take (n - p) (take (n - p) s ++ drop (0 + (n - p)) h) ≡ take (n - p) s =
       take-at (take (n - p) s) (drop (0 + (n - p)) h) (n - p) (length-take-le (n - p) s ls) in

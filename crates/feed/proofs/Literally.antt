@@ -6,13 +6,12 @@ use mathlib.Core.Option.{Option, none, some}
 use Prim.Native.Nat.{ℕ, suc, min, max, _+_, _-_, _≤_, _<_}
 use native.Mathlib.Omega.{arith}
 use lib.ListN.{length, take, drop, length-drop, length-append}
-use lib.Seq.{length-take-le, take-take, take-all, take-at, take-add, drop-at, drop-drop, drop-append-le, paste}
+use lib.Seq.{length-take-le, take-take, take-all, take-at, take-add, drop-at, drop-append-le, paste}
 use native.Mathlib.Nat.{zero-add}
 use Rattle.frame.specs.Scan.{scanFrom}
 use Rattle.frame.specs.Feed.{Feeding, feedLit, stop}
 use Rattle.frame.specs.Settle.{Settled, finishLit}
 use Rattle.frame.proofs.Runs.{Rest, finish-rest, finish-front}
-use Rattle.frame.proofs.Parts.{take-drop}
 use Rattle.frame.specs.Session.{size}
 use Rattle.frame.specs.declared.Found.{Found}
 use Rattle.frame.specs.declared.Found.the-variants.{Block, More}
@@ -22,6 +21,7 @@ use Rattle.frame.proofs.Literal.{toLit, literal}
 use Rattle.feed.specs.declared.Fed.{Fed}
 use Rattle.feed.specs.Hold.{restOf, numbersOf, holdOf, GoesOn}
 use Rattle.feed.specs.Kept.{foundKept, foundNumbers}
+use Rattle.feed.proofs.Kept.{own}
 
 numbers : (x : Found) (w : List ℕ) (n t : ℕ) → length w ≡ n + t → Spot (length w) 0 n x → foundNumbers x t n ≡ numbersOf (toLit x w n)
 numbers (Block p l m) w n t e s =
@@ -43,6 +43,10 @@ looked room piece =
     lt? room (length piece) (λ l. let e : min room (length piece) ≡ room = omega arith in ap (λ (k : ℕ). take k piece) e)
     (λ l. take-all (min room (length piece)) piece (omega arith) ∙ sym (take-all room piece l))
 
+pub rest-length : (hold : List ℕ) (held standing : ℕ) → standing ≤ held → held ≤ length hold → length (restOf hold held standing) ≡ held - standing
+unfolding restOf
+rest-length hold held standing a b = length-take-le (held - standing) (drop standing hold) (omega (arith, length-drop standing hold))
+
 module _ (h : List ℕ) (held block : ℕ) (piece : List ℕ) (room : ℕ) (part : List ℕ) (front : block ≤ held) (fits : held ≤ length h) (ep : part ≡ take room piece) where
   abbrev run : List ℕ
   run = restOf h held block ++ part
@@ -50,20 +54,17 @@ module _ (h : List ℕ) (held block : ℕ) (piece : List ℕ) (room : ℕ) (part
   abbrev found : Found
   found = scanFrom run 0 (held - block)
 
-  rest-length : length (restOf h held block) ≡ held - block
-  unfolding restOf
-  rest-length = length-take-le (held - block) (drop block h) (omega (arith, length-drop block h))
+  len : length (restOf h held block) ≡ held - block
+  len = rest-length h held block front fits
 
   by-rule : feedLit (restOf h held block) piece room ≡ toLit found run (held - block)
-  unfolding restOf
   by-rule =
-      let l : length (take (held - block) (drop block h)) ≡ held - block = length-take-le (held - block) (drop block h) (omega (arith, length-drop block h)) in
-      literal piece room (take (held - block) (drop block h))
-      ∙ ap₂ (λ (x : List ℕ) (k : ℕ). toLit (scanFrom (take (held - block) (drop block h) ++ x) 0 k) (take (held - block) (drop block h) ++ x) k) (sym ep) l
+      literal piece room (restOf h held block)
+      ∙ ap₂ (λ (x : List ℕ) (k : ℕ). toLit (scanFrom (restOf h held block ++ x) 0 k) (restOf h held block ++ x) k) (sym ep) len
 
   pub as-told : (r : Fed) → r ≡ foundNumbers found (length part) (held - block) → r ≡ numbersOf (feedLit (restOf h held block) piece room)
   as-told r e =
-      e ∙ numbers found run (held - block) (length part) (length-append (restOf h held block) part ∙ ap (λ (k : ℕ). k + length part) rest-length) (spot run 0 (held - block))
+      e ∙ numbers found run (held - block) (length part) (length-append (restOf h held block) part ∙ ap (λ (k : ℕ). k + length part) len) (spot run 0 (held - block))
       ∙ ap numbersOf (sym by-rule)
 
   pub as-kept : (r : Fed) (h′ : List ℕ) → r ≡ foundNumbers found (length part) (held - block) → h′ ≡ foundKept found run ++ drop (r .held) h
@@ -75,29 +76,19 @@ module _ (h : List ℕ) (held block : ℕ) (piece : List ℕ) (room : ℕ) (part
 
 -- ---- the run's end
 
-own : (h : List ℕ) (held block p : ℕ) → block ≤ held → held ≤ length h → p ≤ held - block
-    → drop p (take (held - block) (drop block h)) ≡ take (held - block - p) (drop (block + p) h)
-own h held block p a b l =
-    let n = held - block in
-    let e : held - block ≡ p + (held - block - p) = omega arith in
-    ap (λ (x : ℕ). drop p (take x (drop block h))) e
-    ∙ sym (take-drop (held - block - p) p (drop block h) (omega (arith, length-drop block h)))
-    ∙ ap (take (held - block - p)) (drop-drop p block h)
-
 module _ (h : List ℕ) (held block : ℕ) (front : block ≤ held) (fits : held ≤ length h) where
   abbrev last : Settled
   last = finishLit (restOf h held block)
 
-  len : length (restOf h held block) ≡ held - block
-  unfolding restOf
-  len = length-take-le (held - block) (drop block h) (omega (arith, length-drop block h))
+  end-len : length (restOf h held block) ≡ held - block
+  end-len = rest-length h held block front fits
 
   pub end-few : last .skipped ≤ held - block
-  end-few = omega (arith, finish-rest (restOf h held block) .few, len)
+  end-few = omega (arith, finish-rest (restOf h held block) .few, end-len)
 
   end-length : length (last .rest) ≡ held - block - last .skipped
   end-length =
-      ap length (finish-rest (restOf h held block) .is) ∙ length-drop (last .skipped) (restOf h held block) ∙ ap (λ (k : ℕ). k - last .skipped) len
+      ap length (finish-rest (restOf h held block) .is) ∙ length-drop (last .skipped) (restOf h held block) ∙ ap (λ (k : ℕ). k - last .skipped) end-len
 
   pub end-front : size (last .standing) ≤ held - block - last .skipped
   end-front = omega (arith, finish-front (restOf h held block), end-length)
@@ -107,7 +98,7 @@ module _ (h : List ℕ) (held block : ℕ) (front : block ≤ held) (fits : held
 
   end-rest : last .rest ≡ take (held - block - last .skipped) (drop (block + last .skipped) h)
   unfolding restOf
-  end-rest = finish-rest (restOf h held block) .is ∙ own h held block (last .skipped) front fits end-few
+  end-rest = finish-rest (restOf h held block) .is ∙ own h block (held - block) (last .skipped) (omega arith) end-few
 
   pub end-kept : paste h 0 (drop (block + last .skipped) h) (held - block - last .skipped) ≡ holdOf (stop last) h
   end-kept =

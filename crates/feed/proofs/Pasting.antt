@@ -7,17 +7,7 @@ use native.Mathlib.Omega.{arith}
 use native.Mathlib.Numerals.{add-one}
 use lib.ListN.{length, take, drop, getD, set, length-drop, take-append-drop}
 use native.Mathlib.Nat.{zero-add}
-use lib.Seq.{paste, length-paste, length-paste-head, paste-suc, take-paste, drop-paste, take-at, take-add, take-take, drop-drop, drop-append-le, length-take-le, getD-append-add, getD-drop}
-
-pub paste-tail : (d : List ℕ) (at : ℕ) (s : List ℕ) (n i : ℕ) → at ≤ length d → n ≤ length s → at + n ≤ i → getD (paste d at s n) i 0 ≡ getD d i 0
-paste-tail d at s n i hd hs l =
-    let q = take at d ++ take n s in
-    let e : i ≡ length q + (i - (at + n)) = omega (arith, length-paste-head d at s n hd hs) in
-    let f : at + n + (i - (at + n)) ≡ i = omega arith in
-    ap (λ (k : ℕ). getD (q ++ drop (at + n) d) k 0) e
-    ∙ getD-append-add q (drop (at + n) d) (i - (at + n)) 0
-    ∙ getD-drop (at + n) d (i - (at + n)) 0
-    ∙ ap (λ (k : ℕ). getD d k 0) f
+use lib.Seq.{paste, length-paste, paste-suc, take-paste, drop-paste, take-at, take-add, take-take, drop-drop, drop-append-le, length-take-le, getD-drop}
 
 -- a store of the element at b + j of s
 pub paste-more : (d : List ℕ) (at : ℕ) (s : List ℕ) (b j : ℕ) → at + j < length d → b + j < length s

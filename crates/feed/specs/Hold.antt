@@ -17,9 +17,13 @@ abbrev pub numbersOf : Feeding → Fed
 numbersOf f =
     record { taken = f .taken; skipped = f .skipped; held = length (f .held); standing = size (f .standing) }
 
+-- bytes over the start of a buffer: "Bytes of a store past a copied table keep their values"
+abbrev pub over : List ℕ → List ℕ → List ℕ
+over xs buffer = xs ++ drop (length xs) buffer
+
 -- "After each call the held bytes, a standing block first, begin at offset 0 of the hold": then the bytes that stood there before, unchanged
 abbrev pub holdOf : Feeding → List ℕ → List ℕ
-holdOf f hold = f .held ++ drop (length (f .held)) hold
+holdOf f hold = over (f .held) hold
 
 -- what a caller may count on: no more than t bytes taken, and numbers that are good for the next call
 pub record Good (r : Fed) (t : ℕ) : Type 0 where

@@ -1,7 +1,7 @@
 -- `judged` case by case, and what is read at a place of a run, read of the rest from there.
 -- Assumes nothing.
 use mathlib.Core.Path.{_≡_, refl, sym, ap, ap₂, _∙_}
-use mathlib.Core.Bool.{Bool, true, false, not}
+use mathlib.Core.Bool.{Bool, true, false, not, cond}
 use mathlib.Core.List.{List, _++_}
 use Prim.Native.Nat.{ℕ, _+_, _*_, _-_, _%_, _≤_, _<_}
 use native.Mathlib.Nat.{add-zero}
@@ -12,7 +12,7 @@ use lib.Dec.{ltb, eqb}
 use borrow.Author.Tests.{lt-ltb, le-ltb, eq-eqb, ne-eqb}
 use Rattle.crc.specs.Crc.{crcOf}
 use Rattle.frame.specs.Frame.{lengthAt, allowed, crcRight}
-use Rattle.frame.specs.Judge.{pick, judged}
+use Rattle.frame.specs.Judge.{judged}
 use Rattle.frame.specs.declared.Verdict.{Verdict}
 use Rattle.frame.specs.declared.Verdict.the-variants.{NoSync, LengthNotAllowed, CrcWrong, Frame, Undecided}
 
@@ -51,8 +51,8 @@ module _ (v : List ℕ) where
 
       module _ (eight : 8 ≤ length v) where
         headed : judged v
-            ≡ pick (not (allowed (lengthAt v 0))) LengthNotAllowed
-            (pick (ltb (length v) (lengthAt v 0)) Undecided (pick (crcRight v 0) (Frame (lengthAt v 0)) (CrcWrong (lengthAt v 0))))
+            ≡ cond (not (allowed (lengthAt v 0))) LengthNotAllowed
+            (cond (ltb (length v) (lengthAt v 0)) Undecided (cond (crcRight v 0) (Frame (lengthAt v 0)) (CrcWrong (lengthAt v 0))))
         unfolding judged
         headed = simp (some, eq-eqb (getD v 0 0) 0x24 first, not-one, eq-eqb (getD v 1 0) 0x40 second, le-ltb (length v) 8 eight)
 

@@ -7,7 +7,7 @@ use Prim.Native.Nat.{ℕ, zero, suc, max, _+_, _-_, _≤_, _<_}
 use native.Mathlib.Nat.{add-zero, zero-add, sub-zero}
 use native.Mathlib.Omega.{arith}
 use lib.ListN.{length, take, drop, length-drop, length-append}
-use lib.Seq.{drop-append-le, append-snoc, drop-drop, take-nil, take-append-seam, take-add, drop-at, length-take-le}
+use lib.Seq.{drop-append-le, append-snoc, drop-drop, take-nil, take-append-seam}
 use Rattle.frame.specs.Scan.{Step, pass, stand, wait, stepOf}
 use Rattle.frame.specs.Scan.{scanFrom, onStep}
 use Rattle.frame.specs.Settle.{Settled, skipOne, settle}
@@ -16,12 +16,10 @@ use Rattle.frame.specs.declared.Found.{Found}
 use Rattle.frame.specs.declared.Found.the-variants.{Block, More}
 use Rattle.frame.proofs.Steps.{seen, seen-le, Big, big}
 use Rattle.frame.proofs.Cut.{cut, past, count}
-use Rattle.frame.proofs.Spots.{Spot, Stands, Ends, spot, spot-is, kept}
+use Rattle.frame.proofs.Parts.{take-drop}
+use Rattle.frame.proofs.Spots.{Spot, Stands, Ends, spot, kept}
 use Rattle.frame.proofs.Runs.{settleV, settle-cons, settle-rest, settle-stands}
 use Rattle.frame.proofs.Runs as runs
-
-take-drop : (n p : ℕ) (l : List ℕ) → p ≤ length l → take n (drop p l) ≡ drop p (take (p + n) l)
-take-drop n p l h = sym (ap (drop p) (take-add p n l) ∙ drop-at (take p l) (take n (drop p l)) p (length-take-le p l h))
 
 -- what a scan found, of the run w whose first n bytes were held
 abbrev pub toLit : Found → List ℕ → ℕ → Feeding

@@ -30,11 +30,6 @@ use Rattle.frame.proofs.Tests.{never}
 abbrev pub skipMany : ℕ → ℕ → Reading → Reading
 skipMany p n r = record { blocks = r .blocks; skipped = placesFrom p n ++ r .skipped }
 
-pub places-count : (p n : ℕ) → length (placesFrom p n) ≡ n
-unfolding placesFrom
-places-count p zero = refl
-places-count p (suc n) = ap suc (places-count (p + 1) n)
-
 places-add : (p a b : ℕ) → placesFrom p a ++ placesFrom (p + a) b ≡ placesFrom p (a + b)
 unfolding placesFrom
 places-add p zero b = ap₂ (λ (i k : ℕ). placesFrom i k) (add-zero p) (sym (zero-add b))

@@ -7,7 +7,7 @@ use native.Mathlib.Nat.{add-zero}
 use native.Mathlib.Numerals.{add-one}
 use native.Mathlib.Omega.{arith}
 use lib.ListN.{length, take, drop, getD, length-drop, length-append, drop-of-length-le, List·getD-append}
-use lib.Seq.{drop-cons, drop-append-le}
+use lib.Seq.{drop-cons}
 use Rattle.frame.specs.Judge.{judged}
 use Rattle.frame.specs.Scan.{Step, pass, stand, wait, told, stepOf, onStep, scanFrom, onVerdict, scanPart, NoStart}
 use Rattle.frame.specs.declared.Verdict.{Verdict}
@@ -28,9 +28,6 @@ pub data NoSyncAt : Verdict → Type 0 where
   by-two : NoSyncAt (NoSync 2)
 
 module _ (s rest : List ℕ) (k : ℕ) (l : k < length s) where
-  front : drop k s ++ rest ≡ drop k (s ++ rest)
-  front = sym (drop-append-le k s rest (omega arith))
-
   long : length (drop k s ++ rest) ≡ length s - k + length rest
   long = length-append (drop k s) rest ∙ ap (λ (x : ℕ). x + length rest) (length-drop k s)
 

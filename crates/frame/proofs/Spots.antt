@@ -1,6 +1,6 @@
 -- Where a scan comes to, whatever the bytes; and that a block that is found is found with what follows too.
 -- Assumes nothing.
-use mathlib.Core.Path.{_≡_, refl, sym, ap, ap₂, _∙_, subst}
+use mathlib.Core.Path.{_≡_, refl, sym, ap, ap₂, _∙_}
 use mathlib.Core.List.{List, [], _∷_, _++_}
 use Prim.Native.Nat.{ℕ, zero, suc, max, _+_, _-_, _≤_, _<_}
 use native.Mathlib.Omega.{arith}
@@ -49,9 +49,6 @@ unfolding scanFrom
 spot [] p m = record { from = omega arith; whole = omega arith }
 spot (x ∷ v) p m =
     spot-by (length v) p m (stepOf (x ∷ v)) (scanFrom v (p + 1)) (seen-le (x ∷ v)) (big (x ∷ v)) (λ k. spot v (p + 1) k)
-
-pub spot-is : (v : List ℕ) (p m : ℕ) (f : Found) → scanFrom v p m ≡ f → Spot (length v) p m f
-spot-is v p m f e = subst (Spot (length v) p m) e (spot v p m)
 
 -- ---- a frame that is found is found with what follows too
 

@@ -2,30 +2,25 @@
 -- Assumes nothing.
 use Prim.Native.Nat.{ℕ}
 use mathlib.Core.List.{List}
-use mathlib.Core.Bool.{Bool, true, false, not}
+use mathlib.Core.Bool.{not, cond}
 use lib.ListN.{length, getD}
 use lib.Dec.{ltb, eqb}
 use Rattle.frame.specs.Frame.{lengthAt, allowed, crcRight}
 use Rattle.frame.specs.declared.Verdict.{Verdict}
 use Rattle.frame.specs.declared.Verdict.the-variants.{NoSync, LengthNotAllowed, CrcWrong, Frame, Undecided}
 
--- the first answer where the test holds, else the second
-abbrev pub pick : {A : Type 0} → Bool → A → A → A
-pick true a b = a
-pick false a b = b
-
 -- "While a run is fed, a place is decided once it has a wrong sync byte, or eight bytes with a length not allowed, or all its L
 -- bytes, and not before." v is the run from the place on; the number is how many bytes showed it
 unfoldable pub judged : List ℕ → Verdict
 judged v =
-    pick (eqb (length v) 0) Undecided
-    (pick (not (eqb (getD v 0 0) 0x24)) (NoSync 1)
-    (pick (eqb (length v) 1) Undecided
-    (pick (not (eqb (getD v 1 0) 0x40)) (NoSync 2)
-    (pick (ltb (length v) 8) Undecided
-    (pick (not (allowed (lengthAt v 0))) LengthNotAllowed
-    (pick (ltb (length v) (lengthAt v 0)) Undecided
-    (pick (crcRight v 0) (Frame (lengthAt v 0)) (CrcWrong (lengthAt v 0)))))))))
+    cond (eqb (length v) 0) Undecided
+    (cond (not (eqb (getD v 0 0) 0x24)) (NoSync 1)
+    (cond (eqb (length v) 1) Undecided
+    (cond (not (eqb (getD v 1 0) 0x40)) (NoSync 2)
+    (cond (ltb (length v) 8) Undecided
+    (cond (not (allowed (lengthAt v 0))) LengthNotAllowed
+    (cond (ltb (length v) (lengthAt v 0)) Undecided
+    (cond (crcRight v 0) (Frame (lengthAt v 0)) (CrcWrong (lengthAt v 0)))))))))
 
 -- how many bytes of the run from the place on a verdict rests on
 abbrev pub seen : Verdict → ℕ
@@ -54,7 +49,7 @@ finalBy (NoSync n) v = skip noSync
 finalBy LengthNotAllowed v = skip lengthNotAllowed
 finalBy (CrcWrong n) v = skip crcWrong
 finalBy (Frame n) v = block n
-finalBy Undecided v = skip (pick (ltb (length v) 8) fewerThanEight pastTheEnd)
+finalBy Undecided v = skip (cond (ltb (length v) 8) fewerThanEight pastTheEnd)
 
 unfoldable pub final : List ℕ → Final
 final v = finalBy (judged v) v

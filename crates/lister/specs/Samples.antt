@@ -1,4 +1,4 @@
--- Document 01's sample of the lister's output, as its two lines, and a number of each length's ends.
+-- Document 01's sample of the lister's output, as its two lines, and two numbers in decimal.
 -- Assumes nothing.
 use mathlib.Core.Path.{_≡_}
 use mathlib.Core.List.{List, [], _∷_}

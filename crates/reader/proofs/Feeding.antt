@@ -5,8 +5,8 @@ use mathlib.Core.List.{List, [], _∷_, _++_}
 use mathlib.Core.Option.{Option, none, some}
 use Prim.Native.Nat.{ℕ, zero, suc, min, _+_, _-_, _%_, _/_, _≤_, _<_}
 use native.Mathlib.Omega.{arith}
-use lib.ListN.{length, take, drop, getD, length-drop, List·getD-append}
-use lib.Seq.{getD-take, length-take-le}
+use lib.ListN.{length, take, getD, length-drop, List·getD-append}
+use lib.Seq.{getD-take}
 use Rattle.wire.specs.Little.{littleAt}
 use Rattle.wire.proofs.Laws.{agree}
 use Rattle.frame.specs.Frame.{idAt, numberOf, revisionOf}
@@ -18,7 +18,7 @@ use Rattle.frame.specs.Session.{size}
 use Rattle.frame.proofs.Steps.{seen-le, Big, big}
 use Rattle.frame.proofs.Runs.{Stands, fed-stands, Ends, finished, Rest, finish-rest}
 use Rattle.frame.proofs.Calls.{Call, call}
-use Rattle.feed.specs.Hold.{restOf, numbersOf, holdOf}
+use Rattle.feed.specs.Hold.{numbersOf, holdOf}
 use Rattle.feed.specs.declared.Fed.{Fed}
 use Rattle.reader.specs.Said.{Report, Said, took, ended, found}
 use Rattle.reader.specs.Calls.{Outcome, outcome, one, front, reported, reportIf, runOn}
@@ -119,10 +119,6 @@ end-few h f e =
     let b = ap (λ (x : Fed). x .held) e in
     let c = ap (λ (x : Fed). x .skipped) e in
     record { held = omega (arith, r .few); skipped = omega (arith, r .few) }
-
-pub rest-length : (hold : List ℕ) (held standing : ℕ) → standing ≤ held → held ≤ length hold → length (restOf hold held standing) ≡ held - standing
-unfolding restOf
-rest-length hold held standing a b = length-take-le (held - standing) (drop standing hold) (omega (arith, length-drop standing hold))
 
 -- ---- outcomes that are equal part by part
 

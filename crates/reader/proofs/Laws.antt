@@ -24,7 +24,7 @@ use Rattle.table.specs.declared.Checked.the-variants.{Version, Broken}
 use Rattle.reader.specs.State.{limit, sound}
 use Rattle.reader.specs.Said.{Said, refused, version}
 use Rattle.reader.specs.Refusals.{need, isSome, longHold, longStore}
-use Rattle.reader.specs.Calls.{checkSaid}
+use Rattle.reader.specs.Code.{checkSaid}
 use Rattle.reader.specs.declared.State.{State}
 
 -- ---- refusals in a row

@@ -14,7 +14,8 @@ use Rattle.frame.proofs.Tests.{bool?}
 use Rattle.reader.specs.State.{sound}
 use Rattle.reader.specs.Said.{Said, refused, version}
 use Rattle.reader.specs.Refusals.{need, isClosed, longStore, nextTable, tableRefusal, openRefusal, stageRefusal}
-use Rattle.reader.specs.Calls.{Outcome, unless, checkSaid, opening, openOf, staging, stageOf}
+use Rattle.reader.specs.Calls.{Outcome, unless, opening, openOf, staging, stageOf}
+use Rattle.reader.specs.Code.{checkSaid}
 use Rattle.reader.specs.declared.State.{State}
 
 -- the last refusal, or the version

@@ -1,19 +1,19 @@
--- What each call answers and leaves: the answer, the new state and every byte of the buffer it may write, refusals included.
--- Each contract cites one of these, and so does each theorem over sequences of calls.
+-- What each call but the record calls answers and leaves: the answer, the new state and every byte of the buffer it may write, refusals
+-- included. The contracts of Open, Feed, Finish, Bytes, Stage and Withdraw each cite one of these.
 -- Assumes nothing.
 use Prim.Native.Nat.{ℕ, _+_, _-_}
 use mathlib.Core.Bool.{Bool, cond}
-use mathlib.Core.List.{List, [], _++_}
+use mathlib.Core.List.{List, []}
 use mathlib.Core.Option.{Option, none, some}
-use lib.ListN.{length, take, drop}
+use lib.ListN.{length, take}
 use lib.Dec.{ltb}
 use Rattle.frame.specs.Settle.{Settled, finishLit}
 use Rattle.frame.specs.Feed.{Feeding, feedLit, stop}
 use Rattle.frame.specs.ReadRun.{blockAt}
 use Rattle.frame.specs.Session.{size}
 use Rattle.feed.specs.Hold.{restOf, holdOf}
+pub use Rattle.feed.specs.Hold.{over}
 use Rattle.table.specs.Decode.{decode}
-use Rattle.table.specs.Rules.{tableOk}
 use Rattle.reader.specs.State.{limit}
 use Rattle.reader.specs.Said.{Report, Said, refused, version, took, found, ended, waited}
 use Rattle.reader.specs.Refusals.{nextTable, openRefusal, feedRefusal, finishRefusal, bytesRefusal, stageRefusal, withdrawRefusal}
@@ -36,15 +36,7 @@ abbrev pub unless : Option ℕ → State → List ℕ → Outcome → Outcome
 unless (some n) s lent done = outcome (refused n) s lent
 unless none s lent done = done
 
--- bytes over the start of a buffer: "Bytes of a store past a copied table keep their values"
-abbrev pub over : List ℕ → List ℕ → List ℕ
-over xs buffer = xs ++ drop (length xs) buffer
-
 -- ---- Open
-
--- 4, or the version
-abbrev pub checkSaid : List ℕ → Said
-checkSaid t = cond (tableOk t) (version (decode t .version)) (refused 4)
 
 abbrev pub openRun : Run
 openRun = record { phase = phase.Feeding; held = 0; standing = 0; taken = 0; blocks = 0; skipped = 0 }

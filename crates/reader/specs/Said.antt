@@ -1,4 +1,4 @@
--- What a call answers, in document 01's words and numbers, and how each answer of the code is read. No two answers read the same.
+-- What a call answers, in document 01's words and numbers, and how each answer of the code is read. No two answers of one call read the same.
 -- Assumes nothing.
 use Prim.Native.Nat.{ℕ}
 use mathlib.Core.Bool.{Bool}

@@ -20,14 +20,14 @@ use Rattle.record.specs.declared.Answer.the-variants as answer
 use Rattle.record.specs.declared.Handed.the-variants as handed
 use Rattle.record.specs.declared.Looked.{Looked}
 use Rattle.record.specs.declared.Looked.the-variants as looked
-use Rattle.record.specs.Answer.{Said, refused, numberFor, refusalOf, Answers, handedSays}
+use Rattle.record.specs.Answer.{Said, refused, numberFor, refusalNumbered, Answers, handedSays}
 use Rattle.record.specs.Block.{revisionIn, subLengthIn, endsBy, bodyFits, Seen, refusedBy, row, seen, seenSub, meant, Fine, FineIfAny, Looking, SubFine, SubFineIfAny, SubLooking}
 use Rattle.record.specs.Calls.{fieldSaid, fieldOr9, bodyBy, bodyField, subBytes, subBy, subField, partBy, subBlock, numberBy, subBlockRefusal}
 use Rattle.record.proofs.Fields.{same}
 use Rattle.record.proofs.Blocks.{fine-at}
 
 -- a refusal is the one of its number
-pub back : (x : Refusal) → x ≡ refusalOf (numberFor x)
+back : (x : Refusal) → x ≡ refusalNumbered (numberFor x)
 back BadBuffer = refl
 back OutOfTurn = refl
 back RunFull = refl
@@ -38,6 +38,10 @@ back TooShort = refl
 back BadSubBlocks = refl
 back NoSuchField = refl
 back NotOneFrame = refl
+
+-- no two refusals have one number
+pub same-refusal : (x y : Refusal) → numberFor x ≡ numberFor y → x ≡ y
+same-refusal x y e = back x ∙ ap refusalNumbered e ∙ sym (back y)
 
 pub refuses : (x : Refusal) → Answers (answer.Refused x) (refused (numberFor x))
 refuses x = record { says = refl; case = ap answer.Refused (back x) }

@@ -15,17 +15,17 @@ use Rattle.record.specs.declared.Refusal.{Refusal}
 use Rattle.record.specs.declared.Answer.{Answer}
 use Rattle.record.specs.declared.Handed.{Handed}
 use Rattle.record.specs.declared.Handed.the-variants.{Refused, Given}
-use Rattle.record.specs.Answer.{Said, single, double, numberFor, refusalOf, answerSays, caseFor, Answers, handedSays}
+use Rattle.record.specs.Answer.{Said, single, double, numberFor, answerSays, caseFor, Answers, handedSays}
 use Rattle.record.specs.Calls.{bodyField, subField, subBlock, subBlockRefusal}
 use Rattle.record.specs.Theorems.{OneAnswer, ByMeaning, AllByMeaning, FloatsKept}
-use Rattle.record.proofs.Calls.{back}
+use Rattle.record.proofs.Calls.{same-refusal}
 use Rattle.record.proofs.Fields.{same}
 
 one : (r s : Answer) (said : Said) → Answers r said → Answers s said → r ≡ s
 one r s said p q = p .case ∙ sym (q .case)
 
 one-handed : (r s : Handed) → handedSays r ≡ handedSays s → r ≡ s
-one-handed (Refused x) (Refused y) e = let n : numberFor x ≡ numberFor y = cc in ap Refused (back x ∙ ap refusalOf n ∙ sym (back y))
+one-handed (Refused x) (Refused y) e = let n : numberFor x ≡ numberFor y = cc in ap Refused (same-refusal x y n)
 one-handed (Refused x) Given e = let z : _≡_ {A = ℕ} 0 1 = cc in absurd (omega arith)
 one-handed Given (Refused y) e = let z : _≡_ {A = ℕ} 0 1 = cc in absurd (omega arith)
 one-handed Given Given e = refl

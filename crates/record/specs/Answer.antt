@@ -62,8 +62,8 @@ abbrev pub refusals : List Refusal
 refusals =
     BadBuffer ∷ OutOfTurn ∷ RunFull ∷ BadTable ∷ NoTable ∷ NoRow ∷ TooShort ∷ BadSubBlocks ∷ NoSuchField ∷ NotOneFrame ∷ []
 
-abbrev pub refusalOf : ℕ → Refusal
-refusalOf n = getD refusals (n - 1) BadBuffer
+abbrev pub refusalNumbered : ℕ → Refusal
+refusalNumbered n = getD refusals (n - 1) BadBuffer
 
 -- the case for each: the NaN cases for the bits of a NaN, of which no float can be made, and for no others
 abbrev pub singleCase : ℕ → Value
@@ -79,7 +79,7 @@ caseFor (single b) = answer.Field (singleCase b)
 caseFor (double b) = answer.Field (doubleCase b)
 caseFor doNotUse = answer.Field DoNotUse
 caseFor notInRevision = answer.Field NotInRevision
-caseFor (refused n) = answer.Refused (refusalOf n)
+caseFor (refused n) = answer.Refused (refusalNumbered n)
 
 -- an answer that says what is to be said, in the case for it
 pub record Answers (r : Answer) (said : Said) : Type 0 where

@@ -5,6 +5,6 @@ pub mod Fused
 pub mod Passed
 pub mod Loops
 pub mod Laws
-pub mod Rows
+pub mod Told
 pub mod Parts
 pub mod Bytes

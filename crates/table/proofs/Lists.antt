@@ -71,12 +71,6 @@ module _ {A B : Type 0} (f : A → B) where
   every-map p [] = refl
   every-map p (x ∷ xs) = ap (λ (b : Bool). p (f x) && b) (every-map p xs)
 
-  pub pick-map : (xs : List A) (k : ℕ) → pick (map f xs) k ≡ Option·map f (pick xs k)
-  unfolding pick
-  pick-map [] k = refl
-  pick-map (x ∷ xs) zero = refl
-  pick-map (x ∷ xs) (suc k) = pick-map xs k
-
   -- the first of a mapped list, where the test sees through the map
   pub first-map : (p : B → Bool) (xs : List A) → first p (map f xs) ≡ Option·map f (first (λ (x : A). p (f x)) xs)
   unfolding first

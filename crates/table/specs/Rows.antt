@@ -1,4 +1,4 @@
--- What a table means: a version and a list of block rows, each with its field rows. Nothing here or above knows a table's bytes.
+-- What a table means: a version and a list of block rows, each with its field rows. Nothing here knows a table's bytes.
 -- Assumes nothing.
 use mathlib.Core.List.{List}
 use Prim.Native.Nat.{ℕ, _+_}

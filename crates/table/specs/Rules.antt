@@ -106,9 +106,6 @@ abbrev pub firstOk : ℕ → FieldRow → Bool
 firstOk highest f = leb (f .first) highest
 
 -- a u1 row, first revision 0, mark 0
-abbrev pub countRow : ℕ → FieldRow
-countRow at = record { offset = at; kind = 1; first = 0; mark = 0 }
-
 abbrev pub isCount : ℕ → FieldRow → Bool
 isCount at f = eqb (f .offset) at && eqb (f .kind) 1 && eqb (f .first) 0 && eqb (f .mark) 0
 

@@ -28,7 +28,7 @@ abbrev pub float : ℕ → Bool
 float kind = leb 9 kind && leb kind 10
 
 -- "Marks: 0 none; 1 all ones (unsigned); 2 zero (unsigned); 3 minus 2 x 10^10 (float ..); 4 the least value (signed)":
--- entry m is the kind of type that may bear mark m
+-- entry m says whether a type may bear mark m
 abbrev pub marks : List (ℕ → Bool)
 marks = (λ (kind : ℕ). true) ∷ unsigned ∷ unsigned ∷ float ∷ signed ∷ []
 

@@ -2,11 +2,11 @@
 -- Assumes nothing.
 use mathlib.Core.Path.{_≡_, refl, sym, ap, ap₂, _∙_}
 use mathlib.Core.List.{List}
-use Prim.Native.Nat.{ℕ, zero, suc, _+_, _*_, _^_, _<_, _≤_}
+use Prim.Native.Nat.{ℕ, zero, suc, _+_, _*_, _^_, _<_}
 use native.Mathlib.Nat.{zero-add, suc-add, add-zero, add-assoc, mul-assoc, mul-add, pow-succ', one-mul, mul-le-mul-left}
 use native.Mathlib.Omega.{arith}
-use lib.ListN.{getD, take, drop}
-use lib.Seq.{getD-drop, getD-take}
+use lib.ListN.{getD, drop}
+use lib.Seq.{getD-drop}
 use Rattle.wire.specs.Little.{littleAt}
 use Rattle.wire.specs.Range.{InRange}
 
@@ -45,7 +45,3 @@ agree (suc k) u v i j h =
 pub little-drop : (k : ℕ) (w : List ℕ) (p i : ℕ) → littleAt k (drop p w) i ≡ littleAt k w (p + i)
 little-drop k w p i =
     agree k (drop p w) w i (p + i) (λ d l. getD-drop p w (i + d) 0 ∙ ap (λ (x : ℕ). getD w x 0) (sym (add-assoc p i d)))
-
--- a number within the first n bytes
-pub little-take : (k : ℕ) (w : List ℕ) (n i : ℕ) → i + k ≤ n → littleAt k (take n w) i ≡ littleAt k w i
-little-take k w n i h = agree k (take n w) w i i (λ d l. getD-take n w (i + d) 0 (omega arith))

@@ -4,14 +4,15 @@ use mathlib.Core.Path.{_≡_, refl, sym, ap, _∙_, subst}
 use mathlib.Core.List.{List, _++_}
 use Prim.Native.Nat.{ℕ, _-_, _+_, _≤_, _<_}
 use native.Mathlib.Omega.{arith}
-use lib.ListN.{length, take, drop, getD, length-drop, length-append}
-use lib.Seq.{take-all, length-take-le}
+use lib.ListN.{length, take, drop, getD, length-append}
+use lib.Seq.{take-all}
 use Rattle.frame.specs.Scan.{scanFrom}
 use Rattle.frame.specs.declared.Found.{Found}
 use Rattle.frame.specs.declared.Found.the-variants.{Block, More}
 use Rattle.frame.proofs.Bounds.{Bytes, Bound, InBlock, InMore, scan-bound, append-bytes, take-bytes, drop-bytes}
 use Rattle.feed.specs.Hold.{restOf}
 use Rattle.feed.specs.Kept.{foundKept, foundNumbers}
+use Rattle.feed.proofs.Literally.{rest-length}
 use borrow.Author.Needs.{needs}
 use Rattle.feed.proofs.take_in.Statement.{statement}
 use Rattle.feed.proofs.take_in.Tie as tie
@@ -45,7 +46,7 @@ own : (s : tie.After-scan) → length (restOf (entry s .args .hold .now) (entry 
 unfolding restOf
 own s =
     let a = entry s .args in
-    length-take-le (old s) (drop (a .standing) (a .hold .now)) (omega (arith, length-drop (a .standing) (a .hold .now)))
+    rest-length (a .hold .now) (a .held) (a .standing) (omega arith) (omega arith)
 
 came : (s : tie.After-scan) → s .scan .result ≡ scanFrom (run s) 0 (old s)
 unfolding restOf

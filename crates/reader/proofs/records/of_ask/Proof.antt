@@ -7,7 +7,7 @@ use native.Mathlib.Omega.{arith}
 use lib.Dec.{ltb}
 use lib.Seq.{length-take-le}
 use borrow.Author.Tests.{not-true, not-false, lt-ltb, le-ltb}
-use Rattle.table.proofs.Rows.{version-passes, broken-breaks}
+use Rattle.table.proofs.Told.{version-passes, broken-breaks}
 use Rattle.reader.specs.State.{sound}
 use Rattle.reader.specs.Refusals.{longStore}
 use Rattle.reader.specs.Records.{askRefusal}

@@ -12,6 +12,7 @@ use Rattle.frame.specs.Settle.{finishLit}
 use Rattle.frame.specs.Session.{size}
 use Rattle.feed.specs.Hold.{restOf, numbersOf, holdOf, Good}
 use Rattle.feed.specs.declared.Fed.{Fed}
+use Rattle.feed.proofs.Literally.{rest-length}
 use Rattle.reader.specs.State.{limit, sound}
 use Rattle.reader.specs.Said.{Report, Said, took, ended, found}
 use Rattle.reader.specs.Refusals.{longHold, feedRefusal, finishRefusal}
@@ -22,7 +23,7 @@ use Rattle.reader.specs.declared.Phase.the-variants as phase
 use Rattle.reader.specs.declared.Run.{Run}
 use Rattle.reader.specs.declared.State.{State}
 use Rattle.reader.proofs.Laws.{passes, Facts, with-hold}
-use Rattle.reader.proofs.Feeding.{Whole, WholeIf, fed-whole, end-whole, none-if, some-if, whole-some, run-is, report-is, Few, fed-few, end-few, rest-length, same-outcome}
+use Rattle.reader.proofs.Feeding.{Whole, WholeIf, fed-whole, end-whole, none-if, some-if, whole-some, run-is, report-is, Few, fed-few, end-few, same-outcome}
 use borrow.Author.Needs.{needs}
 use Rattle.reader.proofs.runs.finish_on.Statement.{statement}
 use Rattle.reader.proofs.runs.finish_on.Tie as tie
