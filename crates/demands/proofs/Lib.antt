@@ -24,3 +24,4 @@ pub mod Asked
 pub mod Told
 pub mod Single
 pub mod Computed
+pub mod Telling

@@ -84,11 +84,11 @@ held-by c w b h (is e) = held-done c w b h
 
 sound-step : (c : Call) (w : World) → Fed c → Good w → (k : ℕ) × Sound (step c w .1 .state) k
 unfolding step
-sound-step openRun w b g = sound-kept .opens (w .state) (g .reported) (w .force) (w .wait) (g .sound)
-sound-step (feed piece) w b g = sound-kept .feeds (w .state) (g .reported) (w .hold) piece (g .held .clean) b (g .sound)
-sound-step finish w b g = sound-kept .finishes (w .state) (g .reported) (w .hold) (g .sound)
-sound-step (table (stage t)) w b g = sound-kept .stages (w .state) (g .reported) (w .wait) t (g .sound)
-sound-step (table withdraw) w b g = sound-kept .withdraws (w .state) (g .reported) (g .sound)
+sound-step openRun w b g = (_, sound-kept .opens (w .state) (g .reported) (w .force) (w .wait) (g .sound))
+sound-step (feed piece) w b g = (_, sound-kept .feeds (w .state) (g .reported) (w .hold) piece (g .held .clean) b (g .sound))
+sound-step finish w b g = (_, sound-kept .finishes (w .state) (g .reported) (w .hold) (g .sound))
+sound-step (table (stage t)) w b g = (_, sound-kept .stages (w .state) (g .reported) (w .wait) t (g .sound))
+sound-step (table withdraw) w b g = (_, sound-kept .withdraws (w .state) (g .reported) (g .sound))
 sound-step (look l) w b g = (g .reported, g .sound)
 
 -- ---- every call keeps it

@@ -211,5 +211,6 @@ however-cut w u before mid first other h k e f t =
     let b = of-the-whole u first other k f in
     record {
       all = a .all ∙ ap (λ (x : List ℕ). readRun 0 x .blocks) t ∙ sym (b .all);
+      shown = a .shown ∙ ap (λ (x : List ℕ). readRun 0 x .blocks) t ∙ sym (b .shown);
       counts = a .counts ∙ ap (λ (x : List ℕ). said (ended (length x) (length (readRun 0 x .blocks)) (length (readRun 0 x .skipped)))) t ∙ sym (b .counts);
     }

@@ -2,7 +2,8 @@
 -- Assumes nothing.
 use Prim.Native.Nat.{ℕ, _+_, _-_, _≤_}
 use native.Mathlib.Omega.{arith}
-use mathlib.Core.Path.{_≡_, refl, ap, _∙_}
+use native.Mathlib.Nat.{add-zero}
+use mathlib.Core.Path.{_≡_, refl, ap, _∙_, subst, subst⁻¹}
 use mathlib.Core.Bool.{Bool, true, false, _&&_, cond}
 use mathlib.Core.List.{List, [], _++_}
 use mathlib.Core.Option.{Option, none, some}
@@ -26,18 +27,35 @@ use Rattle.table.proofs.Passed as table
 use Rattle.reader.specs.State.{limit, sound}
 use Rattle.reader.specs.Refusals.{openRefusal, feedRefusal, finishRefusal, stageRefusal, withdrawRefusal}
 use Rattle.reader.specs.Refusals as refusals
-use Rattle.reader.specs.Calls.{Outcome, unless, one, runOn, withRun, opening, openOf, feedingBy, feedingOf, feedOf, finishingBy, finishingOf, finishOf, staging, stageOf, withdrawing, withdrawOf}
+use Rattle.reader.specs.Said.{took}
+use Rattle.reader.specs.Calls.{Outcome, unless, one, reportIf, front, finishSaid, phaseAfter, runOn, withRun, opening, openOf, feedingBy, feedingOf, feedOf, finishingBy, finishingOf, finishOf, staging, stageOf, withdrawing, withdrawOf}
 use Rattle.reader.specs.declared.Phase.{Phase}
+use Rattle.reader.specs.declared.Phase.the-variants as phase
+use Rattle.reader.specs.declared.Run.{Run}
 use Rattle.reader.specs.declared.State.{State}
 use Rattle.reader.proofs.Laws.{passes, with-hold}
 use Rattle.reader.proofs.Accepted.{stage-passed}
 use Rattle.reader.proofs.Feeding.{WholeIf, fed-whole, end-whole}
-use Rattle.demands.specs.Sound.{Sound, Bytes, SoundKept}
+use Rattle.demands.specs.Sound.{Sound, Bytes, sizeIn, sinceOpen, SoundKept}
 
--- a refused call keeps the state; else what is done has to
-kept : (o : Option ℕ) (s : State) (b : ℕ) (l : List ℕ) (d : Outcome) → Sound s b → (o ≡ none → (c : ℕ) × Sound (d .state) c) → (c : ℕ) × Sound (unless o s l d .state) c
-kept (some n) s b l d h f = (b, h)
+-- a refused call keeps the state, and reports nothing; else what is done has to
+kept : (o : Option ℕ) (s : State) (b : ℕ) (l : List ℕ) (d : Outcome) → Sound s b → (o ≡ none → Sound (d .state) (b + sizeIn (d .said)))
+    → Sound (unless o s l d .state) (b + sizeIn (unless o s l d .said))
+kept (some n) s b l d h f = subst⁻¹ (Sound s) (add-zero b) h
 kept none s b l d h f = f refl
+
+-- the same where no call reports
+same : (o : Option ℕ) (s : State) (b : ℕ) (l : List ℕ) (d : Outcome) → Sound s b → (o ≡ none → Sound (d .state) b) → Sound (unless o s l d .state) b
+same (some n) s b l d h f = h
+same none s b l d h f = f refl
+
+fed-size : (o : Option ℕ) (t p : ℕ) (v : List ℕ) → size o ≡ sizeIn (took t (reportIf o p v))
+fed-size none t p v = refl
+fed-size (some n) t p v = refl
+
+end-size : (o : Option ℕ) (r : Run) (v : List ℕ) → size o ≡ sizeIn (finishSaid o r v)
+end-size none r v = refl
+end-size (some n) r v = refl
 
 -- no more than 65,532 bytes are held
 held-by : (x : Found) (w : List ℕ) (n : ℕ) → n ≤ 65532 → Bound (length w) 0 n x → length (toLit x w n .held) ≤ 65532
@@ -76,32 +94,34 @@ unfolding restOf
 rest-bytes hold held standing b = take-bytes (drop standing hold) (held - standing) (drop-bytes hold standing b)
 
 feed-done : (s : State) (b : ℕ) (hold piece : List ℕ) → Bytes hold → Bytes piece → Sound s b → feedRefusal s hold piece ≡ none
-    → (c : ℕ) × Sound (feedingBy (feedingOf s hold piece) s hold .state) c
+    → Sound (feedingBy (feedingOf s hold piece) s hold .state) (b + sizeIn (feedingBy (feedingOf s hold piece) s hold .said))
 unfolding feedRefusal feedingOf
 feed-done s b hold piece bh bp h e =
     let f = with-hold s hold (passes (sound s && refusals.longHold hold) 1 _ e .0) in
     let rest = restOf hold (s .run .held) (s .run .standing) in
     let room = limit - s .run .taken in
     let lr : length (restOf hold (s .run .held) (s .run .standing)) ≡ s .run .held - s .run .standing = rest-length hold (s .run .held) (s .run .standing) (h .front) (omega (arith, h .few, f .1)) in
-    let k = call rest piece room in (
-      b + size (feedLit rest piece room .standing),
-      went-on _ s b (length rest) (feedLit rest piece room) h lr (k .sum)
-          (fed-held rest piece room (rest-bytes hold (s .run .held) (s .run .standing) bh) bp (omega (arith, lr, h .few))) (omega (arith, k .taken))
-          (one-by (feedLit rest piece room .standing) (feedLit rest piece room .held) (fed-whole rest piece room)),
-    )
+    let k = call rest piece room in
+    subst (λ (c : ℕ). Sound (feedingBy (feedLit rest piece room) s hold .state) (b + c))
+    (fed-size (feedLit rest piece room .standing) (feedLit rest piece room .taken) (front (runOn phase.Feeding (s .run) (feedLit rest piece room))) (feedLit rest piece room .held))
+    (went-on _ s b (length rest) (feedLit rest piece room) h lr (k .sum)
+    (fed-held rest piece room (rest-bytes hold (s .run .held) (s .run .standing) bh) bp (omega (arith, lr, h .few))) (omega (arith, k .taken))
+    (one-by (feedLit rest piece room .standing) (feedLit rest piece room .held) (fed-whole rest piece room)))
 
-finish-done : (s : State) (b : ℕ) (hold : List ℕ) → Sound s b → finishRefusal s hold ≡ none → (c : ℕ) × Sound (finishingBy (finishingOf s hold) s hold .state) c
+finish-done : (s : State) (b : ℕ) (hold : List ℕ) → Sound s b → finishRefusal s hold ≡ none
+    → Sound (finishingBy (finishingOf s hold) s hold .state) (b + sizeIn (finishingBy (finishingOf s hold) s hold .said))
 unfolding finishRefusal finishingOf
 finish-done s b hold h e =
     let f = with-hold s hold (passes (sound s && refusals.longHold hold) 1 _ e .0) in
     let rest = restOf hold (s .run .held) (s .run .standing) in
     let lr : length (restOf hold (s .run .held) (s .run .standing)) ≡ s .run .held - s .run .standing = rest-length hold (s .run .held) (s .run .standing) (h .front) (omega (arith, h .few, f .1)) in
     let r = finish-rest rest in
-    let l : length (finishLit rest .rest) ≡ length rest - finishLit rest .skipped = ap length (r .is) ∙ length-drop (finishLit rest .skipped) rest in (
-      b + size (finishLit rest .standing),
-      went-on _ s b (length rest) (stop (finishLit rest)) h lr (omega (arith, r .few, l)) (omega (arith, l, lr, h .few)) (omega arith)
-          (one-by (finishLit rest .standing) (finishLit rest .rest) (end-whole rest)),
-    )
+    let l : length (finishLit rest .rest) ≡ length rest - finishLit rest .skipped = ap length (r .is) ∙ length-drop (finishLit rest .skipped) rest in
+    let x = phaseAfter (finishLit rest .standing) in
+    subst (λ (c : ℕ). Sound (finishingBy (stop (finishLit rest)) s hold .state) (b + c))
+    (end-size (finishLit rest .standing) (runOn x (s .run) (stop (finishLit rest))) (finishLit rest .rest))
+    (went-on _ s b (length rest) (stop (finishLit rest)) h lr (omega (arith, r .few, l)) (omega (arith, l, lr, h .few)) (omega arith)
+    (one-by (finishLit rest .standing) (finishLit rest .rest) (end-whole rest)))
 
 length-by : (b : Bool) (m n : ℕ) → m ≤ 8192 → n ≤ 8192 → cond b m n ≤ 8192
 length-by true m n h k = h
@@ -120,16 +140,22 @@ open-done s b force wait h =
       wait = omega arith;
     }
 
-opens : (s : State) (b : ℕ) (force wait : List ℕ) → Sound s b → (c : ℕ) × Sound (openOf s force wait .state) c
-unfolding openOf
-opens s b force wait h = kept (openRefusal s force wait) s b force (opening s force wait) h (λ e. (0, open-done s b force wait h))
+opens-by : (o : Option ℕ) (s : State) (b : ℕ) (force wait : List ℕ) → Sound s b
+    → Sound (unless o s force (opening s force wait) .state) (sinceOpen (unless o s force (opening s force wait) .said) b)
+opens-by (some n) s b force wait h = h
+opens-by none s b force wait h = open-done s b force wait h
 
-feeds : (s : State) (b : ℕ) (hold piece : List ℕ) → Bytes hold → Bytes piece → Sound s b → (c : ℕ) × Sound (feedOf s hold piece .state) c
+opens : (s : State) (b : ℕ) (force wait : List ℕ) → Sound s b → Sound (openOf s force wait .state) (sinceOpen (openOf s force wait .said) b)
+unfolding openOf
+opens s b force wait h = opens-by (openRefusal s force wait) s b force wait h
+
+feeds : (s : State) (b : ℕ) (hold piece : List ℕ) → Bytes hold → Bytes piece → Sound s b
+    → Sound (feedOf s hold piece .state) (b + sizeIn (feedOf s hold piece .said))
 unfolding feedOf
 feeds s b hold piece bh bp h =
     kept (feedRefusal s hold piece) s b hold (feedingBy (feedingOf s hold piece) s hold) h (feed-done s b hold piece bh bp h)
 
-finishes : (s : State) (b : ℕ) (hold : List ℕ) → Sound s b → (c : ℕ) × Sound (finishOf s hold .state) c
+finishes : (s : State) (b : ℕ) (hold : List ℕ) → Sound s b → Sound (finishOf s hold .state) (b + sizeIn (finishOf s hold .said))
 unfolding finishOf
 finishes s b hold h = kept (finishRefusal s hold) s b hold (finishingBy (finishingOf s hold) s hold) h (finish-done s b hold h)
 
@@ -138,15 +164,15 @@ pub waits-on : (s : State) (b n : ℕ) → Sound s b → n ≤ 8192 → Sound (r
 waits-on s b n h l =
     record { few = h .few; front = h .front; among = h .among; count = h .count; sum = h .sum; most = h .most; force = h .force; wait = l }
 
-stages : (s : State) (b : ℕ) (wait t : List ℕ) → Sound s b → (c : ℕ) × Sound (stageOf s wait t .state) c
+stages : (s : State) (b : ℕ) (wait t : List ℕ) → Sound s b → Sound (stageOf s wait t .state) b
 unfolding stageOf
 stages s b wait t h =
-    kept (stageRefusal s wait t) s b wait (staging s wait t) h
-    (λ e. (b, waits-on s b (length t) h (table.passed t (stage-passed s wait t e .1) .file .most)))
+    same (stageRefusal s wait t) s b wait (staging s wait t) h
+    (λ e. waits-on s b (length t) h (table.passed t (stage-passed s wait t e .1) .file .most))
 
-withdraws : (s : State) (b : ℕ) → Sound s b → (c : ℕ) × Sound (withdrawOf s .state) c
+withdraws : (s : State) (b : ℕ) → Sound s b → Sound (withdrawOf s .state) b
 unfolding withdrawOf
-withdraws s b h = kept (withdrawRefusal s) s b [] (withdrawing s) h (λ e. (b, waits-on s b 0 h (omega arith)))
+withdraws s b h = same (withdrawRefusal s) s b [] (withdrawing s) h (λ e. waits-on s b 0 h (omega arith))
 
 passes-one : (s : State) (b : ℕ) → Sound s b → sound s ≡ true
 unfolding sound

@@ -5,11 +5,13 @@ use native.Mathlib.Omega.{arith}
 use mathlib.Core.Path.{_≡_, refl, sym, ap, ap₂, _∙_}
 use mathlib.Core.List.{List, [], _∷_, _++_}
 use lib.ListN.{length, take, drop, length-append, length-take}
-use lib.Seq.{take-take, take-add}
+use lib.Seq.{take-take, take-add, take-length}
+use Rattle.frame.specs.ReadRun.{readRun}
 use Rattle.reader.specs.Said.{Said, refused, version, took, found, ended, waited}
 use Rattle.demands.specs.World.{openRun, feed, finish, table, look, Answer, said, part, value, step}
-use Rattle.demands.specs.Sequence.{tookSaid, tookBy, taken}
-use Rattle.demands.specs.Demand3.{Offers, TakesTheStream}
+use Rattle.demands.specs.Sequence.{tookSaid, tookBy, taken, opened}
+use Rattle.demands.proofs.Reading.{of-the-whole}
+use Rattle.demands.specs.Demand3.{Offers, TakesTheStream, BlocksOfTheStream}
 
 cut : (n : ℕ) (p : List ℕ) → take n p ≡ take (length (take n p)) p
 cut zero p = refl
@@ -50,3 +52,13 @@ takes-the-stream s (feed piece ∷ cs) w o =
 takes-the-stream s (finish ∷ cs) w o = takes-the-stream s cs (step finish w .1) o
 takes-the-stream s (table t ∷ cs) w o = takes-the-stream s cs (step (table t) w .1) o
 takes-the-stream s (look l ∷ cs) w o = takes-the-stream s cs (step (look l) w .1) o
+
+pub of-the-stream : BlocksOfTheStream
+of-the-stream s w before mid h e o n =
+    let a = of-the-whole w before mid h e in
+    let t : taken mid (opened w before) ≡ s = takes-the-stream s mid (opened w before) o ∙ ap (λ (k : ℕ). take k s) n ∙ take-length s in
+    record {
+      all = a .all ∙ ap (λ (x : List ℕ). readRun 0 x .blocks) t;
+      shown = a .shown ∙ ap (λ (x : List ℕ). readRun 0 x .blocks) t;
+      counts = a .counts ∙ ap (λ (x : List ℕ). said (ended (length x) (length (readRun 0 x .blocks)) (length (readRun 0 x .skipped)))) t;
+    }

@@ -29,6 +29,7 @@ BlocksOfTheWhole = (w : World) (before mid : List Call) → Within w before mid 
 -- two runs of the same bytes, however cut, under whatever tables, after whatever calls: the same blocks, the same End
 pub record SameRun (w : World) (mid : List Call) (u : World) (other : List Call) : Type 0 where
   pub all : blocks mid w ≡ blocks other u
+  pub shown : shownBlocks mid w ≡ shownBlocks other u
   pub counts : step finish (end mid w) .0 ≡ step finish (end other u) .0
 
 abbrev pub HoweverCut : Type 0
@@ -51,6 +52,17 @@ Offers s (look l ∷ cs) w = Offers s cs (step (look l) w .1)
 -- then what was taken is the front of the stream itself
 abbrev pub TakesTheStream : Type 0
 TakesTheStream = (s : List ℕ) (cs : List Call) (w : World) → Offers s cs w → taken cs w ≡ take (length (taken cs w)) s
+
+-- and a run that took all of it has its blocks and its counts
+pub record OfTheStream (s : List ℕ) (w : World) (mid : List Call) : Type 0 where
+  pub all : blocks mid w ≡ readRun 0 s .blocks
+  pub shown : shownBlocks mid w ≡ readRun 0 s .blocks
+  pub counts : step finish (end mid w) .0 ≡ said (ended (length s) (length (readRun 0 s .blocks)) (length (readRun 0 s .skipped)))
+
+abbrev pub BlocksOfTheStream : Type 0
+BlocksOfTheStream =
+    (s : List ℕ) (w : World) (before mid : List Call) → Within w before mid → Closes w before mid → Offers s mid (opened w before)
+    → length (taken mid (opened w before)) ≡ length s → OfTheStream s (opened w before) mid
 
 -- ---- "all records read while it was open are those of the bytes given to the record call, under the table in force at its opening"
 

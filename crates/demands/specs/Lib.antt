@@ -12,3 +12,4 @@ pub mod Asked
 pub mod Transcript
 pub mod Samples
 pub mod Flight
+pub mod History

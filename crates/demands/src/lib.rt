@@ -2,7 +2,8 @@
 ghost use Rattle.demands.specs.Asked.{AskedExactlyWhen, SaidExactlyWhen};
 ghost use Rattle.demands.specs.Demand1.{Demand1};
 ghost use Rattle.demands.specs.Demand2.{Demand2};
-ghost use Rattle.demands.specs.Demand3.{BlocksOfTheWhole, HoweverCut, TakesTheStream, OneTable, Moved};
+ghost use Rattle.demands.specs.Demand3.{BlocksOfTheWhole, HoweverCut, TakesTheStream, BlocksOfTheStream, OneTable, Moved};
+ghost use Rattle.demands.specs.History.{History};
 ghost use Rattle.demands.specs.Exactly.{ExactlyWhen};
 ghost use Rattle.demands.specs.Flight.{FlightLine};
 ghost use Rattle.demands.specs.One.{OneOutcome};
@@ -68,6 +69,11 @@ pub fn takes_the_stream()
     ensures { λ _. ⌜ TakesTheStream ⌝ }
 {}
 
+// So a run that took all of a stream has the stream's blocks and counts.
+pub fn blocks_of_the_stream()
+    ensures { λ _. ⌜ BlocksOfTheStream ⌝ }
+{}
+
 // Demand 3: "all records read while it was open are those of the bytes given to the record call, under the table in force at its opening".
 pub fn one_table()
     ensures { λ _. ⌜ OneTable ⌝ }
@@ -77,6 +83,11 @@ pub fn one_table()
 // lent bytes."
 pub fn table_calls_move()
     ensures { λ _. ⌜ Moved ⌝ }
+{}
+
+// Phase, waiting table, table in force and standing block are what the calls made and their answers say, and the next answers follow.
+pub fn history()
+    ensures { λ _. ⌜ History ⌝ }
 {}
 
 // More is answered only with all taken that may be, and Finish comes to End.
