@@ -24,11 +24,11 @@ MayFollow Closed more = more ≡ []
 MayFollow Feeding more = Unit {0}
 MayFollow Finishing more = more ≡ []
 
--- the place where reading goes on: that of the first held byte, behind the standing block
+-- the place where reading goes on: that of the first held byte behind the standing block
 abbrev pub placeNow : World → ℕ
 placeNow w = w .state .run .taken - w .state .run .held + w .state .run .standing
 
--- at a moment of a run whose calls took the bytes t: whatever follows, the whole run reads as the blocks reported so far and as many
+-- at a moment of a run: whatever follows, the whole run reads as the blocks reported so far and as many
 -- skipped bytes as are counted, and then as it reads from the place on
 pub record ReadSoFar (w : World) (mid : List Call) : Type 0 where
   pub follows : (more : List ℕ) → MayFollow (end mid w .state .run .phase) more

@@ -1,4 +1,5 @@
--- Progress: a reader that answers More forever, or idles, is ruled out.
+-- Progress: More is answered only with all taken that may be, and Finish comes to End. That More is right, `Demand2` says; that a run opens and is
+-- then being fed, `History` says.
 -- Assumes nothing.
 use Prim.Native.Nat.{ℕ, zero, suc, _≤_}
 use mathlib.Core.Path.{_≡_}
