@@ -1,22 +1,21 @@
 -- The numbers and the bytes by the scan are those by the rule, a byte at a time.
 -- Assumes nothing.
-use mathlib.Core.Path.{_≡_, refl, sym, ap, ap₂, _∙_, subst}
-use mathlib.Core.List.{List, [], _∷_, _++_}
-use mathlib.Core.Option.{Option, none, some}
-use Prim.Native.Nat.{ℕ, suc, min, max, _+_, _-_, _≤_, _<_}
+use mathlib.Core.Path.{_≡_, refl, sym, ap, ap₂, _∙_}
+use mathlib.Core.List.{List, _++_}
+use Prim.Native.Nat.{ℕ, min, _+_, _-_, _≤_}
 use native.Mathlib.Omega.{arith}
 use lib.ListN.{length, take, drop, length-drop, length-append}
-use lib.Seq.{length-take-le, take-take, take-all, take-at, take-add, drop-at, drop-append-le, paste}
+use lib.Seq.{length-take-le, take-all, take-at, drop-append-le, paste}
 use native.Mathlib.Nat.{zero-add}
 use Rattle.frame.specs.Scan.{scanFrom}
 use Rattle.frame.specs.Feed.{Feeding, feedLit, stop}
 use Rattle.frame.specs.Settle.{Settled, finishLit}
-use Rattle.frame.proofs.Runs.{Rest, finish-rest, finish-front}
+use Rattle.frame.proofs.Runs.{finish-rest, finish-front}
 use Rattle.frame.specs.Session.{size}
 use Rattle.frame.specs.declared.Found.{Found}
 use Rattle.frame.specs.declared.Found.the-variants.{Block, More}
 use Rattle.frame.proofs.Tests.{lt?}
-use Rattle.frame.proofs.Spots.{Stands, Ends, Spot, spot}
+use Rattle.frame.proofs.Spots.{Spot, spot}
 use Rattle.frame.proofs.Literal.{toLit, literal}
 use Rattle.feed.specs.declared.Fed.{Fed}
 use Rattle.feed.specs.Hold.{restOf, numbersOf, holdOf, GoesOn}

@@ -1,13 +1,13 @@
 -- A copy in progress: what lies past it is as it was, and one more element goes in.
 -- Assumes nothing.
-use mathlib.Core.Path.{_≡_, refl, sym, ap, ap₂, _∙_}
+use mathlib.Core.Path.{_≡_, sym, ap, ap₂, _∙_}
 use mathlib.Core.List.{List, _++_}
-use Prim.Native.Nat.{ℕ, suc, _+_, _-_, _≤_, _<_}
+use Prim.Native.Nat.{ℕ, _+_, _-_, _≤_, _<_}
 use native.Mathlib.Omega.{arith}
 use native.Mathlib.Numerals.{add-one}
 use lib.ListN.{length, take, drop, getD, set, length-drop, take-append-drop}
 use native.Mathlib.Nat.{zero-add}
-use lib.Seq.{paste, length-paste, paste-suc, take-paste, drop-paste, take-at, take-add, take-take, drop-drop, drop-append-le, length-take-le, getD-drop}
+use lib.Seq.{paste, length-paste, paste-suc, drop-paste, take-at, take-add, drop-drop, length-take-le, getD-drop}
 
 -- a store of the element at b + j of s
 pub paste-more : (d : List ℕ) (at : ℕ) (s : List ℕ) (b j : ℕ) → at + j < length d → b + j < length s

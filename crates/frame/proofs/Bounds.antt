@@ -1,12 +1,11 @@
 -- Where a scan can come to, against the run, where the run is of bytes: no more than 65,532 bytes are ever held.
 -- Assumes nothing.
-use mathlib.Core.Path.{_≡_, refl, sym, ap, _∙_, subst}
+use mathlib.Core.Path.{_≡_, refl, ap, _∙_}
 use mathlib.Core.List.{List, [], _∷_, _++_}
-use Prim.Native.Nat.{ℕ, suc, max, _+_, _-_, _*_, _%_, _≤_, _<_}
+use Prim.Native.Nat.{ℕ, suc, max, _+_, _-_, _≤_, _<_}
 use native.Mathlib.Omega.{arith}
 use lib.ListN.{length, take, drop, getD, length-take, List·getD-append, List·getD-eq-default}
 use lib.Seq.{getD-drop, getD-take, getD-append-add}
-use Rattle.wire.specs.Little.{littleAt}
 use Rattle.wire.proofs.Laws.{range}
 use Rattle.frame.specs.Frame.{lengthAt}
 use Rattle.frame.specs.Judge.{judged}

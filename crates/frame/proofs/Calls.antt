@@ -1,22 +1,21 @@
 -- One call of feed in numbers and bytes: none is lost, all that may be is taken unless a block came, and no more than gives it.
 -- Assumes nothing.
-use mathlib.Core.Path.{_≡_, refl, sym, ap, ap₂, _∙_, subst, subst⁻¹}
+use mathlib.Core.Path.{_≡_, refl, sym, ap, _∙_, subst, subst⁻¹}
 use mathlib.Core.List.{List, [], _∷_, _++_, append-nil}
 use mathlib.Core.Option.{Option, none, some}
 use Prim.Native.Nat.{ℕ, zero, suc, min, _+_, _-_, _≤_, _<_}
-use native.Mathlib.Nat.{add-zero, zero-add}
 use native.Mathlib.Omega.{arith}
 use lib.ListN.{length, take, drop, length-drop, length-append, length-take}
-use lib.Seq.{take-nil, append-snoc, drop-drop, drop-append-le}
+use lib.Seq.{append-snoc, drop-drop, drop-append-le}
 use Rattle.frame.specs.Judge.{judged}
-use Rattle.frame.specs.Scan.{stand, wait, told, stepOf}
-use Rattle.frame.specs.Settle.{Settled, settle, finishLit}
-use Rattle.frame.specs.Feed.{Feeding, stop, goOn, unlessBlock, feedLit}
+use Rattle.frame.specs.Scan.{stepOf}
+use Rattle.frame.specs.Settle.{Settled, settle}
+use Rattle.frame.specs.Feed.{Feeding, stop, unlessBlock, feedLit}
 use Rattle.frame.specs.Session.{size, Fed, feedAll}
 use Rattle.frame.specs.Theorems.{MoreDecidesAll, BlockDecidesNoMore}
-use Rattle.frame.specs.declared.Verdict.the-variants.{Frame, Undecided}
+use Rattle.frame.specs.declared.Verdict.the-variants.{Frame}
 use Rattle.frame.proofs.Steps.{seen-le, told-wait, told-frame}
-use Rattle.frame.proofs.Runs.{Rest, Stands, settle-rest, settle-stands, fed-stands}
+use Rattle.frame.proofs.Runs.{Stands, settle-rest, fed-stands}
 
 -- ---- what is held
 

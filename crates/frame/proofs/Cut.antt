@@ -1,10 +1,10 @@
 -- A run read in two parts: where the first ends with no frame found, reading goes on there, with all of the first taken, as if the run were whole.
 -- Assumes nothing.
-use mathlib.Core.Path.{_≡_, refl, sym, ap, ap₂, _∙_, subst}
+use mathlib.Core.Path.{_≡_, refl, sym, ap, ap₂, _∙_}
 use mathlib.Core.List.{List, [], _∷_, _++_}
-use Prim.Native.Nat.{ℕ, zero, suc, max, _+_, _-_, _≤_, _<_}
+use Prim.Native.Nat.{ℕ, suc, max, _+_, _-_, _≤_}
 use native.Mathlib.Omega.{arith}
-use lib.ListN.{length, take, drop, getD}
+use lib.ListN.{length, drop}
 use lib.Seq.{drop-nil}
 use Rattle.frame.proofs.Steps.{empty}
 use Rattle.frame.specs.Scan.{Step, pass, stand, wait, stepOf}
@@ -12,7 +12,7 @@ use Rattle.frame.specs.Scan.{scanFrom, onStep}
 use Rattle.frame.specs.declared.Found.{Found}
 use Rattle.frame.specs.declared.Found.the-variants.{Block, More}
 use Rattle.frame.proofs.Tests.{lt?}
-use Rattle.frame.proofs.Steps.{seen, seen-le}
+use Rattle.frame.proofs.Steps.{seen-le}
 use Rattle.frame.proofs.Steps.{stable, local}
 
 -- the count so far does not matter where the next verdict rests on more

@@ -2,12 +2,12 @@
 -- Assumes nothing.
 use mathlib.Core.Path.{_≡_, refl, sym, ap, ap₂, _∙_}
 use mathlib.Core.List.{List, [], _∷_, _++_}
-use Prim.Native.Nat.{ℕ, zero, suc, _+_, _-_, _≤_, _<_}
+use Prim.Native.Nat.{ℕ, zero, suc, _+_, _-_, _≤_}
 use native.Mathlib.Omega.{arith}
 use lib.ListN.{length}
 use Rattle.frame.specs.Judge.{judged}
 use Rattle.frame.specs.Scan.{Step, told, stepOf}
-use Rattle.frame.specs.ReadRun.{Block, blockAt, Reading, blockThen, skipThen, both, readFrom, readRun}
+use Rattle.frame.specs.ReadRun.{Block, Reading, blockThen, skipThen, both, readFrom, readRun}
 use Rattle.frame.specs.SoFar.{SoFar, soFarBy, soFarFrom, soFar}
 use Rattle.frame.specs.Theorems.{ReadInTwo}
 use Rattle.frame.specs.declared.Verdict.{Verdict}

@@ -1,23 +1,23 @@
 -- The scan with the count of bytes taken gives what feeding a byte at a time gives.
 -- Assumes nothing.
-use mathlib.Core.Path.{_≡_, refl, sym, ap, ap₂, _∙_, subst, subst⁻¹}
+use mathlib.Core.Path.{_≡_, refl, sym, ap, ap₂, _∙_, subst}
 use mathlib.Core.List.{List, [], _∷_, _++_, append-nil}
 use mathlib.Core.Option.{Option, none, some}
-use Prim.Native.Nat.{ℕ, zero, suc, max, _+_, _-_, _≤_, _<_}
+use Prim.Native.Nat.{ℕ, zero, suc, max, _+_, _-_, _≤_}
 use native.Mathlib.Nat.{add-zero, zero-add, sub-zero}
 use native.Mathlib.Omega.{arith}
 use lib.ListN.{length, take, drop, length-drop, length-append}
 use lib.Seq.{drop-append-le, append-snoc, drop-drop, take-nil, take-append-seam}
 use Rattle.frame.specs.Scan.{Step, pass, stand, wait, stepOf}
 use Rattle.frame.specs.Scan.{scanFrom, onStep}
-use Rattle.frame.specs.Settle.{Settled, skipOne, settle}
+use Rattle.frame.specs.Settle.{Settled, settle}
 use Rattle.frame.specs.Feed.{Feeding, stop, goOn, unlessBlock, feedLit}
 use Rattle.frame.specs.declared.Found.{Found}
 use Rattle.frame.specs.declared.Found.the-variants.{Block, More}
-use Rattle.frame.proofs.Steps.{seen, seen-le, Big, big}
+use Rattle.frame.proofs.Steps.{seen, seen-le}
 use Rattle.frame.proofs.Cut.{cut, past, count}
 use Rattle.frame.proofs.Parts.{take-drop}
-use Rattle.frame.proofs.Spots.{Spot, Stands, Ends, spot, kept}
+use Rattle.frame.proofs.Spots.{Spot, Stands, spot, kept}
 use Rattle.frame.proofs.Runs.{settleV, settle-cons, settle-rest, settle-stands}
 use Rattle.frame.proofs.Runs as runs
 

@@ -1,12 +1,11 @@
 -- Parts of two lists in a row, from either.
 -- Assumes nothing.
-use mathlib.Core.Path.{_≡_, refl, sym, ap, ap₂, _∙_}
-use mathlib.Core.List.{List, [], _∷_, _++_, append-nil}
+use mathlib.Core.Path.{_≡_, sym, ap, ap₂, _∙_}
+use mathlib.Core.List.{List, _++_, append-nil}
 use Prim.Native.Nat.{ℕ, min, _+_, _-_, _≤_, _<_}
-use native.Mathlib.Nat.{zero-add, sub-zero}
 use native.Mathlib.Omega.{arith}
-use lib.ListN.{length, take, drop, getD, length-append, length-drop, length-take, List·getD-append}
-use lib.Seq.{take-all, take-add, take-append-le, take-append-add, drop-append-le, drop-append-add, drop-at, drop-length, length-take-le, getD-append-add}
+use lib.ListN.{length, take, drop, getD, length-drop}
+use lib.Seq.{take-all, take-add, take-append-le, take-append-add, drop-append-le, drop-append-add, drop-at, length-take-le, getD-append-add}
 use Rattle.frame.proofs.Tests.{lt?}
 
 -- a byte of the second

@@ -4,24 +4,24 @@ use mathlib.Core.Path.{_≡_, refl, sym, ap, ap₂, _∙_, subst, subst⁻¹}
 use mathlib.Core.List.{List, [], _∷_, _++_, append-nil, append-assoc}
 use mathlib.Core.Bool.{Bool, true, false}
 use mathlib.Core.Option.{Option, none, some}
-use Prim.Native.Nat.{ℕ, zero, suc, max, _+_, _-_, _≤_, _<_}
+use Prim.Native.Nat.{ℕ, zero, suc, _+_, _-_, _≤_, _<_}
 use native.Mathlib.Nat.{add-zero, zero-add, add-assoc}
 use native.Mathlib.Numerals.{add-one}
 use native.Mathlib.Omega.{arith}
-use lib.ListN.{length, take, drop, getD, length-drop, length-append}
+use lib.ListN.{length, take, drop, getD, length-drop}
 use lib.Seq.{drop-append-le, take-append-le, append-snoc, drop-drop, drop-length, drop-cons}
-use Rattle.frame.specs.Judge.{judged, Reason, Final, skip, block, finalBy, final}
+use Rattle.frame.specs.Judge.{judged, skip, block, finalBy, final}
 use Rattle.frame.specs.Scan.{told, Step, pass, stand, wait, stepOf}
 use Rattle.frame.specs.declared.Verdict.{Verdict}
 use Rattle.frame.specs.declared.Verdict.the-variants.{NoSync, LengthNotAllowed, CrcWrong, Frame, Undecided}
 use Rattle.frame.specs.Settle.{Settled, stopAt, skipOne, settleBy, settle, finishBy, finishLit}
-use Rattle.frame.specs.Feed.{Feeding, stop, goOn, unlessBlock, feedLit}
+use Rattle.frame.specs.Feed.{Feeding, unlessBlock, feedLit}
 use Rattle.frame.specs.ReadRun.{Block, blockAt, Reading, nothingRead, blockThen, skipThen, both, readBy, readFrom, readRun}
-use Rattle.frame.specs.Session.{size, placesFrom, blocksOf, answer, Fed, callThen, feedAll, Finish, finishThen, finishAll}
-use Rattle.frame.specs.Theorems.{ReadByTheRule, readAt}
+use Rattle.frame.specs.Session.{size, placesFrom, answer, Fed, callThen, feedAll, Finish, finishThen, finishAll}
+use Rattle.frame.specs.Theorems.{ReadByTheRule}
 use Rattle.frame.specs.Frame.{lengthAt, frameAt}
 use Rattle.frame.proofs.Standing.{front-judged, judged-front, judged-right}
-use Rattle.frame.proofs.Steps.{seen, seen-le, Big, big, empty, stable, told-frame}
+use Rattle.frame.proofs.Steps.{seen-le, Big, big, empty, stable, told-frame}
 use Rattle.frame.proofs.Tests.{never}
 
 -- ---- readings put together

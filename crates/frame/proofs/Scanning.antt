@@ -1,15 +1,15 @@
 -- The scan of a part, place by place; and that the scan of two parts in a row is the scan of the whole.
 -- Assumes nothing.
-use mathlib.Core.Path.{_≡_, refl, sym, ap, ap₂, _∙_, subst, subst⁻¹}
+use mathlib.Core.Path.{_≡_, refl, sym, ap, _∙_, subst, subst⁻¹}
 use mathlib.Core.List.{List, [], _∷_, _++_, append-nil}
 use Prim.Native.Nat.{ℕ, zero, suc, max, _+_, _-_, _≤_, _<_}
 use native.Mathlib.Nat.{add-zero}
 use native.Mathlib.Numerals.{add-one}
 use native.Mathlib.Omega.{arith}
-use lib.ListN.{length, take, drop, getD, length-drop, length-append, drop-of-length-le, List·getD-append}
+use lib.ListN.{length, drop, getD, length-drop, length-append, drop-of-length-le, List·getD-append}
 use lib.Seq.{drop-cons}
 use Rattle.frame.specs.Judge.{judged}
-use Rattle.frame.specs.Scan.{Step, pass, stand, wait, told, stepOf, onStep, scanFrom, onVerdict, scanPart, NoStart}
+use Rattle.frame.specs.Scan.{told, stepOf, onStep, scanFrom, onVerdict, scanPart, NoStart}
 use Rattle.frame.specs.declared.Verdict.{Verdict}
 use Rattle.frame.specs.declared.Verdict.the-variants.{NoSync, LengthNotAllowed, CrcWrong, Frame, Undecided}
 use Rattle.frame.specs.declared.Found.{Found}

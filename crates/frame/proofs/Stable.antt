@@ -1,9 +1,9 @@
 -- A verdict rests on the bytes that it has seen: more bytes, or other bytes past those, do not change it.
 -- Assumes nothing.
-use mathlib.Core.Path.{_≡_, refl, sym, ap, ap₂, _∙_, subst}
-use mathlib.Core.List.{List, [], _∷_, _++_}
-use mathlib.Core.Bool.{Bool, true, false}
-use Prim.Native.Nat.{ℕ, _+_, _*_, _≤_, _<_}
+use mathlib.Core.Path.{_≡_, refl, sym, ap, ap₂, _∙_}
+use mathlib.Core.List.{List, _++_}
+use mathlib.Core.Bool.{Bool}
+use Prim.Native.Nat.{ℕ, _+_, _≤_, _<_}
 use native.Mathlib.Nat.{zero-add}
 use native.Mathlib.Omega.{arith}
 use lib.ListN.{length, take, drop, getD, length-append}
@@ -17,7 +17,7 @@ use Rattle.frame.specs.Judge.{judged, seen}
 use Rattle.frame.specs.declared.Verdict.{Verdict}
 use Rattle.frame.specs.declared.Verdict.the-variants.{Undecided, CrcWrong, Frame}
 use Rattle.frame.proofs.Cases.{sync0, sync1, bad-length, good, bad}
-use Rattle.frame.proofs.View.{Head, Allowed, allows, View, waits-head, waits-body, at-sync0, at-sync1, at-length, at-bad, at-good, view, seen-le}
+use Rattle.frame.proofs.View.{Head, allows, View, waits-head, waits-body, at-sync0, at-sync1, at-length, at-bad, at-good, view, seen-le}
 
 module _ (u v : List ℕ) (k : ℕ) (e : take k u ≡ take k v) where
   same : (i : ℕ) → i < k → getD v i 0 ≡ getD u i 0

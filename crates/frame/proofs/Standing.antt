@@ -1,16 +1,15 @@
 -- A frame stands at a place exactly where it is judged to.
 -- Assumes nothing.
 use mathlib.Core.Path.{_≡_, refl, sym, ap, ap₂, _∙_, subst}
-use mathlib.Core.List.{List, [], _∷_, _++_}
-use mathlib.Core.Bool.{Bool, true, false, _&&_}
-use Prim.Native.Nat.{ℕ, suc, _+_, _-_, _≤_, _<_}
-use native.Mathlib.Nat.{zero-add, add-zero}
+use mathlib.Core.List.{List}
+use mathlib.Core.Bool.{Bool, true, _&&_}
+use Prim.Native.Nat.{ℕ, _+_, _-_, _≤_}
+use native.Mathlib.Nat.{zero-add}
 use native.Mathlib.Omega.{arith}
 use lib.ListN.{length, getD, take, drop, length-drop}
 use lib.Dec.{leb, eqb}
 use borrow.Author.Tests.{leb-true, eqb-true, le-leb, lt-leb, eq-eqb}
 use Rattle.crc.specs.Crc.{crcOf}
-use Rattle.wire.specs.Little.{littleAt}
 use Rattle.wire.proofs.Laws.{little-drop}
 use Rattle.frame.specs.Frame.{syncAt, crcAt, lengthAt, allowed, endsWithin, crcRight, frameAt}
 use Rattle.frame.specs.Judge.{judged}
@@ -19,7 +18,7 @@ use Rattle.frame.specs.declared.Verdict.{Verdict}
 use Rattle.frame.specs.declared.Verdict.the-variants.{NoSync, LengthNotAllowed, CrcWrong, Frame, Undecided}
 use Rattle.frame.proofs.Tests.{lt?, both-left, both-right, both-true}
 use Rattle.frame.proofs.Cases.{good, byte0, byte, body}
-use Rattle.frame.proofs.View.{Head, allows, View, waits-head, waits-body, at-sync0, at-sync1, at-length, at-bad, at-good, view}
+use Rattle.frame.proofs.View.{allows, View, waits-head, waits-body, at-sync0, at-sync1, at-length, at-bad, at-good, view}
 
 -- ---- at the front
 

@@ -4,8 +4,8 @@ use Prim.Native.Nat.{ℕ, zero, suc, _+_, _-_}
 use mathlib.Core.List.{List, [], _∷_, _++_}
 use mathlib.Core.Bool.{Bool, true, false}
 use mathlib.Core.Option.{Option, none, some}
-use lib.ListN.{length, take, drop}
-use Rattle.frame.specs.Settle.{Settled, finishLit}
+use lib.ListN.{take, drop}
+use Rattle.frame.specs.Settle.{finishLit}
 use Rattle.frame.specs.Feed.{Feeding, feedLit}
 use Rattle.frame.specs.ReadRun.{Block, blockAt, Reading, nothingRead, both}
 

@@ -1,19 +1,19 @@
 -- A call that is refused, and one that is not: what its outcome is.
 -- Assumes nothing.
 use mathlib.Core.Path.{_≡_, refl, sym, ap, ap₂, _∙_}
-use mathlib.Core.Bool.{Bool, true, false, _&&_, cond}
-use mathlib.Core.List.{List, [], _∷_, _++_}
+use mathlib.Core.Bool.{true, _&&_}
+use mathlib.Core.List.{List, _++_}
 use mathlib.Core.Option.{Option, none, some}
-use Prim.Native.Nat.{ℕ, _+_, _≤_, _<_}
+use Prim.Native.Nat.{ℕ, _+_, _≤_}
 use native.Mathlib.Nat.{zero-add}
 use native.Mathlib.Omega.{arith}
 use lib.ListN.{length, take, drop}
 use lib.Seq.{paste, length-take-le}
 use Rattle.table.specs.Rules.{tableOk}
 use Rattle.reader.specs.State.{sound}
-use Rattle.reader.specs.Said.{Said, refused, version}
-use Rattle.reader.specs.Refusals.{need, longStore, isClosed, nextTable, tableRefusal, openRefusal, stageRefusal}
-use Rattle.reader.specs.Calls.{Outcome, outcome, unless, over, opening, openOf, staging, stageOf}
+use Rattle.reader.specs.Said.{refused, version}
+use Rattle.reader.specs.Refusals.{longStore, tableRefusal, openRefusal, stageRefusal}
+use Rattle.reader.specs.Calls.{Outcome, outcome, unless, over}
 use Rattle.reader.specs.declared.State.{State}
 use Rattle.reader.specs.declared.Run.{Run}
 use Rattle.reader.proofs.Laws.{passes, Facts, with-store, with-stores}

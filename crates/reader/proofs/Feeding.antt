@@ -1,27 +1,27 @@
 -- What feed and finish leave, from numbers to meaning: the run, and the report of the block at the front of the hold.
 -- Assumes nothing.
-use mathlib.Core.Path.{_≡_, refl, sym, ap, ap₂, _∙_, subst}
-use mathlib.Core.List.{List, [], _∷_, _++_}
+use mathlib.Core.Path.{_≡_, refl, sym, ap, _∙_, subst}
+use mathlib.Core.List.{List, _++_}
 use mathlib.Core.Option.{Option, none, some}
-use Prim.Native.Nat.{ℕ, zero, suc, min, _+_, _-_, _%_, _/_, _≤_, _<_}
+use Prim.Native.Nat.{ℕ, zero, suc, _+_, _-_, _≤_}
 use native.Mathlib.Omega.{arith}
-use lib.ListN.{length, take, getD, length-drop, List·getD-append}
+use lib.ListN.{length, take, length-drop, List·getD-append}
 use lib.Seq.{getD-take}
 use Rattle.wire.specs.Little.{littleAt}
 use Rattle.wire.proofs.Laws.{agree}
 use Rattle.frame.specs.Frame.{idAt, numberOf, revisionOf}
 use Rattle.frame.specs.Scan.{stand, stepOf}
 use Rattle.frame.specs.ReadRun.{blockAt}
-use Rattle.frame.specs.Settle.{Settled, finishLit}
+use Rattle.frame.specs.Settle.{finishLit}
 use Rattle.frame.specs.Feed.{Feeding, feedLit, stop}
 use Rattle.frame.specs.Session.{size}
 use Rattle.frame.proofs.Steps.{seen-le, Big, big}
-use Rattle.frame.proofs.Runs.{Stands, fed-stands, Ends, finished, Rest, finish-rest}
-use Rattle.frame.proofs.Calls.{Call, call}
-use Rattle.feed.specs.Hold.{numbersOf, holdOf}
+use Rattle.frame.proofs.Runs.{Stands, fed-stands, Ends, finished, finish-rest}
+use Rattle.frame.proofs.Calls.{call}
+use Rattle.feed.specs.Hold.{numbersOf}
 use Rattle.feed.specs.declared.Fed.{Fed}
-use Rattle.reader.specs.Said.{Report, Said, took, ended, found}
-use Rattle.reader.specs.Calls.{Outcome, outcome, one, front, reported, reportIf, runOn}
+use Rattle.reader.specs.Said.{Said}
+use Rattle.reader.specs.Calls.{outcome, one, reported, runOn}
 use Rattle.reader.specs.Code.{oneIf, runBy, reportAt}
 use Rattle.reader.specs.declared.Phase.{Phase}
 use Rattle.reader.specs.declared.Run.{Run}

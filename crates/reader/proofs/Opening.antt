@@ -1,18 +1,17 @@
 -- What Open and Stage say, test by test.
 -- Assumes nothing.
-use mathlib.Core.Path.{_≡_, refl, sym, ap, ap₂, _∙_}
+use mathlib.Core.Path.{_≡_, refl, ap, ap₂, _∙_}
 use mathlib.Core.Bool.{Bool, true, false, _&&_, _||_, cond}
 use mathlib.Core.List.{List}
-use mathlib.Core.Option.{Option, none, some}
+use mathlib.Core.Option.{Option, none}
 use Prim.Native.Nat.{ℕ, _<_, _≤_}
-use lib.ListN.{length, take}
+use lib.ListN.{take}
 use lib.Dec.{ltb}
 use borrow.Author.Tests.{lt-ltb, le-ltb}
 use Rattle.table.specs.Rules.{tableOk}
 use Rattle.table.specs.Decode.{decode}
-use Rattle.frame.proofs.Tests.{bool?}
 use Rattle.reader.specs.State.{sound}
-use Rattle.reader.specs.Said.{Said, refused, version}
+use Rattle.reader.specs.Said.{refused, version}
 use Rattle.reader.specs.Refusals.{need, isClosed, longStore, nextTable, tableRefusal, openRefusal, stageRefusal}
 use Rattle.reader.specs.Calls.{Outcome, unless, opening, openOf, staging, stageOf}
 use Rattle.reader.specs.Code.{checkSaid}

@@ -2,12 +2,12 @@
 -- included. The contracts of Open, Feed, Finish, Bytes, Stage and Withdraw each cite one of these.
 -- Assumes nothing.
 use Prim.Native.Nat.{ℕ, _+_, _-_}
-use mathlib.Core.Bool.{Bool, cond}
+use mathlib.Core.Bool.{cond}
 use mathlib.Core.List.{List, []}
 use mathlib.Core.Option.{Option, none, some}
 use lib.ListN.{length, take}
 use lib.Dec.{ltb}
-use Rattle.frame.specs.Settle.{Settled, finishLit}
+use Rattle.frame.specs.Settle.{finishLit}
 use Rattle.frame.specs.Feed.{Feeding, feedLit, stop}
 use Rattle.frame.specs.ReadRun.{blockAt}
 use Rattle.frame.specs.Session.{size}

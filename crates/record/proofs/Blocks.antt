@@ -1,24 +1,21 @@
 -- A block against a table: what each test shows, and what each way through the code makes of it.
 -- Assumes nothing.
-use mathlib.Core.Path.{_≡_, refl, sym, ap, _∙_, subst}
-use mathlib.Core.List.{List, [], _∷_}
-use mathlib.Core.Bool.{Bool, true, false, not, _&&_, _||_, cond}
-use mathlib.Core.Option.{Option, none, some}
-use Prim.Native.Nat.{ℕ, zero, suc, _+_, _-_, _*_, _%_, _<_, _≤_}
+use mathlib.Core.Path.{_≡_, sym, ap, _∙_, subst}
+use mathlib.Core.List.{List}
+use mathlib.Core.Bool.{Bool, true, false, _&&_, _||_}
+use Prim.Native.Nat.{ℕ, suc, _+_, _-_, _*_, _%_, _<_, _≤_}
 use native.Mathlib.Omega.{arith}
 use native.Mathlib.Nat.{mul-le-mul-right, suc-mul}
 use lib.ListN.{length}
-use lib.Dec.{ltb, leb, eqb}
-use borrow.Author.Tests.{leb-true, eqb-true, le-leb, lt-leb, lt-ltb, le-ltb, ne-eqb}
-use Rattle.frame.specs.Frame.{lengthAt, syncAt, allowed, endsWithin, crcRight, frameAt, wholeFrame}
-use Rattle.table.specs.declared.FieldRow.{FieldRow}
+use lib.Dec.{leb, eqb}
+use borrow.Author.Tests.{leb-true, eqb-true, lt-ltb, le-ltb, ne-eqb}
+use Rattle.frame.specs.Frame.{lengthAt, syncAt, allowed, endsWithin, frameAt, wholeFrame}
 use Rattle.table.specs.declared.Row.{Row}
 use Rattle.table.specs.declared.Found.{Found}
 use Rattle.table.specs.declared.Found.the-variants as found
 use Rattle.table.specs.Lists.{tabulate, every}
-use Rattle.table.specs.Rows.{BlockRow, Table}
 use Rattle.table.specs.Decode.{fieldCount, fieldAt, blockOf, decode}
-use Rattle.table.specs.Lookup.{findRow, Stands, StandsIfAny, Finding}
+use Rattle.table.specs.Lookup.{Stands, StandsIfAny, Finding}
 use Rattle.table.specs.Lookup as lookup
 use Rattle.table.proofs.Bools.{both}
 use Rattle.table.proofs.Lists.{length-tab}
@@ -26,8 +23,7 @@ use Rattle.record.specs.declared.Refusal.{Refusal}
 use Rattle.record.specs.declared.Refusal.the-variants.{NoRow, TooShort, BadSubBlocks, NoSuchField, NotOneFrame}
 use Rattle.record.specs.declared.Looked.{Looked}
 use Rattle.record.specs.declared.Looked.the-variants.{At, Refused}
-use Rattle.record.specs.Answer.{numberFor}
-use Rattle.record.specs.Block.{numberIn, revisionIn, countIn, subLengthIn, endsBy, bodyFits, subsFit, Seen, refusedBy, row, seenRow, seen, seenSubRow, seenSub, meant, Fine, FineIfAny, Judging, Looking, SubFine, SubFineIfAny, SubLooking}
+use Rattle.record.specs.Block.{numberIn, revisionIn, countIn, subLengthIn, endsBy, bodyFits, subsFit, row, seenRow, seen, seenSubRow, seenSub, meant, Fine, FineIfAny, Judging, Looking, SubLooking}
 
 -- a whole frame has an allowed length
 module _ (b : List ℕ) (e : wholeFrame b ≡ true) where

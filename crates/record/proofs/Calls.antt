@@ -1,15 +1,14 @@
 -- What each call answers, by the row or the refusal that the block came to.
 -- Assumes nothing.
 use mathlib.Core.Path.{_≡_, refl, sym, ap, _∙_, subst}
-use mathlib.Core.List.{List, [], _∷_}
-use mathlib.Core.Bool.{Bool, true, false, _&&_}
-use mathlib.Core.Option.{Option, none, some}
-use Prim.Native.Nat.{ℕ, _+_, _-_, _*_, _<_, _≤_}
-use lib.ListN.{length, take}
+use mathlib.Core.List.{List, []}
+use mathlib.Core.Bool.{true}
+use Prim.Native.Nat.{ℕ, _+_, _-_, _<_, _≤_}
+use lib.ListN.{length}
 use lib.Dec.{leb}
 use Rattle.table.specs.declared.FieldRow.{FieldRow}
 use Rattle.table.specs.declared.Row.{Row}
-use Rattle.table.specs.Lists.{tabulate, every, pick}
+use Rattle.table.specs.Lists.{tabulate, pick}
 use Rattle.table.specs.Decode.{fieldAt, blockOf, decode}
 use Rattle.table.proofs.Bools.{both}
 use Rattle.table.proofs.Lists.{every-at, pick-in, pick-out}
@@ -20,8 +19,8 @@ use Rattle.record.specs.declared.Answer.the-variants as answer
 use Rattle.record.specs.declared.Handed.the-variants as handed
 use Rattle.record.specs.declared.Looked.{Looked}
 use Rattle.record.specs.declared.Looked.the-variants as looked
-use Rattle.record.specs.Answer.{Said, refused, numberFor, refusalNumbered, Answers, handedSays}
-use Rattle.record.specs.Block.{revisionIn, subLengthIn, endsBy, bodyFits, Seen, refusedBy, row, seen, seenSub, meant, Fine, FineIfAny, Looking, SubFine, SubFineIfAny, SubLooking}
+use Rattle.record.specs.Answer.{refused, numberFor, refusalNumbered, Answers, handedSays}
+use Rattle.record.specs.Block.{revisionIn, subLengthIn, endsBy, bodyFits, meant, Looking, SubFine, SubFineIfAny, SubLooking}
 use Rattle.record.specs.Calls.{fieldSaid, fieldOr9, bodyBy, bodyField, subBytes, subBy, subField, partBy, subBlock, numberBy, subBlockRefusal}
 use Rattle.record.proofs.Fields.{same}
 use Rattle.record.proofs.Blocks.{fine-at}

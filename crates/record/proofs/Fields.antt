@@ -1,9 +1,9 @@
 -- What a field says, case by case, and where it ends.
 -- Assumes nothing.
-use mathlib.Core.Path.{_≡_, refl, sym, ap, _∙_, subst}
+use mathlib.Core.Path.{_≡_, refl, subst}
 use mathlib.Core.List.{List}
-use mathlib.Core.Bool.{Bool, true, false}
-use Prim.Native.Nat.{ℕ, _+_, _*_, _<_, _≤_}
+use mathlib.Core.Bool.{true, false}
+use Prim.Native.Nat.{ℕ, _<_, _≤_}
 use lib.ListN.{length}
 use borrow.Author.Tests.{leb-true, le-leb, lt-leb}
 use Rattle.frame.specs.Frame.{wholeFrame}
@@ -14,7 +14,7 @@ use Rattle.record.specs.declared.Value.the-variants.{DoNotUse, NotInRevi
 use Rattle.record.specs.declared.Refusal.the-variants.{TooShort, NotOneFrame}
 use Rattle.record.specs.declared.Answer.{Answer}
 use Rattle.record.specs.declared.Answer.the-variants.{Field, Refused}
-use Rattle.record.specs.Answer.{Said, Answers, Means, doNotUse, notInRevision, refused}
+use Rattle.record.specs.Answer.{Said, Answers, Means}
 use Rattle.record.specs.Bits.{readAs, isDoNotUse, valueOf, fieldValue}
 use Rattle.record.specs.Block.{endsBy}
 use Rattle.record.specs.Calls.{fieldSaid, stamp}

@@ -8,7 +8,7 @@ use lib.Dec.{T}
 use lib.Ieee.{Format, binary32, binary64, nanBits, isNan, ofBits, ones, hid, top}
 use lib.Ieee.Bits.{nanBits-above, nanBits-is, toBits-ofBits}
 use Rattle.record.specs.declared.Value.the-variants.{Single, Double, SingleNan, DoubleNan}
-use Rattle.record.specs.Answer.{single, double, Answers, Means}
+use Rattle.record.specs.Answer.{single, double, Means}
 
 module _ (f : Format) (n : ℕ) where
   pub is-nan : ones f * hid f < n % top f → nanBits f n ≡ true

@@ -1,23 +1,19 @@
 -- One input, one outcome; answers by meaning; floats keep their bits.
 -- Assumes nothing.
 use mathlib.Core.Path.{_≡_, refl, sym, ap, _∙_, subst}
-use mathlib.Core.Bool.{Bool, true, false, not, cond}
-use mathlib.Core.List.{List}
-use mathlib.Core.Option.{Option, none, some}
+use mathlib.Core.Bool.{Bool, true, false, not}
 use Prim.Native.Nat.{ℕ, _^_, _<_}
 use native.Mathlib.Omega.{arith}
 use lib.Dec.{T}
 use lib.Ieee.{Format, binary32, binary64, nanBits, isNan, ofBits}
 use lib.Ieee.Bits.{nanBits-is, toBits-ofBits}
 use Rattle.table.specs.Rows.{Table}
-use Rattle.table.specs.Decode.{decode}
-use Rattle.record.specs.declared.Refusal.{Refusal}
 use Rattle.record.specs.declared.Answer.{Answer}
 use Rattle.record.specs.declared.Handed.{Handed}
 use Rattle.record.specs.declared.Handed.the-variants.{Refused, Given}
 use Rattle.record.specs.Answer.{Said, single, double, numberFor, answerSays, caseFor, Answers, handedSays}
 use Rattle.record.specs.Calls.{bodyField, subField, subBlock, subBlockRefusal}
-use Rattle.record.specs.Theorems.{OneAnswer, ByMeaning, AllByMeaning, FloatsKept}
+use Rattle.record.specs.Theorems.{OneAnswer, AllByMeaning, FloatsKept}
 use Rattle.record.proofs.Calls.{same-refusal}
 use Rattle.record.proofs.Fields.{same}
 

@@ -1,16 +1,15 @@
 -- Types and marks by their tables, and what the code's own tables of nine entries hold.
 -- Assumes nothing.
-use mathlib.Core.Path.{_≡_, refl, sym, ap, _∙_}
+use mathlib.Core.Path.{_≡_, refl}
 use mathlib.Core.List.{List, [], _∷_}
-use mathlib.Core.Bool.{Bool, true, false}
-use Prim.Native.Nat.{ℕ, zero, suc, _+_, _-_, _*_, _^_, _<_, _≤_}
-use native.Mathlib.Omega.{arith}
+use mathlib.Core.Bool.{Bool, false}
+use Prim.Native.Nat.{ℕ, zero, suc, _-_, _^_, _<_}
 use lib.Dec.{eqb, eqb→eq}
 use lib.ListN.{getD}
 use borrow.Author.Tests.{ne-eqb}
 use Rattle.crc.proofs.Table.{at}
 use Rattle.table.specs.Types.{sizeOf}
-use Rattle.record.specs.Answer.{Said, unsigned}
+use Rattle.record.specs.Answer.{unsigned}
 use Rattle.record.specs.Bits.{half, readAs, isDoNotUse}
 
 -- a type that is none of 5 to 10 is read without a sign

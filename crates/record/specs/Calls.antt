@@ -2,14 +2,14 @@
 -- Assumes nothing.
 use Prim.Native.Nat.{ℕ, _+_, _*_}
 use mathlib.Core.List.{List, []}
-use mathlib.Core.Bool.{Bool, true, cond}
+use mathlib.Core.Bool.{cond}
 use mathlib.Core.Option.{Option, none, some}
-use lib.ListN.{length, take, drop}
+use lib.ListN.{take, drop}
 use lib.Dec.{leb}
 use Rattle.frame.specs.Frame.{wholeFrame}
 use Rattle.table.specs.declared.FieldRow.{FieldRow}
 use Rattle.table.specs.Lists.{pick}
-use Rattle.table.specs.Rows.{BlockRow, Table}
+use Rattle.table.specs.Rows.{Table}
 use Rattle.table.specs.Lookup.{carried}
 use Rattle.record.specs.Answer.{Said, notInRevision, refused}
 use Rattle.record.specs.Bits.{fieldValue}

@@ -4,12 +4,12 @@ use Prim.Native.Nat.{ℕ}
 use mathlib.Core.Path.{_≡_}
 use mathlib.Core.List.{List, [], _∷_, map}
 use mathlib.Core.Option.{Option, none, some}
-use lib.IntN.{ℤ, pos, negsuc}
+use lib.IntN.{pos, negsuc}
 use Rattle.wire.specs.Little.{littleAt}
 use Rattle.frame.specs.Frame.{numberOf, revisionOf}
 use Rattle.frame.specs.Samples.{sampleB}
 use Rattle.table.specs.declared.FieldRow.{FieldRow}
-use Rattle.table.specs.Rows.{BlockRow, Table}
+use Rattle.table.specs.Rows.{Table}
 use Rattle.record.specs.Answer.{Said, unsigned, signed, single, double, doNotUse, notInRevision, refused}
 use Rattle.record.specs.Bits.{fieldValue}
 use Rattle.record.specs.Calls.{bodyField, subField, subBlock, subBlockRefusal, towRow, wncRow, stamp}

@@ -5,7 +5,6 @@ use mathlib.Core.Path.{_≡_}
 use mathlib.Core.List.{List}
 use mathlib.Core.Bool.{true, false}
 use lib.Ieee.{binary32, binary64, nanBits, ofBits}
-use Rattle.table.specs.Rows.{Table}
 use Rattle.table.specs.Decode.{decode}
 use Rattle.record.specs.declared.Value.the-variants.{Single, Double, SingleNan, DoubleNan}
 use Rattle.record.specs.declared.Answer.{Answer}

@@ -3,7 +3,7 @@
 use mathlib.Core.Path.{_≡_, refl, sym, ap, ap₂, _∙_}
 use mathlib.Core.List.{List}
 use Prim.Native.Nat.{ℕ, zero, suc, _+_, _*_, _^_, _<_}
-use native.Mathlib.Nat.{zero-add, suc-add, add-zero, add-assoc, mul-assoc, mul-add, pow-succ', one-mul, mul-le-mul-left}
+use native.Mathlib.Nat.{zero-add, suc-add, add-zero, add-assoc, mul-assoc, mul-add, pow-succ', one-mul}
 use native.Mathlib.Omega.{arith}
 use lib.ListN.{getD, drop}
 use lib.Seq.{getD-drop}

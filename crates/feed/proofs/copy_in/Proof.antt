@@ -1,12 +1,11 @@
 -- `feed::copy_in` meets its contract. The invariant: j bytes are in.
 -- Assumes nothing.
-use mathlib.Core.Path.{_≡_, refl, sym, ap, _∙_}
-use mathlib.Core.List.{List, _++_}
-use Prim.Native.Nat.{ℕ, _≤_, _-_, _<_, _+_}
-use native.Mathlib.Nat.{zero-add}
+use mathlib.Core.Path.{_≡_, ap, _∙_}
+use mathlib.Core.List.{List}
+use Prim.Native.Nat.{ℕ, _≤_, _-_, _+_}
 use native.Mathlib.Omega.{arith}
-use lib.ListN.{length, drop, take, getD, set, length-drop, length-set, take-append-drop}
-use lib.Seq.{paste, paste-zero, length-paste}
+use lib.ListN.{drop, getD, set}
+use lib.Seq.{paste, paste-zero}
 use Rattle.feed.proofs.Pasting.{paste-more, paste-long}
 use Rattle.feed.proofs.copy_in.Statement.{statement}
 use Rattle.feed.proofs.copy_in.Tie as tie

@@ -1,10 +1,9 @@
 -- `feed::feed` meets its contract: the scan of what may be taken gives what feeding a byte at a time gives.
 -- Assumes nothing.
 use mathlib.Core.Path.{_≡_, sym, ap, _∙_}
-use mathlib.Core.List.{List}
-use Prim.Native.Nat.{ℕ, min}
+use Prim.Native.Nat.{ℕ}
 use native.Mathlib.Omega.{arith}
-use lib.ListN.{length, take, drop}
+use lib.ListN.{length, take}
 use lib.Seq.{length-take-le}
 use Rattle.feed.proofs.Literally.{looked, as-told, as-kept}
 use borrow.Author.Needs.{needs}

@@ -1,12 +1,11 @@
 -- `feed::finish` meets its contract: the rule for the run's end, over the held bytes.
 -- Assumes nothing.
-use mathlib.Core.Path.{_≡_, refl, sym, ap, ap₂, _∙_}
-use mathlib.Core.List.{List}
+use mathlib.Core.Path.{_≡_, ap, ap₂, _∙_}
 use Prim.Native.Nat.{ℕ, _-_, _+_, _≤_}
 use native.Mathlib.Omega.{arith}
-use lib.ListN.{length, take, drop}
+use lib.ListN.{drop}
 use lib.Seq.{paste}
-use Rattle.frame.specs.Settle.{Settled, finishLit}
+use Rattle.frame.specs.Settle.{finishLit}
 use Rattle.frame.specs.Session.{size}
 use Rattle.frame.specs.Ending.{endingOf}
 use Rattle.frame.specs.declared.Ending.{Ending}

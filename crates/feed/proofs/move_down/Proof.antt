@@ -1,10 +1,10 @@
 -- `feed::move_down` meets its contract. The invariant: j bytes have moved, and the rest stands as it stood.
 -- Assumes nothing.
 use mathlib.Core.Path.{_≡_, refl, sym, ap, _∙_}
-use mathlib.Core.List.{List, _++_}
-use Prim.Native.Nat.{ℕ, _≤_, _-_, _<_, _+_, min}
+use mathlib.Core.List.{List}
+use Prim.Native.Nat.{ℕ, _≤_, _-_, _+_, min}
 use native.Mathlib.Omega.{arith}
-use lib.ListN.{length, drop, take, length-drop}
+use lib.ListN.{length, drop, length-drop}
 use lib.Seq.{paste, drop-drop}
 use borrow.Author.Needs.{needs}
 use Rattle.feed.proofs.Pasting.{paste-long, paste-self, paste-behind, paste-on}

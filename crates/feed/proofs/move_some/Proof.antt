@@ -1,7 +1,6 @@
 -- `feed::move_some` meets its contract: what goes in is what came out.
 -- Assumes nothing.
-use mathlib.Core.Path.{_≡_, refl, sym, ap, _∙_}
-use mathlib.Core.List.{List}
+use mathlib.Core.Path.{ap, _∙_}
 use native.Mathlib.Omega.{arith}
 use lib.ListN.{take, drop, length-drop}
 use Rattle.feed.proofs.Pasting.{paste-same, paste-front}

@@ -1,9 +1,9 @@
 -- `frame::judge` meets its contract: at each `return` the tests that led there say which case of `judged` holds.
 -- Assumes nothing.
-use mathlib.Core.Path.{_≡_, refl, sym, ap, ap₂, _∙_}
-use mathlib.Core.Bool.{Bool, true}
+use mathlib.Core.Path.{_≡_, sym, ap, ap₂, _∙_}
+use mathlib.Core.Bool.{true}
 use mathlib.Core.List.{List, _++_}
-use Prim.Native.Nat.{ℕ, _≤_, _<_, _+_}
+use Prim.Native.Nat.{ℕ, _<_, _+_}
 use native.Mathlib.Nat.{zero-add}
 use native.Mathlib.Omega.{arith}
 use lib.ListN.{length, take, drop, getD, length-append}
@@ -13,7 +13,7 @@ use Rattle.crc.specs.Crc.{crcOf}
 use Rattle.frame.specs.Frame.{lengthAt, allowed, crcRight}
 use Rattle.frame.specs.declared.Verdict.the-variants.{CrcWrong, Frame}
 use Rattle.frame.proofs.Cases.{empty, sync0, one, sync1, short, bad-length, part, good, bad}
-use Rattle.frame.proofs.View.{Head, Allowed, allows}
+use Rattle.frame.proofs.View.{Head, allows}
 use borrow.Author.Needs.{needs}
 use Rattle.frame.proofs.judge.Statement.{statement}
 use Rattle.frame.proofs.judge.Tie as tie

@@ -1,14 +1,12 @@
 -- `frame::scan` meets its contract: a part and then the rest is the whole.
 -- Assumes nothing.
-use mathlib.Core.Path.{_≡_, refl, sym, ap, _∙_}
-use mathlib.Core.List.{List, [], _++_}
+use mathlib.Core.Path.{_≡_, sym, ap, _∙_}
+use mathlib.Core.List.{[], _++_}
 use Prim.Native.Nat.{ℕ, _+_}
 use native.Mathlib.Nat.{zero-add}
 use lib.ListN.{length}
-use Rattle.frame.specs.Scan.{scanFrom, scanPart}
-use Rattle.frame.specs.declared.Found.{Found}
+use Rattle.frame.specs.Scan.{scanFrom}
 use Rattle.frame.specs.declared.Part.{Part}
-use Rattle.frame.specs.declared.Part.the-variants.{Passed}
 use Rattle.frame.proofs.Scanning.{thenFrom, part-then, last-part}
 use borrow.Author.Needs.{needs}
 use Rattle.frame.proofs.scan.Statement.{statement}

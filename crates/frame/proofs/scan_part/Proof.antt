@@ -1,17 +1,17 @@
 -- `frame::scan_part` meets its contract. The invariant: the places from k on, with the present mark, give what the whole part gives.
 -- Assumes nothing.
-use mathlib.Core.Path.{_≡_, refl, sym, ap, _∙_}
+use mathlib.Core.Path.{_≡_, sym, ap, _∙_}
 use mathlib.Core.List.{List, _++_}
-use Prim.Native.Nat.{ℕ, _≤_, _<_, _+_, _-_, max}
+use Prim.Native.Nat.{ℕ, _≤_, _<_, _+_, _-_}
 use native.Mathlib.Nat.{add-zero}
 use native.Mathlib.Omega.{arith}
-use lib.ListN.{length, take, drop, length-append, length-drop}
+use lib.ListN.{length, drop, length-append, length-drop}
 use lib.Seq.{take-all}
 use borrow.Author.Needs.{needs}
 use Rattle.frame.specs.Judge.{judged, seen}
 use Rattle.frame.specs.Scan.{onVerdict, scanPart}
 use Rattle.frame.specs.declared.Verdict.{Verdict}
-use Rattle.frame.specs.declared.Verdict.the-variants.{NoSync, LengthNotAllowed, CrcWrong, Frame, Undecided}
+use Rattle.frame.specs.declared.Verdict.the-variants.{CrcWrong, Frame}
 use Rattle.frame.specs.declared.Part.{Part}
 use Rattle.frame.specs.declared.Part.the-variants.{Block}
 use Rattle.frame.proofs.View.{seen-le}

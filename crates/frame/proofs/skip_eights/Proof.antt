@@ -1,6 +1,6 @@
 -- `frame::skip_eights` meets its contract. The invariant: no first sync byte stands in what is passed.
 -- Assumes nothing.
-use Prim.Native.Nat.{ℕ, _≤_, _<_, _-_, _+_}
+use Prim.Native.Nat.{_-_}
 use native.Mathlib.Omega.{arith}
 use lib.ListN.{length}
 use Rattle.frame.specs.Scan.{NoDollar}

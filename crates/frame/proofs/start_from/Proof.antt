@@ -1,8 +1,8 @@
 -- `frame::start_from` meets its contract. The invariant: no start stands at the places passed.
 -- Assumes nothing.
-use Prim.Native.Nat.{ℕ, _≤_, _<_, _-_, _+_}
+use Prim.Native.Nat.{_-_}
 use native.Mathlib.Omega.{arith}
-use lib.ListN.{length, getD}
+use lib.ListN.{length}
 use borrow.Author.Needs.{needs}
 use Rattle.frame.specs.Scan.{NoStart}
 use Rattle.frame.proofs.Starts.{no-dollar, nothing, go-on}

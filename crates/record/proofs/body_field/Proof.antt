@@ -6,7 +6,6 @@ use Rattle.record.proofs.Calls.{body-refused, body-9, body-says, body-e
 use borrow.Author.Needs.{needs}
 use Rattle.record.proofs.body_field.Statement.{statement}
 use Rattle.record.proofs.body_field.Tie as tie
-use Rattle.table.proofs.field.Reads as field-reads′
 
 row-of-requires : tie.Need-row-of-requires
 row-of-requires c κs = search needs

@@ -5,7 +5,6 @@ use Rattle.record.proofs.Calls.{sub-fine, sub-refused, sub-9, sub-says,
 use borrow.Author.Needs.{needs}
 use Rattle.record.proofs.sub_field.Statement.{statement}
 use Rattle.record.proofs.sub_field.Tie as tie
-use Rattle.table.proofs.field.Reads as field-reads′
 
 sub-row-of-requires : tie.Need-sub-row-of-requires
 sub-row-of-requires c κs = search needs

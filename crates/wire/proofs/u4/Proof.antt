@@ -1,8 +1,7 @@
 -- `wire::u4` meets its contract: twice 2 bytes, by `join`.
 -- Assumes nothing.
-use mathlib.Core.Path.{_≡_, sym, ap, ap₂, _∙_}
+use mathlib.Core.Path.{sym, ap₂, _∙_}
 use Prim.Native.Nat.{ℕ, _+_, _*_, _^_}
-use Rattle.wire.specs.Little.{littleAt}
 use Rattle.wire.proofs.Laws.{join}
 use borrow.Author.Needs.{needs}
 use Rattle.wire.proofs.u4.Statement.{statement}

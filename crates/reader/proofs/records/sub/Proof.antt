@@ -1,14 +1,12 @@
 -- `reader::records::sub` meets its contract: refused, or answered by the table in force.
 -- Assumes nothing.
-use mathlib.Core.Path.{_≡_, refl, sym, ap, _∙_}
-use mathlib.Core.Option.{Option, none}
-use Prim.Native.Nat.{ℕ}
+use mathlib.Core.Path.{_≡_, sym, ap, _∙_}
+use mathlib.Core.Option.{none}
 use lib.Seq.{length-take-le}
 use Rattle.table.specs.Decode.{decode}
 use Rattle.record.specs.Calls.{subField}
 use Rattle.reader.specs.Said.{refusalOf}
-use Rattle.reader.specs.Calls.{partUnless}
-use Rattle.reader.specs.Records.{tableInForce, askRefusal, firstOf, subOf}
+use Rattle.reader.specs.Records.{tableInForce, askRefusal, subOf}
 use Rattle.reader.proofs.Asking.{asked, unless-refused, unless-none}
 use borrow.Author.Needs.{needs}
 use Rattle.reader.proofs.records.sub.Statement.{statement}

@@ -1,6 +1,6 @@
 -- `reader::records::sub_bytes` meets its contract: refused, or answered by the table in force.
 -- Assumes nothing.
-use mathlib.Core.Path.{_≡_, refl, sym, ap, _∙_}
+use mathlib.Core.Path.{_≡_, sym, ap, _∙_}
 use mathlib.Core.Option.{Option, none}
 use Prim.Native.Nat.{ℕ}
 use lib.Seq.{length-take-le}
@@ -8,8 +8,8 @@ use Rattle.table.specs.Decode.{decode}
 use Rattle.record.specs.Calls.{subBlock}
 use Rattle.reader.specs.Said.{refusalOf}
 use Rattle.reader.specs.Calls.{partUnless}
-use Rattle.reader.specs.Records.{tableInForce, askRefusal, firstOf, subBytesOf}
-use Rattle.reader.proofs.Asking.{asked, unless-refused, unless-none}
+use Rattle.reader.specs.Records.{tableInForce, askRefusal, subBytesOf}
+use Rattle.reader.proofs.Asking.{asked}
 use borrow.Author.Needs.{needs}
 use Rattle.reader.proofs.records.sub_bytes.Statement.{statement}
 use Rattle.reader.proofs.records.sub_bytes.Tie as tie

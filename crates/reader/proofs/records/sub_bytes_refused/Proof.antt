@@ -1,15 +1,14 @@
 -- `reader::records::sub_bytes_refused` meets its contract: refused, or answered by the table in force.
 -- Assumes nothing.
-use mathlib.Core.Path.{_≡_, refl, sym, ap, _∙_}
+use mathlib.Core.Path.{_≡_, sym, ap, _∙_}
 use mathlib.Core.Option.{Option, none}
 use Prim.Native.Nat.{ℕ}
 use lib.Seq.{length-take-le}
 use Rattle.table.specs.Decode.{decode}
 use Rattle.record.specs.Calls.{subBlockRefusal}
 use Rattle.reader.specs.Said.{refusalOf}
-use Rattle.reader.specs.Calls.{partUnless}
 use Rattle.reader.specs.Records.{tableInForce, askRefusal, firstOf, subBytesRefusal}
-use Rattle.reader.proofs.Asking.{asked, unless-refused, unless-none}
+use Rattle.reader.proofs.Asking.{asked}
 use borrow.Author.Needs.{needs}
 use Rattle.reader.proofs.records.sub_bytes_refused.Statement.{statement}
 use Rattle.reader.proofs.records.sub_bytes_refused.Tie as tie

@@ -1,6 +1,6 @@
 -- `reader::records::tow` meets its contract: 1, or what the stamp says.
 -- Assumes nothing.
-use mathlib.Core.Path.{_≡_, refl, sym, ap, _∙_}
+use mathlib.Core.Path.{sym, ap, _∙_}
 use mathlib.Core.Bool.{Bool}
 use mathlib.Core.Option.{none}
 use Rattle.record.specs.Calls.{towRow, stamp}

@@ -1,6 +1,6 @@
 -- `reader::refusals::gives_block` meets its contract: a scan with nothing behind the held bytes.
 -- Assumes nothing.
-use mathlib.Core.Path.{_≡_, refl, sym, ap, _∙_}
+use mathlib.Core.Path.{sym}
 use Rattle.feed.specs.Hold.{restOf}
 use Rattle.reader.proofs.Laws.{gives, gives-none}
 use borrow.Author.Needs.{needs}

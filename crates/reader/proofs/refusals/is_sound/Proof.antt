@@ -1,6 +1,6 @@
 -- `reader::refusals::is_sound` meets its contract: the same tests.
 -- Assumes nothing.
-use mathlib.Core.Path.{_≡_, refl, sym, ap, _∙_}
+use mathlib.Core.Path.{refl}
 use Rattle.reader.specs.State.{sound}
 use Rattle.reader.proofs.refusals.is_sound.Statement.{statement}
 use Rattle.reader.proofs.refusals.is_sound.Tie as tie

@@ -1,6 +1,6 @@
 -- `reader::refusals::of_bytes` meets its contract.
 -- Assumes nothing.
-use mathlib.Core.Path.{_≡_, refl, sym, ap, _∙_}
+use mathlib.Core.Path.{_≡_, sym, ap, _∙_}
 use mathlib.Core.Bool.{Bool, _&&_}
 use Rattle.reader.specs.State.{sound}
 use Rattle.reader.specs.Refusals.{longHold, bytesRefusal}

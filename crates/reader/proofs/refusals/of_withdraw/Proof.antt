@@ -1,6 +1,6 @@
 -- `reader::refusals::of_withdraw` meets its contract.
 -- Assumes nothing.
-use mathlib.Core.Path.{_≡_, refl, sym, ap, _∙_}
+use mathlib.Core.Path.{sym, _∙_}
 use Rattle.reader.specs.Refusals.{withdrawRefusal}
 use borrow.Author.Needs.{needs}
 use Rattle.reader.proofs.refusals.of_withdraw.Statement.{statement}

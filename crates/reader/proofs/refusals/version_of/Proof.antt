@@ -1,6 +1,6 @@
 -- `reader::refusals::version_of` meets its contract: the check, in the reader's words.
 -- Assumes nothing.
-use mathlib.Core.Path.{_≡_, refl, sym, ap, _∙_}
+use mathlib.Core.Path.{sym}
 use Rattle.reader.proofs.Laws.{check-version, check-broken}
 use borrow.Author.Needs.{needs}
 use Rattle.reader.proofs.refusals.version_of.Statement.{statement}

@@ -1,6 +1,6 @@
 -- `reader::runs::block_at` meets its contract: the ID at byte 4, split.
 -- Assumes nothing.
-use mathlib.Core.Path.{_≡_, refl, sym, ap, ap₂, _∙_}
+use mathlib.Core.Path.{ap, ap₂, _∙_}
 use Prim.Native.Nat.{ℕ}
 use Rattle.frame.specs.Frame.{numberOf, revisionOf}
 use borrow.Author.Needs.{needs}

@@ -1,29 +1,25 @@
 -- `reader::runs::feed_on` meets its contract: from `feed`'s numbers to the run and the report.
 -- Assumes nothing.
-use mathlib.Core.Path.{_≡_, refl, sym, ap, ap₂, _∙_}
+use mathlib.Core.Path.{_≡_, sym, ap, ap₂, _∙_}
 use mathlib.Core.Bool.{_&&_}
-use mathlib.Core.List.{List, _++_}
+use mathlib.Core.List.{List}
 use mathlib.Core.Option.{Option, none, some}
-use Prim.Native.Nat.{ℕ, _+_, _-_, _≤_, min}
+use Prim.Native.Nat.{ℕ, _-_, _≤_, min}
 use native.Mathlib.Omega.{arith}
 use lib.ListN.{length, drop, length-append, length-drop}
-use Rattle.frame.specs.Feed.{Feeding, feedLit, stop}
-use Rattle.frame.specs.Settle.{finishLit}
-use Rattle.frame.specs.Session.{size}
+use Rattle.frame.specs.Feed.{Feeding}
 use Rattle.feed.specs.Hold.{restOf, numbersOf, holdOf, Good}
 use Rattle.feed.specs.declared.Fed.{Fed}
 use Rattle.feed.proofs.Literally.{rest-length}
 use Rattle.reader.specs.State.{limit, sound}
-use Rattle.reader.specs.Said.{Report, Said, took, ended, found}
-use Rattle.reader.specs.Refusals.{longHold, feedRefusal, finishRefusal}
-use Rattle.reader.specs.Calls.{reported, reportIf, front, finishSaid, phaseAfter, runOn, withRun, feedingOf, feedingBy, finishingOf, finishingBy}
+use Rattle.reader.specs.Said.{Report, took}
+use Rattle.reader.specs.Refusals.{longHold, feedRefusal}
+use Rattle.reader.specs.Calls.{reported, reportIf, front, runOn, withRun, feedingOf}
 use Rattle.reader.specs.Code.{reportAt}
-use Rattle.reader.specs.declared.Phase.{Phase}
 use Rattle.reader.specs.declared.Phase.the-variants as phase
 use Rattle.reader.specs.declared.Run.{Run}
-use Rattle.reader.specs.declared.State.{State}
 use Rattle.reader.proofs.Laws.{passes, Facts, with-hold}
-use Rattle.reader.proofs.Feeding.{Whole, WholeIf, fed-whole, end-whole, none-if, some-if, whole-some, run-is, report-is, Few, fed-few, end-few, same-outcome}
+use Rattle.reader.proofs.Feeding.{WholeIf, fed-whole, none-if, some-if, whole-some, run-is, report-is, Few, fed-few, same-outcome}
 use borrow.Author.Needs.{needs}
 use Rattle.reader.proofs.runs.feed_on.Statement.{statement}
 use Rattle.reader.proofs.runs.feed_on.Tie as tie

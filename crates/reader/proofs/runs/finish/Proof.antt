@@ -1,6 +1,6 @@
 -- `reader::runs::finish` meets its contract: refused, or done.
 -- Assumes nothing.
-use mathlib.Core.Path.{_≡_, refl, sym, ap, ap₂, _∙_}
+use mathlib.Core.Path.{sym, ap, _∙_}
 use Rattle.record.specs.Answer.{numberFor}
 use Rattle.reader.specs.Said.{refusalOf}
 use Rattle.reader.specs.Refusals.{finishRefusal}

@@ -1,29 +1,26 @@
 -- `reader::runs::finish_on` meets its contract: from `finish`'s numbers to the run, the report or the end.
 -- Assumes nothing.
-use mathlib.Core.Path.{_≡_, refl, sym, ap, ap₂, _∙_}
+use mathlib.Core.Path.{_≡_, sym, ap, _∙_}
 use mathlib.Core.Bool.{_&&_}
-use mathlib.Core.List.{List, _++_}
+use mathlib.Core.List.{List}
 use mathlib.Core.Option.{Option, none, some}
-use Prim.Native.Nat.{ℕ, _+_, _-_, _≤_, min}
+use Prim.Native.Nat.{ℕ, _+_, _-_, _≤_}
 use native.Mathlib.Omega.{arith}
 use lib.ListN.{length, drop, length-append, length-drop}
-use Rattle.frame.specs.Feed.{Feeding, feedLit, stop}
-use Rattle.frame.specs.Settle.{finishLit}
-use Rattle.frame.specs.Session.{size}
-use Rattle.feed.specs.Hold.{restOf, numbersOf, holdOf, Good}
+use Rattle.frame.specs.Feed.{Feeding}
+use Rattle.feed.specs.Hold.{restOf, numbersOf, holdOf}
 use Rattle.feed.specs.declared.Fed.{Fed}
 use Rattle.feed.proofs.Literally.{rest-length}
-use Rattle.reader.specs.State.{limit, sound}
-use Rattle.reader.specs.Said.{Report, Said, took, ended, found}
-use Rattle.reader.specs.Refusals.{longHold, feedRefusal, finishRefusal}
-use Rattle.reader.specs.Calls.{reported, reportIf, front, finishSaid, phaseAfter, runOn, withRun, feedingOf, feedingBy, finishingOf, finishingBy}
+use Rattle.reader.specs.State.{sound}
+use Rattle.reader.specs.Said.{ended, found}
+use Rattle.reader.specs.Refusals.{longHold, finishRefusal}
+use Rattle.reader.specs.Calls.{reported, front, finishSaid, phaseAfter, runOn, withRun, finishingOf}
 use Rattle.reader.specs.Code.{runBy, reportAt}
 use Rattle.reader.specs.declared.Phase.{Phase}
 use Rattle.reader.specs.declared.Phase.the-variants as phase
 use Rattle.reader.specs.declared.Run.{Run}
-use Rattle.reader.specs.declared.State.{State}
 use Rattle.reader.proofs.Laws.{passes, Facts, with-hold}
-use Rattle.reader.proofs.Feeding.{Whole, WholeIf, fed-whole, end-whole, none-if, some-if, whole-some, run-is, report-is, Few, fed-few, end-few, same-outcome}
+use Rattle.reader.proofs.Feeding.{WholeIf, end-whole, none-if, some-if, whole-some, run-is, report-is, Few, end-few, same-outcome}
 use borrow.Author.Needs.{needs}
 use Rattle.reader.proofs.runs.finish_on.Statement.{statement}
 use Rattle.reader.proofs.runs.finish_on.Tie as tie

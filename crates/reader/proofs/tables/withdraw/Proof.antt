@@ -1,6 +1,6 @@
 -- `reader::tables::withdraw` meets its contract.
 -- Assumes nothing.
-use mathlib.Core.Path.{_≡_, refl, sym, ap, ap₂, _∙_}
+use mathlib.Core.Path.{sym, ap, _∙_}
 use mathlib.Core.List.{[]}
 use Rattle.record.specs.Answer.{numberFor}
 use Rattle.reader.specs.Said.{refusalOf}

@@ -1,6 +1,6 @@
 -- `record::bits::bits_at` meets its contract: the size is 1, 2, 4 or 8, or there is no such type.
 -- Assumes nothing.
-use mathlib.Core.Path.{_≡_, refl, sym, ap, _∙_}
+use mathlib.Core.Path.{refl, sym, _∙_}
 use native.Mathlib.Omega.{arith}
 use Rattle.wire.specs.Little.{littleAt}
 use Rattle.record.proofs.Types.{no-size}

@@ -1,6 +1,5 @@
 -- `record::bits::is_do_not_use` meets its contract: each arm is its entry of `markTests`.
 -- Assumes nothing.
-use mathlib.Core.Path.{_≡_, refl, sym, ap, _∙_}
 use native.Mathlib.Omega.{arith}
 use Rattle.record.specs.Bits.{isDoNotUse}
 use Rattle.record.proofs.Types.{mark-1, mark-3-f4, mark-3-f8, mark-4, unmarked}

@@ -1,6 +1,6 @@
 -- `record::bits::read_as` meets its contract: each arm is its entry of `readings`.
 -- Assumes nothing.
-use mathlib.Core.Path.{_≡_, refl, sym, ap, _∙_}
+use mathlib.Core.Path.{ap, _∙_}
 use mir.Syntax.{w64}
 use mir.ValLaws.{toZ-ofZ}
 use lib.IntN.{ℤ}
@@ -8,7 +8,7 @@ use native.Mathlib.Omega.{arith}
 use Rattle.table.specs.Types.{sizeOf}
 use Rattle.record.specs.declared.Value.the-variants.{Signed}
 use Rattle.record.specs.declared.Answer.the-variants.{Field}
-use Rattle.record.specs.Answer.{signed, Answers, caseFor}
+use Rattle.record.specs.Answer.{signed, caseFor}
 use Rattle.record.specs.Bits.{readAs}
 use Rattle.record.proofs.Types.{plain}
 use borrow.Author.Needs.{needs}

@@ -1,6 +1,6 @@
 -- `record::bits::value` meets its contract: marked or not.
 -- Assumes nothing.
-use mathlib.Core.Path.{_≡_, refl, sym, ap, _∙_}
+use mathlib.Core.Path.{sym, _∙_}
 use Rattle.record.proofs.Fields.{marked, not-marked}
 use borrow.Author.Needs.{needs}
 use Rattle.record.proofs.bits.value.Statement.{statement}

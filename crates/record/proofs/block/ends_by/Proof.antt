@@ -1,6 +1,5 @@
 -- `record::block::ends_by` meets its contract.
 -- Assumes nothing.
-use mathlib.Core.Path.{_≡_, refl, sym, ap, _∙_}
 use borrow.Author.Needs.{needs}
 use Rattle.record.proofs.block.ends_by.Statement.{statement}
 use Rattle.record.proofs.block.ends_by.Tie as tie

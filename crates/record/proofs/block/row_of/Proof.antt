@@ -1,7 +1,6 @@
 -- `record::block::row_of` meets its contract: each return is one law of `seen`.
 -- Assumes nothing.
-use mathlib.Core.Path.{_≡_, refl, sym, ap, _∙_}
-use native.Mathlib.Omega.{arith}
+use mathlib.Core.Path.{_≡_, sym, _∙_}
 use borrow.Author.Tests.{not-true, not-false}
 use mathlib.Core.Bool.{true}
 use Rattle.frame.specs.Frame.{wholeFrame}

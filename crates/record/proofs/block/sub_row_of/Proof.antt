@@ -1,7 +1,6 @@
 -- `record::block::sub_row_of` meets its contract: each return is one law of `seenSub`.
 -- Assumes nothing.
 use native.Mathlib.Omega.{arith}
-use borrow.Author.Tests.{not-true, not-false}
 use Rattle.record.proofs.Blocks.{fine-at, sub-refused, sub-none, sub-past, sub-at}
 use borrow.Author.Needs.{needs}
 use Rattle.record.proofs.block.sub_row_of.Statement.{statement}

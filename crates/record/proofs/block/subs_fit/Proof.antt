@@ -1,7 +1,6 @@
 -- `record::block::subs_fit` meets its contract: without sub-fields there is nothing to test.
 -- Assumes nothing.
 use native.Mathlib.Omega.{arith}
-use borrow.Author.Tests.{not-true, not-false}
 use Rattle.record.proofs.Parts.{small}
 use Rattle.record.proofs.Blocks.{subs-none, subs-some}
 use borrow.Author.Needs.{needs}

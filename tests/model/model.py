@@ -1,0 +1,860 @@
+"""An independent model of the SBF reader of document 01.
+
+Written from the documents alone, by someone who had seen neither the code nor
+its definitions: document 01 says what every call answers, docs/REPLAY.md the
+text language at the end of this file.  Each part names the sentence it
+follows.  Choices between readings are in CHOICES.md.
+
+Run as a program it behaves like `replay`: python3 model.py < script
+"""
+
+import binascii
+import functools
+import re
+import struct
+import sys
+from collections import namedtuple
+
+# ------------------------------------------------------------------ the CRC
+# "polynomial x^16+x^12+x^5+1, high bit first, start 0, nothing reflected, no
+# final xor".  binascii.crc_hqx is that CRC; crc_plain is the sentence itself.
+
+
+def crc(data):
+    return binascii.crc_hqx(data, 0)
+
+
+def crc_plain(data):
+    register = 0
+    for byte in data:
+        register ^= byte << 8
+        for _ in range(8):
+            top = register & 0x8000
+            register = (register << 1) & 0xFFFF
+            if top:
+                register ^= 0x1021
+    return register
+
+
+# ----------------------------------------------------------------- a frame
+
+
+def length_allowed(length):
+    """ "L is a multiple of 4 and at least 8" """
+    return length % 4 == 0 and length >= 8
+
+
+def length_field(data, place):
+    """ "at p+6 the Length L", 16 bits, little-endian """
+    return data[place + 6] | data[place + 7] << 8
+
+
+def crc_right(data, place, length):
+    """ "the CRC field equals the CRC of the bytes from p+4 to p+L-1" """
+    field = data[place + 2] | data[place + 3] << 8
+    return field == crc(data[place + 4:place + length])
+
+
+def frame_at(data, place):
+    """The length of the frame that stands at `place` of the run `data`, the
+    run's end being the end of data; 0 if none stands there ("A frame stands
+    at place p of a run when all of this holds")."""
+    if place + 8 > len(data):
+        return 0
+    if data[place] != 0x24 or data[place + 1] != 0x40:
+        return 0
+    length = length_field(data, place)
+    if not length_allowed(length) or place + length > len(data):
+        return 0
+    return length if crc_right(data, place, length) else 0
+
+
+def block_of(data, place):
+    """Number, revision and length of the frame at `place`: "The low
+    thirteen bits of the ID are the block number, the top three its
+    revision." """
+    ident = data[place + 4] | data[place + 5] << 8
+    return ident % 8192, ident // 8192, length_field(data, place)
+
+
+# ---------------------------------------------------------- reading a run
+# "start at place 0. If a frame stands at the place, it is a block and reading
+# goes on at p+L. Otherwise that one byte is skipped."
+
+
+def read_run(data):
+    """The whole run at once: (list of (place, number, revision, length),
+    bytes skipped)."""
+    place, skipped, blocks = 0, 0, []
+    while place < len(data):
+        length = frame_at(data, place)
+        if length:
+            blocks.append((place,) + block_of(data, place))
+            place += length
+        else:
+            skipped += 1
+            place += 1
+    return blocks, skipped
+
+
+def decided(data, place):
+    """ "While a run is fed, a place is decided once it has a wrong sync byte,
+    or eight bytes with a length not allowed, or all its L bytes, and not
+    before."  None: not decided by these bytes; 0: skipped; L: a block."""
+    have = len(data) - place
+    if have < 1:
+        return None
+    if data[place] != 0x24:
+        return 0
+    if have < 2:
+        return None
+    if data[place + 1] != 0x40:
+        return 0
+    if have < 8:
+        return None
+    length = length_field(data, place)
+    if not length_allowed(length):
+        return 0
+    if have < length:
+        return None
+    return length if crc_right(data, place, length) else 0
+
+
+def feed_plain(held, piece):
+    """ "takes bytes one at a time until a block is decided, the piece is
+    spent" (the caller has cut the piece at the run's limit).  Answers (bytes
+    skipped, bytes taken, length of the block or 0).  Literal; feed_fast is
+    compared with it in the self-test."""
+    data, place, took = bytearray(held), 0, 0
+    while True:
+        length = decided(data, place)
+        if length is None:
+            if took == len(piece):
+                return place, took, 0
+            data.append(piece[took])
+            took += 1
+        elif length == 0:
+            place += 1
+        else:
+            return place, took, length
+
+
+def bytes_to_decide(data, place):
+    """How many bytes of data, counted from its start, must be there before
+    `place` (which holds 0x24) is decided, and the block's length or 0.  More
+    than len(data) bytes: not decided within data."""
+    end = len(data)
+    if place + 2 > end:
+        return place + 2, 0
+    if data[place + 1] != 0x40:
+        return place + 2, 0
+    if place + 8 > end:
+        return place + 8, 0
+    length = length_field(data, place)
+    if not length_allowed(length):
+        return place + 8, 0
+    if place + length > end or not crc_right(data, place, length):
+        return place + length, 0
+    return place + length, length
+
+
+def feed_fast(held, piece):
+    """The same answer as feed_plain.  Places are decided in order, so when
+    place p is decided the bytes taken are the most that any place up to p
+    has needed, and never fewer than those held."""
+    data = bytes(held) + bytes(piece)
+    place, seen, end = 0, len(held), len(data)
+    while place < end:
+        if data[place] != 0x24:
+            stop = data.find(b"\x24", place)
+            place = end if stop < 0 else stop
+            seen = max(seen, place)
+            continue
+        need, length = bytes_to_decide(data, place)
+        if need > end:
+            break
+        seen = max(seen, need)
+        if length:
+            return place, seen - len(held), length
+        place += 1
+    return place, len(piece), 0
+
+
+def finish_scan(data):
+    """ "When the run is finished, a header whose length passes the end is no
+    frame, so its bytes are read on one by one."  (skipped, length or 0)"""
+    place = 0
+    while place < len(data):
+        if data[place] != 0x24:
+            stop = data.find(b"\x24", place)
+            place = len(data) if stop < 0 else stop
+            continue
+        length = frame_at(data, place)
+        if length:
+            return place, length
+        place += 1
+    return place, 0
+
+
+# ---------------------------------------------------------------- the state
+# "State goes in and comes back by value."  force and waits are the lengths of
+# the tables, 0 for none; stands the length of the standing block, 0 for none.
+
+CLOSED, FEEDING, FINISHING = 0, 1, 2
+RUN_LIMIT = 4294967295
+HOLD_LEAST, STORE_LEAST, HELD_MOST, TABLE_MOST = 65536, 8192, 65532, 8192
+
+State = namedtuple(
+    "State", "phase force waits held stands taken blocks skipped")
+NEW_READER = State(CLOSED, 0, 0, 0, 0, 0, 0, 0)
+
+
+def refused(number, state):
+    """ "A refusal returns its number and the old state and stores
+    nothing." """
+    return ("refused", number), state
+
+
+def spoiled(state):
+    """Refusal 1, the part about the state, in the words of the table."""
+    return (state.held > HELD_MOST
+            or state.held > state.taken
+            or state.stands > state.held
+            or state.force > TABLE_MOST or state.waits > TABLE_MOST
+            or state.taken > RUN_LIMIT
+            or state.blocks > state.taken or state.skipped > state.taken)
+
+
+def fault_one(state, hold=None, force=None, waiting=None):
+    """Refusal 1: "a lent buffer is too short; or the state has ...", and
+    "Refusal 1 looks only at what that call is lent." """
+    if hold is not None and len(hold) < HOLD_LEAST:
+        return True
+    if force is not None and len(force) < STORE_LEAST:
+        return True
+    if waiting is not None and len(waiting) < STORE_LEAST:
+        return True
+    return spoiled(state)
+
+
+# ------------------------------------------------------------ the block table
+# "A file of T bytes, 20 to 8,192: field rows of 4 bytes, block rows of 8,
+# then a trailer of 12 that points back."
+
+Field = namedtuple("Field", "offset type first mark")
+Row = namedtuple("Row", "number highest body subs")
+Table = namedtuple("Table", "version rows")
+
+# "Types and sizes: 1 u1 1; 2 u2 2; 3 u4 4; 4 u8 8; 5 i1 1; ..."
+SIZES = {1: 1, 2: 2, 3: 4, 4: 8, 5: 1, 6: 2, 7: 4, 8: 8, 9: 4, 10: 8}
+UNSIGNED, SIGNED, FLOAT = (1, 2, 3, 4), (5, 6, 7, 8), (9, 10)
+# "Marks: 0 none; 1 all ones (unsigned); 2 zero (unsigned); 3 minus 2 x 10^10
+# (float ...); 4 the least value (signed)."
+MARKED = {0: UNSIGNED + SIGNED + FLOAT, 1: UNSIGNED, 2: UNSIGNED, 3: FLOAT,
+          4: SIGNED}
+
+
+def fields_right(fields, least, highest):
+    """ "Offsets in a body are at least 14; within body or sub-fields no field
+    starts before the previous one ends. First revisions do not fall along the
+    rows of a body or of sub-fields and are at most the block's highest."
+    "An unlisted type or mark, or a mark on another kind of type, breaks the
+    rules." """
+    end, revision = least, 0
+    for field in fields:
+        if field.type not in SIZES or field.mark not in MARKED:
+            return False
+        if field.type not in MARKED[field.mark]:
+            return False
+        if field.offset < end or field.first < revision:
+            return False
+        if field.first > highest:
+            return False
+        end = field.offset + SIZES[field.type]
+        revision = field.first
+    return True
+
+
+def row_right(row):
+    """The rules of one block's rows."""
+    if row.number > 8191 or row.highest > 7:
+        return False
+    if not fields_right(row.body, 14, row.highest):
+        return False
+    if not fields_right(row.subs, 0, row.highest):
+        return False
+    # "If there are sub-fields, the body is exactly two u1 rows at 14 and 15
+    # (N and SBLength), first revision 0, mark 0"
+    if row.subs and row.body != (Field(14, 1, 0, 0), Field(15, 1, 0, 0)):
+        return False
+    return True
+
+
+def block_rows(raw, fields):
+    """ "Block row: number u2, 0 to 8,191, strictly rising; highest revision
+    u1, 0 to 7; body field count u1; index of the first field row u2;
+    sub-field count u1; a zero byte."  None if a rule is broken."""
+    rows, before, used = [], -1, 0
+    for at in range(0, len(raw), 8):
+        number, highest, bodies, first, subs, zero = struct.unpack_from(
+            "<HBBHBB", raw, at)
+        # "The first index is the sum of all counts before it"
+        if number <= before or zero != 0 or first != used:
+            return None
+        if used + bodies + subs > len(fields):
+            return None
+        # "A block's body rows stand first, then its sub-field rows."
+        middle = used + bodies
+        row = Row(number, highest, tuple(fields[used:middle]),
+                  tuple(fields[middle:middle + subs]))
+        if not row_right(row):
+            return None
+        rows.append(row)
+        before, used = number, middle + subs
+    # "all counts together use every field row"
+    return tuple(rows) if used == len(fields) else None
+
+
+@functools.lru_cache(maxsize=64)
+def read_table(data):
+    """The table in these bytes, or None if it breaks a table rule."""
+    total = len(data)
+    if not 20 <= total <= 8192:
+        return None
+    # "Trailer: version u2; count R of block rows u2, at least 1; distance from
+    # the file's end back to the first block row u2, which is 12 + 8R; distance
+    # back to the first field row u2, which is T; CRC u2, as above, of the T-4
+    # bytes before it; the bytes 0x42 0x54."
+    version, count, to_blocks, to_fields, check = struct.unpack_from(
+        "<5H", data, total - 12)
+    if count < 1 or to_blocks != 12 + 8 * count or to_fields != total:
+        return None
+    if check != crc(data[:total - 4]) or data[total - 2:] != b"\x42\x54":
+        return None
+    first_block = total - to_blocks
+    if first_block < 0 or first_block % 4 != 0:
+        return None
+    fields = [Field(*data[at:at + 4]) for at in range(0, first_block, 4)]
+    rows = block_rows(data[first_block:total - 12], fields)
+    return None if rows is None else Table(version, rows)
+
+
+# ------------------------------------------------------------------ the calls
+# Each takes the state and the lent buffers and answers (answer, new state).
+# A buffer is a bytearray or a writable memoryview of one.
+
+
+def call_open(state, force, waiting):
+    """Open; order of refusals 1, 2, 5, 4."""
+    if fault_one(state, force=force, waiting=waiting):
+        return refused(1, state)
+    if state.phase != CLOSED:
+        return refused(2, state)
+    if state.waits == 0 and state.force == 0:
+        return refused(5, state)
+    length = state.waits or state.force
+    source = waiting if state.waits else force
+    raw = bytes(source[:length])
+    table = read_table(raw)
+    if table is None:
+        return refused(4, state)
+    # "if a table waits, its bytes are copied over the start of the in-force
+    # store and nothing waits. Counts become zero, the hold counts as empty.
+    # Answers the version in force."
+    force[:length] = raw
+    return ("opened", table.version), State(FEEDING, length, 0, 0, 0, 0, 0, 0)
+
+
+def report(state, hold, held, phase, skipped, length):
+    """A block at the start of `held` is reported: "the held bytes, a standing
+    block first, begin at offset 0 of the hold"; place is the count of bytes
+    of the run before it."""
+    hold[:len(held)] = held
+    after = state._replace(
+        phase=phase, held=len(held), stands=length,
+        blocks=state.blocks + 1, skipped=state.skipped + skipped)
+    place = after.taken - after.held
+    return ("block", place) + block_of(held, 0), after
+
+
+def call_feed(state, hold, piece):
+    """Feed; order of refusals 1, 2, 3."""
+    if fault_one(state, hold=hold):
+        return refused(1, state)
+    if state.phase != FEEDING:
+        return refused(2, state)
+    # "drops the block last reported"
+    held = bytes(hold[state.stands:state.held])
+    # "the piece is spent or the run has 4,294,967,295 bytes"
+    room = RUN_LIMIT - state.taken
+    skipped, took, length = feed_fast(held, piece[:room])
+    # "the run has 4,294,967,295 bytes, the held bytes give no block and the
+    # piece is not empty"
+    if room == 0 and length == 0 and len(piece) > 0:
+        return refused(3, state)
+    taken = state._replace(taken=state.taken + took)
+    left = (held + bytes(piece[:took]))[skipped:]
+    if length:
+        answer, after = report(taken, hold, left, FEEDING, skipped, length)
+        return ("fed", took) + answer, after
+    # "one that answers More has decided all it can"
+    hold[:len(left)] = left
+    return ("fed", took, "more"), taken._replace(
+        held=len(left), stands=0, skipped=state.skipped + skipped)
+
+
+def call_finish(state, hold):
+    """Finish; order of refusals 1, 2."""
+    if fault_one(state, hold=hold):
+        return refused(1, state)
+    if state.phase == CLOSED:
+        return refused(2, state)
+    # "drops the block last reported, then answers Block, or End (bytes,
+    # blocks, skipped bytes), which closes the run"
+    held = bytes(hold[state.stands:state.held])
+    skipped, length = finish_scan(held)
+    if length:
+        return report(state, hold, held[skipped:], FINISHING, skipped, length)
+    after = state._replace(phase=CLOSED, held=0, stands=0,
+                           skipped=state.skipped + skipped)
+    return ("end", after.taken, after.blocks, after.skipped), after
+
+
+def call_bytes(state, hold):
+    """Bytes: "the block just reported, handed back as a part of the hold
+    itself; an empty part if none stands."  Refusal 1 only."""
+    if fault_one(state, hold=hold):
+        return refused(1, state)
+    return ("part", bytes(hold[:state.stands])), state
+
+
+def call_stage(state, waiting, table):
+    """Stage: "checks a table and copies it to the start of the waiting store,
+    replacing any that waits; answers its version".  Refusals 1, 4."""
+    if fault_one(state, waiting=waiting):
+        return refused(1, state)
+    read = read_table(bytes(table))
+    if read is None:
+        return refused(4, state)
+    waiting[:len(table)] = table
+    return ("staged", read.version), state._replace(waits=len(table))
+
+
+def call_withdraw(state):
+    """Withdraw: "nothing waits any more; answers whether one did".  It is
+    lent nothing, so refusal 1 looks at the state alone."""
+    if fault_one(state):
+        return refused(1, state)
+    return ("withdrawn", 1 if state.waits else 0), state._replace(waits=0)
+
+
+# ---------------------------------------------------------- the record calls
+# "Record calls 1, 5, 4, 10, 6, 7, 8, 9"
+
+
+def carried(field, revision):
+    """ "A revision carries a field when the field's first revision is not
+    above it." """
+    return field.first <= revision
+
+
+def ends_past(fields, revision, limit):
+    """Does a field that the revision carries end past the limit?"""
+    return any(carried(f, revision) and f.offset + SIZES[f.type] > limit
+               for f in fields)
+
+
+def layout_fault(row, data):
+    """Refusals 7 and 8, in this order, or 0."""
+    _, revision, length = block_of(data, 0)
+    # "a body field that its revision carries ends past L, or L is below 14"
+    if length < 14 or ends_past(row.body, revision, length):
+        return 7
+    # "the block's row has sub-fields, and either N is over 0 and a carried
+    # sub-field ends past SBLength, or 16 + N x SBLength is over L"
+    if row.subs:
+        count, size = data[14], data[15]
+        if count > 0 and ends_past(row.subs, revision, size):
+            return 8
+        if 16 + count * size > length:
+            return 8
+    return 0
+
+
+def row_for(state, force, data):
+    """(refusal 1 to 8 and 10, or 0; the block's row)."""
+    if fault_one(state, force=force):
+        return 1, None
+    if state.force == 0:
+        return 5, None
+    table = read_table(bytes(force[:state.force]))
+    if table is None:
+        return 4, None
+    # "the bytes given to a record call are not one whole frame"
+    if len(data) == 0 or frame_at(data, 0) != len(data):
+        return 10, None
+    number = block_of(data, 0)[0]
+    for row in table.rows:
+        if row.number == number:
+            return layout_fault(row, data), row
+    return 6, None
+
+
+def marked(bits, kind, mark):
+    """Is this value the field's Do-Not-Use value?  "Do-Not-Use is told by
+    bits." """
+    width = 8 * SIZES[kind]
+    if mark == 1:
+        return bits == (1 << width) - 1
+    if mark == 2:
+        return bits == 0
+    if mark == 3:
+        return bits == (0xD09502F9 if width == 32 else 0xC212A05F20000000)
+    if mark == 4:
+        return bits == 1 << (width - 1)
+    return False
+
+
+def value(data, at, kind, mark):
+    """The value of the field at `at`: "unsigned, signed, single float, double
+    float, Do-Not-Use"; floats are given by their bits."""
+    size = SIZES[kind]
+    bits = int.from_bytes(data[at:at + size], "little")
+    if marked(bits, kind, mark):
+        return ("do-not-use",)
+    if kind in UNSIGNED:
+        return ("unsigned", bits)
+    if kind in SIGNED:
+        return ("signed", bits - (bits >> (8 * size - 1) << (8 * size)))
+    return ("single" if kind == 9 else "double", bits)
+
+
+def answer_field(fields, index, data, base):
+    """A field by number: refusal 9, "not in this revision" or its value."""
+    if index >= len(fields):
+        return ("refused", 9)
+    field = fields[index]
+    if not carried(field, block_of(data, 0)[1]):
+        return ("not-in-this-revision",)
+    return value(data, base + field.offset, field.type, field.mark)
+
+
+def call_body(state, force, index, data):
+    fault, row = row_for(state, force, data)
+    if fault:
+        return refused(fault, state)
+    return answer_field(row.body, index, data, 0), state
+
+
+def call_sub(state, force, block, index, data):
+    fault, row = row_for(state, force, data)
+    if fault:
+        return refused(fault, state)
+    if not row.subs or block >= data[14]:
+        return refused(9, state)
+    return answer_field(row.subs, index, data, 16 + block * data[15]), state
+
+
+def call_subbytes(state, force, block, data):
+    """ "a sub-block's bytes as a part that starts inside the block" """
+    fault, row = row_for(state, force, data)
+    if fault:
+        return refused(fault, state)
+    if not row.subs or block >= data[14]:
+        return refused(9, state)
+    start = 16 + block * data[15]
+    return ("part", bytes(data[start:start + data[15]])), state
+
+
+def call_time(state, data, at, kind):
+    """ "TOW (u4 at 8) and WNc (u2 at 12) stand in every block with mark 1";
+    "read no table and give only 1, 10 and, for L below 14, 7" """
+    if fault_one(state):
+        return refused(1, state)
+    if len(data) == 0 or frame_at(data, 0) != len(data):
+        return refused(10, state)
+    if len(data) < 14:
+        return refused(7, state)
+    return value(data, at, kind, 1), state
+
+
+def call_tow(state, data):
+    return call_time(state, data, 8, 3)
+
+
+def call_wnc(state, data):
+    return call_time(state, data, 12, 2)
+
+
+# -------------------------------------------------------------- making tables
+
+
+def make_table(version, rows):
+    """The file of a table with these rows, valid if the rows are."""
+    fields, blocks, used = b"", b"", 0
+    for row in rows:
+        both = list(row.body) + list(row.subs)
+        fields += b"".join(bytes(field) for field in both)
+        blocks += struct.pack("<HBBHBB", row.number, row.highest,
+                              len(row.body), used, len(row.subs), 0)
+        used += len(both)
+    total = len(fields) + len(blocks) + 12
+    head = fields + blocks + struct.pack(
+        "<4H", version, len(rows), 12 + len(blocks), total % 65536)
+    return head + struct.pack("<H", crc(head)) + b"\x42\x54"
+
+
+# --------------------------------------------------------------- rows shipped
+# "Rows shipped", with document 001 for PVTCartesian and BaseVectorCart.
+
+U1, U2, U4, I2, F4, F8 = 1, 2, 3, 6, 9, 10
+
+
+def packed(start, cells):
+    """Rows (type, mark, first revision) without gaps from `start`."""
+    rows, at = [], start
+    for kind, mark, first in cells:
+        rows.append(Field(at, kind, first, mark))
+        at += SIZES[kind]
+    return tuple(rows)
+
+
+def pvt_cartesian():
+    return packed(14, [
+        (U1, 0, 0), (U1, 0, 0),                          # Mode, Error
+        (F8, 3, 0), (F8, 3, 0), (F8, 3, 0),              # X, Y, Z
+        (F4, 3, 0),                                      # Undulation
+        (F4, 3, 0), (F4, 3, 0), (F4, 3, 0),              # Vx, Vy, Vz
+        (F4, 3, 0), (F8, 3, 0), (F4, 3, 0),              # COG, Bias, Drift
+        (U1, 1, 0), (U1, 1, 0), (U1, 1, 0),              # TimeSystem..NrSV
+        (U1, 2, 0), (U2, 1, 0), (U2, 1, 0),              # WACorr, RefID, Age
+        (U4, 2, 0), (U1, 2, 0),                          # SignalInfo, Alert
+        (U1, 2, 1), (U2, 2, 1),                          # NrBases, PPPInfo
+        (U2, 1, 2), (U2, 1, 2), (U2, 1, 2), (U1, 0, 2)])  # Latency..Misc
+
+
+def base_vector_sub():
+    return packed(0, [
+        (U1, 0, 0), (U1, 0, 0), (U1, 0, 0), (U1, 0, 0),  # nrSV..Misc
+        (F8, 3, 0), (F8, 3, 0), (F8, 3, 0),              # DeltaX, Y, Z
+        (F4, 3, 0), (F4, 3, 0), (F4, 3, 0),              # DeltaVx, Vy, Vz
+        (U2, 1, 0), (I2, 4, 0), (U2, 0, 0), (U2, 1, 0),  # Azimuth..CorrAge
+        (U4, 2, 0)])                                     # SignalInfo
+
+
+def shipped_rows(reserved=True):
+    """All rows shipped, rising; reserved False leaves AttEuler's Reserved row
+    out (the table of before the release in document 00's story)."""
+    floats = [(F4, 3, 0)]
+    attitude = [Field(14, U1, 0, 1), Field(15, U1, 0, 0), Field(16, U2, 0, 0)]
+    if reserved:
+        attitude.append(Field(18, U2, 0, 0))
+    attitude += packed(20, floats * 6)
+    pair = [(U1, 0, 0), (U1, 0, 0)]
+    event = packed(14, pair + [(F4, 0, 0), (F8, 3, 0), (U2, 0, 1)])
+    return (
+        Row(4006, 2, pvt_cartesian(), ()),
+        Row(4043, 0, packed(14, pair), base_vector_sub()),
+        Row(5906, 0, packed(14, pair + floats * 10), ()),
+        Row(5924, 1, event, ()),
+        Row(5938, 0, tuple(attitude), ()),
+        Row(5939, 0, packed(14, pair + floats * 6), ()),
+        Row(5943, 0, (), ()))
+
+
+def shipped_table(version):
+    return make_table(version, shipped_rows())
+
+
+# ----------------------------------------------------------------- the lister
+
+
+def list_run(data):
+    """What the lister prints for the run `data`."""
+    blocks, skipped = read_run(bytes(data))
+    lines = ["block %d %d %d %d" % block for block in blocks]
+    lines.append("end %d %d %d" % (len(data), len(blocks), skipped))
+    return "".join(line + "\n" for line in lines).encode()
+
+
+# --------------------------------------------------------- the replay language
+
+LINE_MOST = 270000
+NUMBER = re.compile(rb"[0-9]+\Z")
+HEX = re.compile(rb"(?:[0-9a-fA-F]{2})+\Z")
+BUFFERS = {b"hold": "hold", b"force": "force", b"waiting": "waiting"}
+NAMES = {name.encode(): name for name in State._fields}
+# The kinds of the words after each call's own word.
+CALLS = {
+    b"open": "", b"feed": "x", b"finish": "", b"bytes": "", b"stage": "x",
+    b"withdraw": "", b"body": "nx", b"sub": "nnx", b"subbytes": "nx",
+    b"tow": "x", b"wnc": "x", b"poke": "sn", b"put": "bnx", b"size": "bn"}
+WRITERS = (b"open", b"feed", b"finish", b"stage", b"withdraw")
+
+
+class BadLine(Exception):
+    """A line that is no call."""
+
+
+def read_number(word):
+    """Decimal, to 2^64 - 1."""
+    if not NUMBER.match(word):
+        raise BadLine
+    digits = word.lstrip(b"0") or b"0"
+    if len(digits) > 20 or int(digits) > 2 ** 64 - 1:
+        raise BadLine
+    return int(digits)
+
+
+def read_hex(word):
+    """ "bytes in hex, `-` for none" """
+    if word == b"-":
+        return b""
+    if not HEX.match(word):
+        raise BadLine
+    return binascii.unhexlify(word)
+
+
+def read_name(names):
+    def read(word):
+        if word not in names:
+            raise BadLine
+        return names[word]
+    return read
+
+
+READERS = {"n": read_number, "x": read_hex, "s": read_name(NAMES),
+           "b": read_name(BUFFERS)}
+
+
+def read_line(line):
+    """(word, arguments) of a line; BadLine if it is no call."""
+    words = line.split(b" ")
+    kinds = CALLS.get(words[0])
+    if kinds is None or len(words) != 1 + len(kinds):
+        raise BadLine
+    return words[0], [READERS[k](w) for k, w in zip(kinds, words[1:])]
+
+
+class Player:
+    """The bench tool: three buffers, the state, and one line at a time."""
+
+    def __init__(self):
+        self.state = NEW_READER
+        self.buffers = {"hold": bytearray(b"\xA5" * 65536),
+                        "force": bytearray(b"\x5A" * 8192),
+                        "waiting": bytearray(b"\x3C" * 8192)}
+        self.sizes = {}
+        self.seen = {}
+
+    def sum(self, name):
+        """The CRC of a whole buffer; computed anew only if it has changed."""
+        copy, value_then = self.seen.get(name, (None, 0))
+        if copy != self.buffers[name]:
+            copy = bytes(self.buffers[name])
+            value_then = crc(copy)
+            self.seen[name] = copy, value_then
+        return value_then
+
+    def lent(self, name):
+        """ "the next call alone is lent only the first N bytes" """
+        whole = memoryview(self.buffers[name])
+        return whole[:self.sizes.get(name, len(whole))]
+
+    def line(self, line):
+        """Plays one line (without its line feed).  The line printed, or None;
+        BadLine if it is no call."""
+        if len(line) > LINE_MOST:
+            raise BadLine
+        if line == b"" or line.startswith(b"#"):
+            return None
+        word, arguments = read_line(line)
+        if word in (b"poke", b"put", b"size"):
+            getattr(self, word.decode())(*arguments)
+            return None
+        answer = self.call(word, arguments)
+        self.sizes = {}
+        return self.show(word, answer)
+
+    def poke(self, name, number):
+        if name == "phase" and number > 2:
+            raise BadLine
+        self.state = self.state._replace(**{name: number})
+
+    def put(self, name, offset, data):
+        buffer = self.buffers[name]
+        if offset + len(data) > len(buffer):
+            raise BadLine
+        buffer[offset:offset + len(data)] = data
+
+    def size(self, name, number):
+        self.sizes[name] = min(number, len(self.buffers[name]))
+
+    def call(self, word, arguments):
+        """Makes the call with the buffers it is lent; keeps the new state."""
+        lends = {b"open": ("force", "waiting"), b"feed": ("hold",),
+                 b"finish": ("hold",), b"bytes": ("hold",),
+                 b"stage": ("waiting",), b"body": ("force",),
+                 b"sub": ("force",), b"subbytes": ("force",)}
+        function = globals()["call_" + word.decode()]
+        lent = [self.lent(name) for name in lends.get(word, ())]
+        answer, self.state = function(self.state, *lent, *arguments)
+        return answer
+
+    def show(self, word, answer):
+        """ANSWER | state | H F W"""
+        if answer[0] == "part":
+            answer = ("part", len(answer[1]), "%04x" % crc(answer[1]))
+        if word in WRITERS:
+            sums = ["%04x" % self.sum(name)
+                    for name in ("hold", "force", "waiting")]
+        else:
+            sums = ["-", "-", "-"]
+        return "%s | %s | %s" % (" ".join(map(str, answer)),
+                                 " ".join(map(str, self.state)),
+                                 " ".join(sums))
+
+
+def split_lines(script):
+    """ "A last line without a line feed counts." """
+    lines = script.split(b"\n")
+    if lines[-1] == b"":
+        lines.pop()
+    return lines
+
+
+def play_lines(script):
+    """([(line number, line printed)], [number of each bad line])"""
+    player, printed, bad = Player(), [], []
+    for number, line in enumerate(split_lines(script), 1):
+        try:
+            text = player.line(line)
+        except BadLine:
+            bad.append(number)
+            continue
+        if text is not None:
+            printed.append((number, text))
+    return printed, bad
+
+
+def join_play(printed, bad):
+    out = "".join(text + "\n" for _, text in printed)
+    err = "".join("bad line %d\n" % number for number in bad)
+    return out.encode(), err.encode()
+
+
+def play(script):
+    """What replay prints for this script: (stdout bytes, stderr bytes)."""
+    return join_play(*play_lines(script))
+
+
+def main():
+    out, err = play(sys.stdin.buffer.read())
+    sys.stdout.buffer.write(out)
+    sys.stdout.buffer.flush()
+    sys.stderr.buffer.write(err)
+    return 0
+
+
+if __name__ == "__main__":
+    sys.exit(main())
