@@ -1,0 +1,98 @@
+-- What each exported call answers and leaves: the reader's outcome as C has it, and refusal 1 for a state whose phase is none.
+-- Assumes nothing.
+use Prim.Native.Nat.{ℕ, _+_, _*_}
+use mathlib.Core.List.{List, []}
+use mathlib.Core.Option.{Option, none, some}
+use lib.ListN.{length, take, drop}
+use Rattle.record.specs.Answer as field
+use Rattle.record.specs.Block.{subLengthIn}
+use Rattle.reader.specs.declared.State.{State}
+use Rattle.reader.specs.Said.{Said, refused}
+use Rattle.reader.specs.Refusals.{bytesRefusal}
+use Rattle.reader.specs.Calls.{Outcome, openOf, feedOf, finishOf, bytesOf, stageOf, withdrawOf}
+use Rattle.reader.specs.Records.{bodyOf, subOf, subBytesOf, subBytesRefusal, towOf, wncOf}
+use Rattle.capi.specs.declared.CState.{CState}
+use Rattle.capi.specs.declared.CReply.{CReply}
+use Rattle.capi.specs.declared.CField.{CField}
+use Rattle.capi.specs.declared.CPart.{CPart}
+use Rattle.capi.specs.State.{stateOf, stateC}
+use Rattle.capi.specs.Answer.{answerC, fieldC, partC}
+
+-- the reply, and the buffer that the call may write
+pub record Left : Type 0 where
+  pub reply : CReply
+  pub lent : List ℕ
+
+abbrev pub left : CReply → List ℕ → Left
+left r l = record { reply = r; lent = l }
+
+abbrev pub replyC : Said → CState → CReply
+replyC a s = record { state = s; answer = answerC a }
+
+-- ---- the calls that go on with the state
+
+-- a phase that is none: refusal 1, the same state, and nothing stored
+abbrev pub goesOn : (State → Outcome) → CState → List ℕ → Option State → Left
+goesOn call s lent none = left (replyC (refused 1) s) lent
+goesOn call s lent (some t) = left (replyC (call t .said) (stateC (call t .state))) (call t .lent)
+
+unfoldable pub openC : CState → List ℕ → List ℕ → Left
+openC s force wait = goesOn (λ t. openOf t force wait) s force (stateOf s)
+
+unfoldable pub feedC : CState → List ℕ → List ℕ → Left
+feedC s hold piece = goesOn (λ t. feedOf t hold piece) s hold (stateOf s)
+
+unfoldable pub finishC : CState → List ℕ → Left
+finishC s hold = goesOn (λ t. finishOf t hold) s hold (stateOf s)
+
+unfoldable pub stageC : CState → List ℕ → List ℕ → Left
+stageC s wait table = goesOn (λ t. stageOf t wait table) s wait (stateOf s)
+
+-- it is lent nothing
+unfoldable pub withdrawC : CState → Left
+withdrawC s = goesOn withdrawOf s [] (stateOf s)
+
+-- ---- fields
+
+abbrev pub tells : (State → field.Said) → Option State → CField
+tells call none = fieldC (field.refused 1)
+tells call (some t) = fieldC (call t)
+
+unfoldable pub bodyC : CState → List ℕ → List ℕ → ℕ → CField
+bodyC s force block i = tells (λ t. bodyOf t force block i) (stateOf s)
+
+unfoldable pub subC : CState → List ℕ → List ℕ → ℕ → ℕ → CField
+subC s force block k j = tells (λ t. subOf t force block k j) (stateOf s)
+
+unfoldable pub towC : CState → List ℕ → CField
+towC s block = tells (λ t. towOf t block) (stateOf s)
+
+unfoldable pub wncC : CState → List ℕ → CField
+wncC s block = tells (λ t. wncOf t block) (stateOf s)
+
+-- ---- parts
+
+-- the bytes of a part of a buffer
+abbrev pub cut : CPart → List ℕ → List ℕ
+cut p buffer = take (p .length) (drop (p .offset) buffer)
+
+-- the part, and the bytes in it
+pub record Handing : Type 0 where
+  pub part : CPart
+  pub bytes : List ℕ
+
+abbrev pub handing : CPart → List ℕ → Handing
+handing p buffer = record { part = p; bytes = cut p buffer }
+
+-- a call that hands back so many bytes from an offset, or is refused
+abbrev pub hands : (State → Option ℕ) → ℕ → (State → List ℕ) → Option State → Handing
+hands refusal offset bytes none = record { part = partC (some 1) 0 0; bytes = [] }
+hands refusal offset bytes (some t) = record { part = partC (refusal t) offset (length (bytes t)); bytes = bytes t }
+
+unfoldable pub bytesC : CState → List ℕ → Handing
+bytesC s hold = hands (λ t. bytesRefusal t hold) 0 (λ t. bytesOf t hold) (stateOf s)
+
+-- "the slice from 16 + k x SBLength"
+unfoldable pub subBytesC : CState → List ℕ → List ℕ → ℕ → Handing
+subBytesC s force block k =
+    hands (λ t. subBytesRefusal t force block k) (16 + k * subLengthIn block) (λ t. subBytesOf t force block k) (stateOf s)

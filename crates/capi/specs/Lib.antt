@@ -1,0 +1,4 @@
+pub mod State
+pub mod Answer
+pub mod Calls
+pub mod Theorems

@@ -1,0 +1,47 @@
+// Tables that wait, for C: Stage and Withdraw.
+ghost use mathlib.Core.Path.{_≡_};
+ghost use mathlib.Core.List.{[]};
+ghost use Rattle.capi.specs.Calls.{left, stageC, withdrawC};
+use crate::CReply;
+use crate::CState;
+use crate::Known;
+use crate::answers;
+use crate::states;
+
+#[no_mangle]
+pub extern "C" fn alderflute_stage(s: CState, waiting: &mut [u8], table: &[u8]) -> CReply
+    ensures { λ r. ⌜ left r (now (waiting .exit)) ≡ stageC s (now (waiting .entry)) (now (table .entry)) ⌝ }
+{
+    let k = states::state_of(s);
+    match k {
+        Known::Unknown => answers::one(s),
+        Known::State(t) => {
+            let o = reader::tables::stage(t, waiting, table);
+            let a = o.answer;
+            let next = o.state;
+            CReply {
+                state: states::state_c(next),
+                answer: answers::staged_c(a),
+            }
+        }
+    }
+}
+
+#[no_mangle]
+pub extern "C" fn alderflute_withdraw(s: CState) -> CReply
+    ensures { λ r. ⌜ left r [] ≡ withdrawC s ⌝ }
+{
+    let k = states::state_of(s);
+    match k {
+        Known::Unknown => answers::one(s),
+        Known::State(t) => {
+            let o = reader::tables::withdraw(t);
+            let a = o.answer;
+            let next = o.state;
+            CReply {
+                state: states::state_c(next),
+                answer: answers::withdrawn_c(a),
+            }
+        }
+    }
+}

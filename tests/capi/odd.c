@@ -1,0 +1,117 @@
+/* What no script of `replay` can say: states whose phase is none, buffers of length 0 at NULL, and values that are to be 0.
+   Prints each case that fails, and last 'N passed, M failed'. */
+#include "alderflute.h"
+
+extern int printf(const char *form, ...);
+extern int memcmp(const void *a, const void *b, size_t count);
+extern void *memset(void *to, int byte, size_t count);
+
+static uint8_t hold[ALDERFLUTE_HOLD], in_force[ALDERFLUTE_STORE], waiting[ALDERFLUTE_STORE], before[ALDERFLUTE_HOLD];
+static const uint8_t sample[8] = {0x24, 0x40, 0xa9, 0x89, 0, 0, 8, 0};
+/* Document 01's smallest table: version 7, one row, block 0, no fields. */
+static const uint8_t table[20] = {0, 0, 0, 0, 0, 0, 0, 0, 7, 0, 1, 0, 20, 0, 20, 0, 0x59, 0x9c, 0x42, 0x54};
+static unsigned passed, failed;
+
+static void check(int holds, const char *what, uint64_t phase)
+{
+    if (holds) passed++;
+    else failed++, printf("odd: %s, phase %lu\n", what, phase);
+}
+
+static int same(const void *a, const void *b, size_t count) { return memcmp(a, b, count) == 0; }
+
+static int zeros(alderflute_block b, alderflute_end e)
+{
+    return b.place == 0 && b.length == 0 && b.number == 0 && b.revision == 0 && e.bytes == 0 && e.blocks == 0 && e.skipped == 0;
+}
+
+static int untouched(void)
+{
+    memset(before, 0xa5, sizeof before);
+    return same(hold, before, sizeof hold) && same(in_force, before, sizeof in_force) && same(waiting, before, sizeof waiting);
+}
+
+static int refuses(alderflute_reply r, alderflute_state s, uint32_t n)
+{
+    alderflute_answer a = r.answer;
+    return a.refusal == n && a.kind == ALDERFLUTE_REFUSED && same(&r.state, &s, sizeof s) && a.version == 0 && a.waited == 0 &&
+           a.taken == 0 && zeros(a.block, a.end) && untouched();
+}
+
+static int no_field(alderflute_field f, uint32_t n)
+{
+    return f.refusal == n && f.kind == ALDERFLUTE_REFUSED && f.number == 0 && f.signed_number == 0 && f.bits == 0 && untouched();
+}
+
+static int no_part(alderflute_part p, uint32_t n) { return p.refusal == n && p.offset == 0 && p.length == 0 && untouched(); }
+
+/* A phase that is none: refusal 1 from every call, the state as it was, and nothing written. */
+static void unknown(uint64_t phase)
+{
+    alderflute_state s = {phase, 8, 8, 9, 1, 1, 20, 20};
+    check(refuses(alderflute_open(s, in_force, sizeof in_force, waiting, sizeof waiting), s, 1), "open", phase);
+    check(refuses(alderflute_feed(s, hold, sizeof hold, sample, sizeof sample), s, 1), "feed", phase);
+    check(refuses(alderflute_finish(s, hold, sizeof hold), s, 1), "finish", phase);
+    check(refuses(alderflute_stage(s, waiting, sizeof waiting, table, sizeof table), s, 1), "stage", phase);
+    check(refuses(alderflute_withdraw(s), s, 1), "withdraw", phase);
+    check(no_part(alderflute_bytes(s, hold, sizeof hold), 1), "bytes", phase);
+    check(no_part(alderflute_subbytes(s, in_force, sizeof in_force, sample, sizeof sample, 0), 1), "subbytes", phase);
+    check(no_field(alderflute_body(s, in_force, sizeof in_force, sample, sizeof sample, 0), 1), "body", phase);
+    check(no_field(alderflute_sub(s, in_force, sizeof in_force, sample, sizeof sample, 0, 0), 1), "sub", phase);
+    check(no_field(alderflute_tow(s, sample, sizeof sample), 1), "tow", phase);
+    check(no_field(alderflute_wnc(s, sample, sizeof sample), 1), "wnc", phase);
+}
+
+/* Buffers of length 0 at NULL. */
+static void nothing_lent(void)
+{
+    alderflute_state s = alderflute_new();
+    check(refuses(alderflute_open(s, NULL, 0, NULL, 0), s, 1), "open, nothing lent", 0);
+    check(refuses(alderflute_feed(s, NULL, 0, NULL, 0), s, 1), "feed, nothing lent", 0);
+    check(refuses(alderflute_finish(s, NULL, 0), s, 1), "finish, nothing lent", 0);
+    check(refuses(alderflute_stage(s, NULL, 0, NULL, 0), s, 1), "stage, nothing lent", 0);
+    check(refuses(alderflute_stage(s, waiting, sizeof waiting, NULL, 0), s, 4), "stage, an empty table", 0);
+    check(no_part(alderflute_bytes(s, NULL, 0), 1), "bytes, nothing lent", 0);
+    check(no_part(alderflute_subbytes(s, NULL, 0, NULL, 0, 0), 1), "subbytes, nothing lent", 0);
+    check(no_field(alderflute_body(s, NULL, 0, NULL, 0, 0), 1), "body, nothing lent", 0);
+    check(no_field(alderflute_sub(s, NULL, 0, NULL, 0, 0, 0), 1), "sub, nothing lent", 0);
+    check(no_field(alderflute_tow(s, NULL, 0), 10), "tow of nothing", 0);
+    check(no_field(alderflute_wnc(s, NULL, 0), 10), "wnc of nothing", 0);
+}
+
+/* Values that a kind does not have are 0. */
+static void done(void)
+{
+    alderflute_reply r = alderflute_stage(alderflute_new(), waiting, sizeof waiting, table, sizeof table);
+    alderflute_answer a = r.answer;
+    check(a.refusal == 0 && a.kind == ALDERFLUTE_VERSION && a.version == 7 && a.waited == 0 && a.taken == 0 && zeros(a.block, a.end),
+          "stage", 0);
+    a = alderflute_withdraw(r.state).answer;
+    check(a.refusal == 0 && a.kind == ALDERFLUTE_WITHDRAWN && a.version == 0 && a.waited == 1 && a.taken == 0 && zeros(a.block, a.end),
+          "withdraw", 0);
+    r = alderflute_open(r.state, in_force, sizeof in_force, waiting, sizeof waiting), a = r.answer;
+    check(a.refusal == 0 && a.kind == ALDERFLUTE_VERSION && a.version == 7 && a.waited == 0 && a.taken == 0 && zeros(a.block, a.end),
+          "open", 0);
+    r = alderflute_feed(r.state, hold, sizeof hold, sample, sizeof sample), a = r.answer;
+    check(a.refusal == 0 && a.kind == ALDERFLUTE_BLOCK && a.version == 0 && a.waited == 0 && a.taken == 8 && a.block.place == 0 &&
+              a.block.length == 8 && a.block.number == 0 && a.block.revision == 0 && a.end.bytes == 0 && a.end.blocks == 0,
+          "feed, a block", 1);
+    r = alderflute_feed(r.state, hold, sizeof hold, NULL, 0), a = r.answer;
+    check(a.refusal == 0 && a.kind == ALDERFLUTE_MORE && a.version == 0 && a.waited == 0 && a.taken == 0 && zeros(a.block, a.end),
+          "feed, no more", 1);
+    r = alderflute_finish(r.state, hold, sizeof hold), a = r.answer;
+    check(a.refusal == 0 && a.kind == ALDERFLUTE_END && a.version == 0 && a.waited == 0 && a.taken == 0 && a.block.length == 0 &&
+              a.end.bytes == 8 && a.end.blocks == 1 && a.end.skipped == 0 && r.state.phase == ALDERFLUTE_CLOSED,
+          "finish", 1);
+}
+
+int main(void)
+{
+    static const uint64_t phases[] = {3, 4, 255, 256, 65536, 4294967296u, 4294967297u, 9223372036854775808u, (uint64_t)-1};
+    memset(hold, 0xa5, sizeof hold), memset(in_force, 0xa5, sizeof in_force), memset(waiting, 0xa5, sizeof waiting);
+    for (size_t i = 0; i < sizeof phases / sizeof *phases; i++) unknown(phases[i]);
+    nothing_lent();
+    done();
+    printf("%u passed, %u failed\n", passed, failed);
+    return failed != 0;
+}

@@ -1,0 +1,301 @@
+#!/usr/bin/env python3
+"""The C interface: the header as C and as C++, the example, odd states, and scripts played by tests/capi/play.c and by the
+program replay, whose output is to be the same byte for byte. All C is built with the kit's own clang and ld.lld.
+
+test_capi.py         run all cases
+test_capi.py SEED    write the script of one seed to standard output
+"""
+import binascii
+import glob
+import os
+import random
+import re
+import struct
+import subprocess
+import sys
+from concurrent.futures import ThreadPoolExecutor
+
+TOP = os.path.dirname(os.path.dirname(os.path.abspath(__file__)))
+BUILT = os.path.join(TOP, "target", "capi")
+ARCHIVE = os.path.join(TOP, "target", "staticlib", "libcapi.a")
+REPLAY = os.path.join(TOP, "target", "bin", "replay")
+HEADER = os.path.join(TOP, "include", "alderflute.h")
+EXAMPLE = os.path.join(TOP, "samples", "example.c")
+TABLE = os.path.join(TOP, "samples", "shipped-v1.table")
+CFLAGS = ["-Wall", "-Wextra", "-Werror", "-pedantic", "-nostdinc", "-isystem", os.path.join(TOP, "tests", "capi", "include"),
+          "-I" + os.path.join(TOP, "include")]
+SEEDS = range(48)
+
+passed = failed = 0
+
+
+def expect(name, ok, found=""):
+    global passed, failed
+    if ok:
+        passed += 1
+    else:
+        failed += 1
+        print(f"FAILED: {name}" + (f": {found}" if found else ""))
+    return ok
+
+
+def read(path, mode="r"):
+    with open(path, mode, **({} if "b" in mode else {"encoding": "utf-8"})) as f:
+        return f.read()
+
+
+def ran(words, env, data=b""):
+    """Status, standard output and standard error of a command."""
+    try:
+        run = subprocess.run(words, input=data, env=env, cwd=TOP, stdout=subprocess.PIPE, stderr=subprocess.PIPE, timeout=600)
+    except (OSError, subprocess.TimeoutExpired) as error:
+        return 127, b"", str(error).encode()
+    return run.returncode, run.stdout, run.stderr
+
+
+# ---- scripts
+
+def crc(data):
+    return binascii.crc_hqx(data, 0)
+
+
+def block(rng, number, revision, payload):
+    """A whole block with the right CRC; the payload is filled up to a multiple of 4."""
+    tail = struct.pack("<HH", number + 8192 * revision, 8 + len(payload) + -len(payload) % 4) + payload + bytes(-len(payload) % 4)
+    return b"\x24\x40" + struct.pack("<H", crc(tail)) + tail
+
+
+def table(rng, spoiled=0.2):
+    """A small table: fields of any of the ten types, some blocks with sub-blocks; now and then a bit of it is wrong."""
+    fields, rows, start = b"", b"", 0
+    sizes = [0, 1, 2, 4, 8, 1, 2, 4, 8, 4, 8]
+    marks = {1: [0, 1, 2], 2: [0, 1, 2], 3: [0, 1, 2], 4: [0, 1, 2], 9: [0, 3], 10: [0, 3]}
+    for number in sorted(rng.sample(range(8), rng.randrange(4, 9))):
+        highest, bodies, subs = rng.randrange(3), 0, 0
+        if rng.random() < 0.4:
+            fields += bytes([14, 1, 0, 0, 15, 1, 0, 0])
+            bodies, subs, at = 2, rng.randrange(1, 4), 0
+        else:
+            bodies, at = rng.randrange(6), 14
+        first = 0
+        for _ in range(subs or bodies):
+            kind = rng.randrange(1, 11)
+            first = min(highest, first + rng.choice([0, 0, 0, 1]))
+            fields += bytes([at, kind, first, rng.choice(marks.get(kind, [0, 4]))])
+            at += sizes[kind] + rng.choice([0, 0, 1])
+        rows += struct.pack("<HBBHBB", number, highest, bodies, start, subs, 0)
+        start += bodies + subs
+    count = len(rows) // 8
+    out = fields + rows + struct.pack("<HHHH", rng.randrange(65536), count, 12 + 8 * count, len(fields) + len(rows) + 12)
+    out += struct.pack("<H", crc(out)) + b"BT"
+    if rng.random() < spoiled:
+        out = bytearray(out)
+        out[rng.randrange(len(out))] ^= 1 << rng.randrange(8)
+    return bytes(out)
+
+
+EDGES = [b"\xff" * 8, bytes(8), bytes.fromhex("f90295d0"), bytes.fromhex("000000205fa012c2"), bytes.fromhex("0000c07f0100807f"),
+         bytes.fromhex("010000000000f0ff"), bytes.fromhex("0000000000000080"), b"\x80" * 8]
+
+
+def payload(rng):
+    """Bytes of fields: random ones, marks, NaNs; in half of them N and SBLength, mostly of sub-blocks that fit."""
+    out = bytearray(b"".join(rng.choice([rng.randbytes(8), rng.choice(EDGES)]) for _ in range(rng.choice([0, 1, 2, 6, 14, 24, 24, 24]))))
+    if len(out) > 8 and rng.random() < 0.5:
+        out[6], out[7] = rng.choice([0, 1, 2, 2, 2, 3, 9]), rng.choice([0, 4, 13, 24, 32, 52, 52, 52])
+    return bytes(out)
+
+
+def some_block(rng, numbers):
+    number, inside = rng.choice(numbers), payload(rng)
+    if number == 4043 and rng.random() < 0.8:
+        inside = rng.randbytes(6) + b"\x02\x34" + b"".join(rng.choice([rng.randbytes(4), rng.choice(EDGES)[:4]]) for _ in range(26))
+    out = block(rng, number, rng.choice([0, 0, 1, 2, 7]), inside)
+    if rng.random() < 0.04:
+        out = bytearray(out)
+        out[rng.randrange(len(out))] ^= 1 << rng.randrange(8)
+    return bytes(out)
+
+
+NAMES = ["phase", "force", "waits", "held", "stands", "taken", "blocks", "skipped"]
+NUMBERS = [0, 1, 2, 7, 8, 9, 380, 8191, 8192, 8193, 65531, 65532, 65533, 4294967294, 4294967295, 4294967296, 2 ** 63, 2 ** 64 - 1]
+BAD = ["opens", "open ", " open", "feed", "feed 0", "feed 0g", "feed 24 40", "body 0", "body x 24", "poke phase 3", "poke held -1",
+       "poke held 18446744073709551616", "poke nothing 1", "put hold 65535 0000", "put hold 65537 -", "put nowhere 0 00", "size hold",
+       "size nowhere 1", "sub 0 24", "subbytes 24", "open\r", "bytes 1", "withdraw -", "tow", "wnc 2", "feed  24"]
+
+
+def script(seed):
+    """Some hundred lines: calls in and out of turn, spoiled states and buffers, short buffers, and lines that are no calls."""
+    rng = random.Random(seed)
+    shipped = read(TABLE, "rb")
+    numbers = [4006, 4006, 4043, 4043, 4043, 4043, 5906, 5924, 5938, 5939, 5943, 77] if seed % 2 else list(range(8))
+    new = shipped if seed % 2 else table(rng, 0)
+    lines = ["# seed %d" % seed, "", "stage " + new.hex(), "open"]
+    last = some_block(rng, numbers)
+
+    def hexed(data):
+        return data.hex() if data else "-"
+
+    def feeding():
+        held_back = b"\x24\x40\0\0\0\0" + struct.pack("<H", 4 * rng.randrange(2, 99))
+        data = b"".join(rng.choice([some_block(rng, numbers), last, last, rng.randbytes(rng.randrange(9)), b"\x24\x40", held_back, b""])
+                        for _ in range(rng.randrange(4)))
+        cut = rng.randrange(len(data) + 1) if rng.random() < 0.3 else len(data)
+        return ["feed " + hexed(data[:cut]), "bytes"] + (["feed " + hexed(data[cut:])] if cut < len(data) else [])
+
+    def record():
+        data = rng.choice([last] * 20 + [some_block(rng, numbers), last[:-1], last + b"\0", b""])
+        out = []
+        for _ in range(3):
+            far = rng.choice([30, 255, 256, 2 ** 32, 2 ** 64 - 1])
+            i, j = rng.choice([0, 0, 0, 1, 1, 2, far]), rng.choice([0, 0, 1, 1, 2, 2, 3, 4, rng.choice([5, 9, 20, 22]), far])
+            out += rng.choice([[f"body {j} {hexed(data)}"], [f"body {j} {hexed(data)}"], [f"sub {i} {j} {hexed(data)}"],
+                               [f"sub {i} {j} {hexed(data)}"], [f"subbytes {i} {hexed(data)}"], ["tow " + hexed(data)], ["wnc " + hexed(data)]])
+        return out
+
+    def afresh():
+        return [f"poke {name} 0" for name in NAMES] + ["stage " + rng.choice([new] * 9 + [table(rng)]).hex(), "open"]
+
+    def spoiled():
+        name, n = rng.choice(NAMES), rng.choice(NUMBERS + [rng.randrange(70000)])
+        calls = rng.choice([feeding, record, lambda: ["finish"], lambda: ["open"], lambda: ["withdraw"], lambda: ["bytes"]])()
+        return [f"poke {name} {n % 3 if name == 'phase' else n}"] + calls + ["stage " + new.hex()] + afresh()
+
+    def written():
+        name, length = rng.choice([("hold", 65536), ("force", 8192), ("waiting", 8192)])
+        data = rng.choice([rng.randbytes(rng.randrange(20)), last, new])
+        return [f"put {name} {rng.choice([0, 0, 5, 370, length - len(data)])} {hexed(data)}"]
+
+    def short():
+        return [f"size {name} {rng.choice([0, 1, 379, 8191, 8192, 65535, 65536, 2 ** 64 - 1])}"
+                for name in rng.sample(["hold", "force", "waiting"], rng.randrange(1, 3))]
+
+    kinds = [feeding] * 6 + [record] * 6 + [afresh, spoiled, written, short, lambda: ["finish", "finish", "bytes"] + afresh(),
+                                            lambda: ["finish", "bytes", "finish", "finish", "open"], lambda: ["open"],
+                                            lambda: ["bytes"], lambda: ["withdraw"], lambda: [rng.choice(BAD)],
+                                            lambda: ["stage " + hexed(rng.choice([new, new, new, shipped, table(rng), b"", new[:-1]]))]]
+    while len(lines) < 260:
+        if rng.random() < 0.4:
+            last = some_block(rng, numbers)
+        lines += rng.choice(kinds)()
+    if seed % 8 == 3:
+        lines += afresh() + ["feed " + block(rng, 5, 0, bytes(65524)).hex(), "bytes", "feed -", "finish"]
+    if seed % 8 == 5:
+        lines += ["poke phase 1"] + [f"poke {name} 4294967290" for name in ("taken", "skipped")] + ["feed " + last.hex(), "feed 00", "finish"]
+    return ("\n".join(lines) + ("\n" if seed % 4 else "")).encode()
+
+
+# ---- the parts of the test
+
+def build(env):
+    """The archive, and the three programs."""
+    sources = glob.glob(os.path.join(TOP, "crates", "*", "src", "*.rt"))
+    if not os.path.exists(ARCHIVE) or os.path.getmtime(ARCHIVE) < max(map(os.path.getmtime, sources)):
+        status, _, error = ran([os.path.join(TOP, "tools", "capi")], env)
+        if not expect("tools/capi builds the archive", status == 0 and os.path.exists(ARCHIVE), error.decode(errors="replace")[-2000:]):
+            return False
+    os.makedirs(BUILT, exist_ok=True)
+    kit = dict(env, KIT="1", CFLAGS=" ".join(["-O2", "-std=c99"] + CFLAGS))
+    for source in [EXAMPLE] + [os.path.join(TOP, "tests", "capi", name + ".c") for name in ("play", "odd")]:
+        program = os.path.join(BUILT, os.path.basename(source)[:-2])
+        status, _, error = ran([os.path.join(TOP, "tools", "x86cc"), "-o", program, source, ARCHIVE], kit)
+        if not expect(f"{os.path.basename(source)} compiles and links", status == 0, error.decode(errors="replace")):
+            return False
+    return True
+
+
+def header(env):
+    """It is C and C++, its example is samples/example.c, and it names every refusal."""
+    one = os.path.join(BUILT, "header.c")
+    with open(one, "w", encoding="ascii") as f:
+        f.write('#include "alderflute.h"\n')
+    clang = os.path.join(env["RATTLE_HOME"], "on", os.uname().machine, "toolchain", "bin", "clang")
+    for language, standard in [("c", "c99"), ("c", "c11"), ("c++", "c++11"), ("c++", "c++17")]:
+        words = [clang, "--target=x86_64-unknown-linux-gnu", "-x", language, "-std=" + standard, "-fsyntax-only"] + CFLAGS
+        status, _, error = ran(words + [one], env)
+        expect(f"alderflute.h is {standard}", status == 0, error.decode(errors="replace"))
+    text = read(HEADER)
+    shown = "".join(line[7:] + "\n" for line in text.split("EXAMPLE")[1].split("\n */")[0].split("\n")[2:])
+    expect("the header's example is samples/example.c", shown == read(EXAMPLE))
+    listed = re.findall(r"^ \* +(\d+)  \S", text, re.M)
+    expect("the header has a sentence for each refusal", listed == [str(n) for n in range(1, 11)], listed)
+    exported = set()
+    for path in glob.glob(os.path.join(TOP, "crates", "capi", "src", "*.rt")):
+        exported |= set(re.findall(r'extern "C" fn (\w+)', read(path)))
+    declared = set(re.findall(r"^alderflute_\w+ (alderflute_\w+)\(", text, re.M))
+    expect("the header declares what the crate exports", exported == declared and len(exported) == 12, exported ^ declared)
+
+
+def example(env):
+    """The example on the flight line: the lister's lines, each with what the block's bytes have."""
+    data = read(os.path.join(TOP, "samples", "flight.sbf"), "rb")
+    want = []
+    for line in read(os.path.join(TOP, "samples", "flight.list")).splitlines():
+        words = line.split(" ")
+        if words[0] == "block":
+            place, number = int(words[1]), int(words[2])
+            tow = struct.unpack_from("<I", data, place + 8)[0]
+            line += f" tow {tow}" if tow != 2 ** 32 - 1 else ""
+            if number == 5938 and data[place + 20:place + 24] != bytes.fromhex("f90295d0"):
+                line += " heading %.3f" % struct.unpack_from("<f", data, place + 20)
+        want.append(line)
+    status, out, error = ran([os.path.join(TOP, "tools", "x86run"), os.path.join(BUILT, "example"), TABLE], env, data)
+    expect("the example lists the flight line", (status, out.decode(), error) == (0, "\n".join(want) + "\n", b""), out[-300:])
+    status, out, _ = ran([os.path.join(TOP, "tools", "x86run"), os.path.join(BUILT, "example"), EXAMPLE], env, data)
+    expect("the example says that a text is no table", (status, out) == (1, b"refused 4\n"), out[-300:])
+
+
+def odd(env):
+    status, out, _ = ran([os.path.join(TOP, "tools", "x86run"), os.path.join(BUILT, "odd")], env)
+    expect("odd states and empty buffers", status == 0 and re.fullmatch(rb"\d\d+ passed, 0 failed\n", out), out.decode(errors="replace"))
+
+
+def difference(a, b):
+    """The first line in which two outputs differ."""
+    a, b = a.split(b"\n"), b.split(b"\n")
+    for n in range(max(len(a), len(b))):
+        x, y = (v[n] if n < len(v) else b"nothing more" for v in (a, b))
+        if x != y:
+            return f"line {n + 1}: play says {x!r}, replay {y!r}"
+    return ""
+
+
+def scripts(env):
+    """The same script through the C interface and through replay."""
+    if not expect("target/bin/replay is there (`rt check replay` makes it)", os.path.exists(REPLAY)):
+        return
+    given = [(os.path.basename(path), read(path, "rb")) for path in sorted(glob.glob(os.path.join(TOP, "samples", "*.script")))]
+    given += [(f"seed {seed}", script(seed)) for seed in SEEDS]
+
+    def compare(case):
+        name, data = case
+        x86run = os.path.join(TOP, "tools", "x86run")
+        play, replay = (ran([x86run, program], env, data) for program in (os.path.join(BUILT, "play"), REPLAY))
+        if play[0] != 0 or replay[0] != 0 or not play[1]:
+            return name, f"play ended with {play[0]}, replay with {replay[0]}"
+        return name, difference(play[1], replay[1]) or difference(play[2], replay[2])
+
+    with ThreadPoolExecutor(2) as pool:
+        for name, differs in pool.map(compare, given):
+            expect(f"play and replay on {name}", not differs, differs)
+
+
+def main():
+    env = dict(os.environ)
+    if "RATTLE_HOME" not in env:  # ask rt once, and not at each run
+        guide = subprocess.run(["rt", "doc"], stdout=subprocess.PIPE, text=True, check=True).stdout.strip()
+        env["RATTLE_HOME"] = os.path.dirname(os.path.dirname(guide))
+    if build(env):
+        header(env)
+        example(env)
+        odd(env)
+        scripts(env)
+    print(f"{passed} passed, {failed} failed")
+    return 1 if failed else 0
+
+
+if __name__ == "__main__":
+    if len(sys.argv) == 2:
+        sys.stdout.buffer.write(script(int(sys.argv[1])))
+    else:
+        sys.exit(main())
