@@ -1,15 +1,15 @@
--- `lister::text::number` meets its contract: a space, then the fewest digits.
+-- `text::number` meets its contract: a space, then the fewest digits.
 -- Assumes nothing.
 use mathlib.Core.Path.{_≡_, refl, sym, ap, _∙_}
 use mathlib.Core.List.{List, [], _∷_, _++_}
 use Prim.Native.Nat.{ℕ, _+_, _≤_}
 use native.Mathlib.Omega.{arith}
 use lib.ListN.{length, take}
-use Rattle.lister.specs.Lines.{decimal, spaced}
-use Rattle.lister.proofs.Joins.{joined, decimal-is}
+use Rattle.text.specs.Lines.{decimal, spaced}
+use Rattle.text.proofs.Joins.{joined, decimal-is}
 use borrow.Author.Needs.{needs}
-use Rattle.lister.proofs.text.number.Statement.{statement}
-use Rattle.lister.proofs.text.number.Tie as tie
+use Rattle.text.proofs.number.Statement.{statement}
+use Rattle.text.proofs.number.Tie as tie
 
 decimal-requires : tie.Need-decimal-requires
 decimal-requires c κs = search needs

@@ -7,8 +7,8 @@ use native.Mathlib.Omega.{arith}
 use lib.ListN.{length, take, drop}
 use lib.Seq.{paste, take-paste, take-all}
 use Rattle.io.specs.Digits.{digits, Fewest}
-use Rattle.lister.specs.Lines.{places, decimal, spaced}
-use Rattle.lister.proofs.Decimals.{places-is}
+use Rattle.text.specs.Lines.{places, decimal, spaced}
+use Rattle.text.proofs.Decimals.{places-is}
 
 pub copied : (d e w : List ℕ) (at k : ℕ) → e ≡ paste d at (drop 0 w) k → at ≤ length d → k ≤ length w → take (at + k) e ≡ take at d ++ take k w
 copied d e w at k p a b = ap (take (at + k)) p ∙ take-paste d at w k a b

@@ -1,15 +1,15 @@
--- `lister::text::end_line` meets its contract: the words one behind the other.
+-- `text::end_line` meets its contract: the words one behind the other.
 -- Assumes nothing.
 use mathlib.Core.Path.{_≡_}
 use mathlib.Core.List.{_++_}
 use Prim.Native.Nat.{_+_, _≤_}
 use native.Mathlib.Omega.{arith}
 use lib.ListN.{length, take}
-use Rattle.lister.specs.Lines.{spaced, wordEnd, newline}
-use Rattle.lister.proofs.Joins.{joined}
+use Rattle.text.specs.Lines.{spaced, wordEnd, newline}
+use Rattle.text.proofs.Joins.{joined}
 use borrow.Author.Needs.{needs}
-use Rattle.lister.proofs.text.end_line.Statement.{statement}
-use Rattle.lister.proofs.text.end_line.Tie as tie
+use Rattle.text.proofs.end_line.Statement.{statement}
+use Rattle.text.proofs.end_line.Tie as tie
 
 slice-aggregate-put : tie.Need-slice-aggregate-put
 slice-aggregate-put c = search needs

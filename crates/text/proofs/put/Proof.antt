@@ -1,14 +1,14 @@
--- `lister::text::put` meets its contract: a copy is a paste, and its front is what stood there and the word.
+-- `text::put` meets its contract: a copy is a paste, and its front is what stood there and the word.
 -- Assumes nothing.
 use mathlib.Core.Path.{_≡_, refl, sym, ap, _∙_}
 use mathlib.Core.List.{List, [], _∷_, _++_}
 use Prim.Native.Nat.{ℕ, _+_, _≤_}
 use native.Mathlib.Omega.{arith}
 use lib.ListN.{length, take}
-use Rattle.lister.proofs.Joins.{copied-all}
+use Rattle.text.proofs.Joins.{copied-all}
 use borrow.Author.Needs.{needs}
-use Rattle.lister.proofs.text.put.Statement.{statement}
-use Rattle.lister.proofs.text.put.Tie as tie
+use Rattle.text.proofs.put.Statement.{statement}
+use Rattle.text.proofs.put.Tie as tie
 
 copy-in-requires : tie.Need-copy-in-requires
 copy-in-requires c κs = search needs

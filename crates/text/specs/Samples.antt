@@ -3,7 +3,7 @@
 use mathlib.Core.Path.{_≡_}
 use mathlib.Core.List.{List, [], _∷_}
 use Prim.Native.Nat.{ℕ}
-use Rattle.lister.specs.Lines.{decimal, blockLine, endLine}
+use Rattle.text.specs.Lines.{decimal, blockLine, endLine}
 
 -- "block 1 0 0 8"
 abbrev SampleBlock : Type 0

@@ -1,18 +1,18 @@
-// Lines of output, collected in a buffer: one system call for many of them.
+// Text for standard output, collected in a buffer: words, numbers, and the lister's lines.
 ghost use Prim.Native.Nat.{_+_, _≤_};
 ghost use lib.ListN.{length, take};
 ghost use mathlib.Core.Path.{_≡_};
 ghost use mathlib.Core.List.{_++_};
 ghost use Rattle.reader.specs.Said.{reportOf};
-ghost use Rattle.lister.specs.Lines.{spaced, blockLine, endLine};
-ghost use Rattle.lister.specs.Samples.{Samples};
+ghost use Rattle.text.specs.Lines.{spaced, blockWords, blockLine, endLine};
+ghost use Rattle.text.specs.Samples.{Samples};
 use reader::Block;
 
-// A line's longest: a word of at most five bytes, four numbers with a space before each, and the line's end.
+// The lister's longest line: a word of at most five bytes, four numbers with a space before each, and the line's end.
 pub const ROOM: usize = 90;
 
 // A word goes to the place `at`; answers the place behind it.
-fn put(out: &mut [u8; 8192], at: usize, word: &[u8]) -> usize
+pub fn put(out: &mut [u8; 8192], at: usize, word: &[u8]) -> usize
     requires { ⌜ at + length (now word) ≤ 8192 ⌝ }
     ensures { λ r. ⌜ r ≡ at + length (now (word .entry)) ⌝ }
     ensures { λ r. ⌜ take r (now (out .exit)) ≡ take at (now (out .entry)) ++ now (word .entry) ⌝ }
@@ -33,7 +33,7 @@ fn put_digits(out: &mut [u8; 8192], at: usize, digits: &[u8; 20], k: usize) -> u
 }
 
 // A space and a number in decimal.
-fn number(out: &mut [u8; 8192], at: usize, n: u64) -> usize
+pub fn number(out: &mut [u8; 8192], at: usize, n: u64) -> usize
     requires { ⌜ at + 21 ≤ 8192 ⌝ }
     ensures { λ r. ⌜ r ≤ at + 21 ⌝ }
     ensures { λ r. ⌜ take r (now (out .exit)) ≡ take at (now (out .entry)) ++ spaced n ⌝ }
@@ -44,17 +44,26 @@ fn number(out: &mut [u8; 8192], at: usize, n: u64) -> usize
     put_digits(out, from, &digits, k)
 }
 
-pub fn block_line(out: &mut [u8; 8192], at: usize, b: Block) -> usize
-    requires { ⌜ at + 90 ≤ 8192 ⌝ }
-    ensures { λ r. ⌜ r ≤ at + 90 ⌝ }
-    ensures { λ r. ⌜ take r (now (out .exit)) ≡ take at (now (out .entry)) ++ blockLine (reportOf b) ⌝ }
+// What is said of a block, with no line's end.
+pub fn block_words(out: &mut [u8; 8192], at: usize, b: Block) -> usize
+    requires { ⌜ at + 89 ≤ 8192 ⌝ }
+    ensures { λ r. ⌜ r ≤ at + 89 ⌝ }
+    ensures { λ r. ⌜ take r (now (out .exit)) ≡ take at (now (out .entry)) ++ blockWords (reportOf b) ⌝ }
 {
     let word = put(out, at, b"block");
     let place = number(out, word, b.place as u64);
     let name = number(out, place, b.number as u64);
     let revision = number(out, name, b.revision as u64);
-    let length = number(out, revision, b.length as u64);
-    put(out, length, b"\n")
+    number(out, revision, b.length as u64)
+}
+
+pub fn block_line(out: &mut [u8; 8192], at: usize, b: Block) -> usize
+    requires { ⌜ at + 90 ≤ 8192 ⌝ }
+    ensures { λ r. ⌜ r ≤ at + 90 ⌝ }
+    ensures { λ r. ⌜ take r (now (out .exit)) ≡ take at (now (out .entry)) ++ blockLine (reportOf b) ⌝ }
+{
+    let words = block_words(out, at, b);
+    put(out, words, b"\n")
 }
 
 pub fn end_line(

@@ -30,8 +30,11 @@ wordEnd = 101 ∷ 110 ∷ 100 ∷ []
 abbrev pub newline : List ℕ
 newline = 10 ∷ []
 
+abbrev pub blockWords : Report → List ℕ
+blockWords r = wordBlock ++ spaced (r .place) ++ spaced (r .number) ++ spaced (r .revision) ++ spaced (r .size)
+
 abbrev pub blockLine : Report → List ℕ
-blockLine r = wordBlock ++ spaced (r .place) ++ spaced (r .number) ++ spaced (r .revision) ++ spaced (r .size) ++ newline
+blockLine r = blockWords r ++ newline
 
 abbrev pub endLine : ℕ → ℕ → ℕ → List ℕ
 endLine bytes blocks skipped = wordEnd ++ spaced bytes ++ spaced blocks ++ spaced skipped ++ newline

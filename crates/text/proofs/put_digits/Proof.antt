@@ -1,14 +1,14 @@
--- `lister::text::put_digits` meets its contract: a copy is a paste, and its front is what stood there and the digits.
+-- `text::put_digits` meets its contract: a copy is a paste, and its front is what stood there and the digits.
 -- Assumes nothing.
 use mathlib.Core.Path.{_≡_, refl, sym, ap, _∙_}
 use mathlib.Core.List.{List, [], _∷_, _++_}
 use Prim.Native.Nat.{ℕ, _+_, _≤_}
 use native.Mathlib.Omega.{arith}
 use lib.ListN.{length, take}
-use Rattle.lister.proofs.Joins.{copied}
+use Rattle.text.proofs.Joins.{copied}
 use borrow.Author.Needs.{needs}
-use Rattle.lister.proofs.text.put_digits.Statement.{statement}
-use Rattle.lister.proofs.text.put_digits.Tie as tie
+use Rattle.text.proofs.put_digits.Statement.{statement}
+use Rattle.text.proofs.put_digits.Tie as tie
 
 copy-in-requires : tie.Need-copy-in-requires
 copy-in-requires c κs = search needs
