@@ -1,9 +1,9 @@
--- The fewest digits that hold a number are as many as `places` counts: `io::decimal` writes what `decimal` says.
+-- The fewest digits that hold a number: in decimal as many as `places` counts, of a CRC in hex four.
 -- Assumes nothing.
 use mathlib.Core.Path.{_≡_, refl, sym, ap, _∙_}
 use mathlib.Core.Bool.{Bool, true, false, cond}
 use Prim.Native.Nat.{ℕ, zero, suc, _+_, _-_, _*_, _/_, _%_, _^_, _≤_, _<_}
-use native.Mathlib.Nat.{pow-succ'}
+use native.Mathlib.Nat.{pow-succ', pow-le-pow-right}
 use native.Mathlib.Omega.{arith}
 use lib.Dec.{ltb}
 use borrow.Author.Tests.{ltb-true, ltb-false}
@@ -41,3 +41,15 @@ places-by false most n (suc (suc k)) e ih l f =
 pub places-is : (most n k : ℕ) → n < 10 ^ suc most → Fewest 10 1 n k → k ≡ places most n
 places-is zero n k l f = one-is n k (omega (arith, l)) f
 places-is (suc most) n k l f = places-by (ltb n 10) most n k refl (places-is most) l f
+
+-- a fifth digit would be for 65,536 and more
+pub four-are : (n k : ℕ) → n < 65536 → Fewest 16 4 n k → k ≡ 4
+four-are n k l f = four-by (ltb 4 k) n k l f refl
+  where
+    four-by : (b : Bool) (n k : ℕ) → n < 65536 → Fewest 16 4 n k → ltb 4 k ≡ b → k ≡ 4
+    four-by false n k l f e = omega (arith, f .0, ltb-false 4 k e)
+    four-by true n k l f e =
+        let h : 4 < k = ltb-true 4 k e in
+        let m : 4 ≤ k - 1 = omega arith in
+        let p : 16 ^ 4 ≤ 16 ^ (k - 1) = pow-le-pow-right {n = 16} (omega arith) m in
+        let z : ⊥ = omega (arith, f .2 h, p) in absurd z

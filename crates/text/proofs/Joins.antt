@@ -7,8 +7,8 @@ use native.Mathlib.Omega.{arith}
 use lib.ListN.{length, take, drop}
 use lib.Seq.{paste, take-paste, take-all}
 use Rattle.io.specs.Digits.{digits, Fewest}
-use Rattle.text.specs.Lines.{places, decimal, spaced}
-use Rattle.text.proofs.Decimals.{places-is}
+use Rattle.text.specs.Lines.{places, decimal, spaced, fourHex}
+use Rattle.text.proofs.Decimals.{places-is, four-are}
 
 pub copied : (d e w : List ℕ) (at k : ℕ) → e ≡ paste d at (drop 0 w) k → at ≤ length d → k ≤ length w → take (at + k) e ≡ take at d ++ take k w
 copied d e w at k p a b = ap (take (at + k)) p ∙ take-paste d at w k a b
@@ -23,3 +23,7 @@ joined x a b {y} {z} e f = f ∙ ap (λ (l : List ℕ). l ++ b) e ∙ append-ass
 pub decimal-is : (n k : ℕ) → n < 2 ^ 64 → Fewest 10 1 n k → digits 10 k n ≡ decimal n
 unfolding decimal
 decimal-is n k l f = ap (λ (j : ℕ). digits 10 j n) (places-is 19 n k (omega arith) f)
+
+pub hex-is : (n k : ℕ) → n < 65536 → Fewest 16 4 n k → digits 16 k n ≡ fourHex n
+unfolding fourHex
+hex-is n k l f = ap (λ (j : ℕ). digits 16 j n) (four-are n k l f)

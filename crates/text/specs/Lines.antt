@@ -20,6 +20,10 @@ decimal n = digits 10 (places 19 n) n
 abbrev pub spaced : ℕ → List ℕ
 spaced n = 32 ∷ decimal n
 
+-- "four hex digits"
+unfoldable pub fourHex : ℕ → List ℕ
+fourHex n = digits 16 4 n
+
 -- `block`, `end`, and the line's end, in ASCII
 abbrev pub wordBlock : List ℕ
 wordBlock = 98 ∷ 108 ∷ 111 ∷ 99 ∷ 107 ∷ []

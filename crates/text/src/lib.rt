@@ -4,7 +4,7 @@ ghost use lib.ListN.{length, take};
 ghost use mathlib.Core.Path.{_≡_};
 ghost use mathlib.Core.List.{_++_};
 ghost use Rattle.reader.specs.Said.{reportOf};
-ghost use Rattle.text.specs.Lines.{spaced, blockWords, blockLine, endLine};
+ghost use Rattle.text.specs.Lines.{decimal, spaced, fourHex, blockWords, blockLine, endLine};
 ghost use Rattle.text.specs.Samples.{Samples};
 use reader::Block;
 
@@ -32,16 +32,36 @@ fn put_digits(out: &mut [u8; 8192], at: usize, digits: &[u8; 20], k: usize) -> u
     at + k
 }
 
+// A number in decimal.
+pub fn decimal_digits(out: &mut [u8; 8192], at: usize, n: u64) -> usize
+    requires { ⌜ at + 20 ≤ 8192 ⌝ }
+    ensures { λ r. ⌜ r ≤ at + 20 ⌝ }
+    ensures { λ r. ⌜ take r (now (out .exit)) ≡ take at (now (out .entry)) ++ decimal n ⌝ }
+{
+    let mut digits = [0u8; 20];
+    let k = io::decimal(n, &mut digits);
+    put_digits(out, at, &digits, k)
+}
+
 // A space and a number in decimal.
 pub fn number(out: &mut [u8; 8192], at: usize, n: u64) -> usize
     requires { ⌜ at + 21 ≤ 8192 ⌝ }
     ensures { λ r. ⌜ r ≤ at + 21 ⌝ }
     ensures { λ r. ⌜ take r (now (out .exit)) ≡ take at (now (out .entry)) ++ spaced n ⌝ }
 {
-    let mut digits = [0u8; 20];
-    let k = io::decimal(n, &mut digits);
     let from = put(out, at, b" ");
-    put_digits(out, from, &digits, k)
+    decimal_digits(out, from, n)
+}
+
+// Four hex digits, in lower case.
+pub fn hex_digits(out: &mut [u8; 8192], at: usize, n: u16) -> usize
+    requires { ⌜ at + 4 ≤ 8192 ⌝ }
+    ensures { λ r. ⌜ r ≡ at + 4 ⌝ }
+    ensures { λ r. ⌜ take r (now (out .exit)) ≡ take at (now (out .entry)) ++ fourHex n ⌝ }
+{
+    let mut digits = [0u8; 16];
+    let k = io::hex(n as u64, 4, &mut digits);
+    put(out, at, &digits[..k])
 }
 
 // What is said of a block, with no line's end.

@@ -6,6 +6,7 @@ use native.Mathlib.Omega.{arith}
 use lib.ListN.{length, take, drop, getD}
 use Rattle.replay.specs.Words.{upTo}
 use Rattle.replay.proofs.Reading.{up-here, up-more, up-end}
+use lib.Seq.{length-take-le}
 use borrow.Author.Needs.{needs}
 use Rattle.replay.proofs.words.word_end.Statement.{statement}
 use Rattle.replay.proofs.words.word_end.Tie as tie
@@ -26,7 +27,7 @@ returns : tie.Need-returns Inv-loop μ-loop
 returns c =
     let s = c .before .before .before .before .args .text .now in
     let l = c .before .before .before .loop in
-    (omega (arith, up-here 32 s (l .i) (omega arith) (c .if1 .taken)), omega arith)
+    (omega (arith, up-here 32 s (l .i) (omega arith) (c .if1 .taken)), (omega arith, sym (length-take-le (l .i) s (omega arith))))
 
 add-i : tie.Need-add-i Inv-loop μ-loop
 add-i c = search needs
@@ -44,7 +45,7 @@ returns-2 : tie.Need-returns-2 Inv-loop μ-loop
 returns-2 c =
     let s = c .before .before .args .text .now in
     let l = c .before .loop in
-    (omega (arith, up-end 32 s (l .i) (omega arith)), omega arith)
+    (omega (arith, up-end 32 s (l .i) (omega arith)), (omega arith, sym (length-take-le (l .i) s (omega arith))))
 
 pub word-end-spec : {M : Type 1} → statement M
 word-end-spec =
