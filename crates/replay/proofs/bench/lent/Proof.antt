@@ -1,0 +1,22 @@
+-- `replay::bench::lent` meets its contract: the smaller of the two.
+-- Assumes nothing.
+use mathlib.Core.Path.{_≡_, refl, sym, ap, _∙_, subst}
+use mathlib.Core.List.{List, [], _∷_, _++_}
+use Prim.Native.Nat.{ℕ, suc, _+_, _-_, _*_, _≤_, _<_, _^_}
+use native.Mathlib.Omega.{arith}
+use lib.ListN.{length, take}
+use lib.Seq.{length-take-le}
+use borrow.Author.Needs.{needs}
+use Rattle.replay.proofs.bench.lent.Statement.{statement}
+use Rattle.replay.proofs.bench.lent.Tie as tie
+
+returns : tie.Need-returns
+returns c =
+    (omega arith, sym (length-take-le (c .before .args .n) (c .before .args .buffer .now) (omega arith)))
+
+returns-2 : tie.Need-returns-2
+returns-2 c =
+    (omega arith, sym (length-take-le (length (c .before .args .buffer .now)) (c .before .args .buffer .now) (omega arith)))
+
+pub lent-spec : {M : Type 1} → statement M
+lent-spec = tie.close (tie.spec returns returns-2)

@@ -1,0 +1,88 @@
+-- `replay::end_line` is safe: the line is in its buffer.
+-- Assumes nothing.
+use mathlib.Core.Path.{_≡_, refl, sym, ap, _∙_, subst}
+use mathlib.Core.List.{List, [], _∷_, _++_}
+use Prim.Native.Nat.{ℕ, suc, _+_, _-_, _*_, _≤_, _<_, _^_}
+use native.Mathlib.Omega.{arith}
+use lib.ListN.{length, take}
+use lib.Seq.{length-take-le}
+use borrow.Author.Needs.{needs}
+use Rattle.replay.proofs.end_line.Statement.{statement}
+use Rattle.replay.proofs.end_line.Tie as tie
+
+wrapping-add-u64-requires : tie.Need-wrapping-add-u64-requires
+wrapping-add-u64-requires c κs = search needs
+
+make-room-requires : tie.Need-make-room-requires
+make-room-requires c κs = search needs
+
+quiet-requires : tie.Need-quiet-requires
+quiet-requires c κs = search needs
+
+after-line-requires : tie.Need-after-line-requires
+after-line-requires c κs = search needs
+
+returns : tie.Need-returns
+returns c = search needs
+
+tell-bad-requires : tie.Need-tell-bad-requires
+tell-bad-requires c κs = search needs
+
+quiet-requires-2 : tie.Need-quiet-requires-2
+quiet-requires-2 c κs = search needs
+
+after-line-requires-2 : tie.Need-after-line-requires-2
+after-line-requires-2 c κs = search needs
+
+returns-2 : tie.Need-returns-2
+returns-2 c = search needs
+
+slice-aggregate-play-line : tie.Need-slice-aggregate-play-line
+slice-aggregate-play-line c =
+    let a = c .before .before .before .before .before .before .before .before .before .before .before .before .args in
+    sym (length-take-le (a .s .length) (a .line .now) (omega arith))
+
+play-line-requires : tie.Need-play-line-requires
+play-line-requires c κs =
+    let a = c .before .before .before .before .before .before .before .before .before .before .before .before .before .before .before .before .before .args in
+    (omega (arith, length-take-le (a .s .length) (a .line .now) (omega arith), c .before .before .before .before .before .before .before .if2 .left), c .before .before .before .before .before .before .before .before .before .before .make-room .ensures)
+
+tell-bad-requires-2 : tie.Need-tell-bad-requires-2
+tell-bad-requires-2 c κs = search needs
+
+after-line-requires-3 : tie.Need-after-line-requires-3
+after-line-requires-3 c κs = search needs
+
+same-length : tie.Need-same-length
+same-length c = search needs
+
+same-length-2 : tie.Need-same-length-2
+same-length-2 c = search needs
+
+same-length-3 : tie.Need-same-length-3
+same-length-3 c = search needs
+
+returns-3 : tie.Need-returns-3
+returns-3 c = search needs
+
+pub end-line-spec : {M : Type 1} → statement M
+end-line-spec =
+    tie.close
+    (tie.spec
+    wrapping-add-u64-requires
+    make-room-requires
+    quiet-requires
+    after-line-requires
+    returns
+    tell-bad-requires
+    quiet-requires-2
+    after-line-requires-2
+    returns-2
+    slice-aggregate-play-line
+    play-line-requires
+    tell-bad-requires-2
+    after-line-requires-3
+    same-length
+    same-length-2
+    same-length-3
+    returns-3)

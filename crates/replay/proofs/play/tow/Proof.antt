@@ -1,0 +1,23 @@
+-- `replay::play::tow` is safe: no answer of the reader carries a NaN as a float.
+-- Assumes nothing.
+use mathlib.Core.Path.{_≡_, refl, sym, ap, _∙_, subst}
+use mathlib.Core.List.{List, [], _∷_, _++_}
+use Prim.Native.Nat.{ℕ, suc, _+_, _-_, _*_, _≤_, _<_, _^_}
+use native.Mathlib.Omega.{arith}
+use lib.ListN.{length, take}
+use Rattle.replay.proofs.Floats.{answers-plain}
+use borrow.Author.Needs.{needs}
+use Rattle.replay.proofs.play.tow.Statement.{statement}
+use Rattle.replay.proofs.play.tow.Tie as tie
+
+tow-requires : tie.Need-tow-requires
+tow-requires c κs = search needs
+
+field-requires : tie.Need-field-requires
+field-requires c κs = (answers-plain (c .before .tow .result) _ (c .before .tow .ensures), c .before .before .before .pre)
+
+returns : tie.Need-returns
+returns c = search needs
+
+pub tow-spec : {M : Type 1} → statement M
+tow-spec = tie.close (tie.spec tow-requires field-requires returns)

@@ -1,0 +1,44 @@
+-- The lines that the lister prints, byte by byte (document 01: "prints a line `block PLACE NUMBER REVISION LENGTH` for each block and last
+-- `end BYTES BLOCKS SKIPPED`, in decimal").
+-- Assumes nothing.
+use Prim.Native.Nat.{ℕ, zero, suc, _/_}
+use mathlib.Core.Bool.{cond}
+use mathlib.Core.List.{List, [], _∷_, _++_}
+use lib.Dec.{ltb}
+use Rattle.io.specs.Digits.{digits}
+use Rattle.reader.specs.Said.{Report}
+
+-- how many decimal digits a number takes, if no more than 1 + `most`
+abbrev pub places : ℕ → ℕ → ℕ
+places zero n = 1
+places (suc most) n = cond (ltb n 10) 1 (suc (places most (n / 10)))
+
+-- a number of the code has at most 20
+unfoldable pub decimal : ℕ → List ℕ
+decimal n = digits 10 (places 19 n) n
+
+abbrev pub spaced : ℕ → List ℕ
+spaced n = 32 ∷ decimal n
+
+-- "four hex digits"
+unfoldable pub fourHex : ℕ → List ℕ
+fourHex n = digits 16 4 n
+
+-- `block`, `end`, and the line's end, in ASCII
+abbrev pub wordBlock : List ℕ
+wordBlock = 98 ∷ 108 ∷ 111 ∷ 99 ∷ 107 ∷ []
+
+abbrev pub wordEnd : List ℕ
+wordEnd = 101 ∷ 110 ∷ 100 ∷ []
+
+abbrev pub newline : List ℕ
+newline = 10 ∷ []
+
+abbrev pub blockWords : Report → List ℕ
+blockWords r = wordBlock ++ spaced (r .place) ++ spaced (r .number) ++ spaced (r .revision) ++ spaced (r .size)
+
+abbrev pub blockLine : Report → List ℕ
+blockLine r = blockWords r ++ newline
+
+abbrev pub endLine : ℕ → ℕ → ℕ → List ℕ
+endLine bytes blocks skipped = wordEnd ++ spaced bytes ++ spaced blocks ++ spaced skipped ++ newline

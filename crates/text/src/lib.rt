@@ -1,0 +1,110 @@
+// Text for standard output, collected in a buffer: words, numbers, and the lister's lines.
+ghost use Prim.Native.Nat.{_+_, _≤_};
+ghost use lib.ListN.{length, take};
+ghost use mathlib.Core.Path.{_≡_};
+ghost use mathlib.Core.List.{_++_};
+ghost use Rattle.reader.specs.Said.{reportOf};
+ghost use Rattle.text.specs.Lines.{decimal, spaced, fourHex, blockWords, blockLine, endLine};
+ghost use Rattle.text.specs.Samples.{Samples};
+use reader::Block;
+
+// The lister's longest line: a word of at most five bytes, four numbers with a space before each, and the line's end.
+pub const ROOM: usize = 90;
+
+// A word goes to the place `at`; answers the place behind it.
+pub fn put(out: &mut [u8; 8192], at: usize, word: &[u8]) -> usize
+    requires { ⌜ at + length (now word) ≤ 8192 ⌝ }
+    ensures { λ r. ⌜ r ≡ at + length (now (word .entry)) ⌝ }
+    ensures { λ r. ⌜ take r (now (out .exit)) ≡ take at (now (out .entry)) ++ now (word .entry) ⌝ }
+{
+    let n = word.len();
+    feed::copy_in(out, at, word, 0, n);
+    at + n
+}
+
+// The first k digits go to the place `at`.
+fn put_digits(out: &mut [u8; 8192], at: usize, digits: &[u8; 20], k: usize) -> usize
+    requires { ⌜ (at + 20 ≤ 8192) × (k ≤ length (now digits)) ⌝ }
+    ensures { λ r. ⌜ r ≤ at + 20 ⌝ }
+    ensures { λ r. ⌜ take r (now (out .exit)) ≡ take at (now (out .entry)) ++ take k (now (digits .entry)) ⌝ }
+{
+    feed::copy_in(out, at, digits, 0, k);
+    at + k
+}
+
+// A number in decimal.
+pub fn decimal_digits(out: &mut [u8; 8192], at: usize, n: u64) -> usize
+    requires { ⌜ at + 20 ≤ 8192 ⌝ }
+    ensures { λ r. ⌜ r ≤ at + 20 ⌝ }
+    ensures { λ r. ⌜ take r (now (out .exit)) ≡ take at (now (out .entry)) ++ decimal n ⌝ }
+{
+    let mut digits = [0u8; 20];
+    let k = io::decimal(n, &mut digits);
+    put_digits(out, at, &digits, k)
+}
+
+// A space and a number in decimal.
+pub fn number(out: &mut [u8; 8192], at: usize, n: u64) -> usize
+    requires { ⌜ at + 21 ≤ 8192 ⌝ }
+    ensures { λ r. ⌜ r ≤ at + 21 ⌝ }
+    ensures { λ r. ⌜ take r (now (out .exit)) ≡ take at (now (out .entry)) ++ spaced n ⌝ }
+{
+    let from = put(out, at, b" ");
+    decimal_digits(out, from, n)
+}
+
+// Four hex digits, in lower case.
+pub fn hex_digits(out: &mut [u8; 8192], at: usize, n: u16) -> usize
+    requires { ⌜ at + 4 ≤ 8192 ⌝ }
+    ensures { λ r. ⌜ r ≡ at + 4 ⌝ }
+    ensures { λ r. ⌜ take r (now (out .exit)) ≡ take at (now (out .entry)) ++ fourHex n ⌝ }
+{
+    let mut digits = [0u8; 16];
+    let k = io::hex(n as u64, 4, &mut digits);
+    put(out, at, &digits[..k])
+}
+
+// What is said of a block, with no line's end.
+pub fn block_words(out: &mut [u8; 8192], at: usize, b: Block) -> usize
+    requires { ⌜ at + 89 ≤ 8192 ⌝ }
+    ensures { λ r. ⌜ r ≤ at + 89 ⌝ }
+    ensures { λ r. ⌜ take r (now (out .exit)) ≡ take at (now (out .entry)) ++ blockWords (reportOf b) ⌝ }
+{
+    let word = put(out, at, b"block");
+    let place = number(out, word, b.place as u64);
+    let name = number(out, place, b.number as u64);
+    let revision = number(out, name, b.revision as u64);
+    number(out, revision, b.length as u64)
+}
+
+pub fn block_line(out: &mut [u8; 8192], at: usize, b: Block) -> usize
+    requires { ⌜ at + 90 ≤ 8192 ⌝ }
+    ensures { λ r. ⌜ r ≤ at + 90 ⌝ }
+    ensures { λ r. ⌜ take r (now (out .exit)) ≡ take at (now (out .entry)) ++ blockLine (reportOf b) ⌝ }
+{
+    let words = block_words(out, at, b);
+    put(out, words, b"\n")
+}
+
+pub fn end_line(
+    out: &mut [u8; 8192],
+    at: usize,
+    bytes: usize,
+    blocks: usize,
+    skipped: usize,
+) -> usize
+    requires { ⌜ at + 90 ≤ 8192 ⌝ }
+    ensures { λ r. ⌜ r ≤ at + 90 ⌝ }
+    ensures { λ r. ⌜ take r (now (out .exit)) ≡ take at (now (out .entry)) ++ endLine bytes blocks skipped ⌝ }
+{
+    let word = put(out, at, b"end");
+    let first = number(out, word, bytes as u64);
+    let second = number(out, first, blocks as u64);
+    let third = number(out, second, skipped as u64);
+    put(out, third, b"\n")
+}
+
+// The lines of document 01's sample are these.
+pub fn samples_hold()
+    ensures { λ _. ⌜ Samples ⌝ }
+{}

@@ -1,0 +1,205 @@
+#!/usr/bin/env python3
+"""The replay program on scripts written by hand: the flight line of samples/, each kind of bad line, size, put and poke.
+
+What is expected is written down here, with the CRCs of the buffers from binascii.crc_hqx(data, 0).
+Needs target/bin/replay, which `rt check` makes. The last line is 'N passed, M failed'.
+"""
+import binascii
+import os
+import subprocess
+import sys
+import tempfile
+
+TOP = os.path.dirname(os.path.dirname(os.path.abspath(__file__)))
+PROGRAM = os.path.join(TOP, "target", "bin", "replay")
+BLOCK = "2440a98900000800"  # document 01's sample (b): number 0, revision 0, length 8
+LONGEST = 270_000
+
+HOLD, FORCE, WAITING = b"\xa5" * 65536, b"\x5a" * 8192, b"\x3c" * 8192
+
+
+def crc(data):
+    return f"{binascii.crc_hqx(data, 0):04x}"
+
+
+def over(front, behind):
+    """A buffer whose first bytes are written over."""
+    return front + behind[len(front):]
+
+
+def crcs(hold=HOLD, force=FORCE, waiting=WAITING):
+    return f"{crc(hold)} {crc(force)} {crc(waiting)}"
+
+
+def line(answer, state, buffers="- - -"):
+    return f"{answer} | {state} | {buffers}\n"
+
+
+ZERO = "0 0 0 0 0 0 0 0"
+OPEN5 = line("refused 5", ZERO, crcs())  # Open with nothing waiting and nothing in force
+NONE = line("withdrawn 0", ZERO, crcs())
+EMPTY = line("part 0 0000", ZERO)
+
+
+def bad(*numbers):
+    return "".join(f"bad line {n}\n" for n in numbers)
+
+
+def flight():
+    """samples/flight-line.script: the output file, and that the script's tables are those of the texts."""
+    def text(name):
+        with open(os.path.join(TOP, "samples", name), encoding="ascii") as f:
+            return f.read()
+    script = text("flight-line.script")
+    yield "samples/flight-line.script", script, text("flight-line.out"), ""
+    staged = [words.split(" ")[1] for words in script.split("\n") if words.startswith("stage ")]
+    with tempfile.TemporaryDirectory() as folder:
+        for version, given in zip((1, 2), staged):
+            made = os.path.join(folder, "table")
+            subprocess.run([os.path.join(TOP, "tools", "table"), "make",
+                            os.path.join(TOP, "samples", f"flight-line-v{version}.table.txt"), made], check=True)
+            with open(made, "rb") as f:
+                yield f"the script's table {version} is that of its text", None, f.read().hex(), given
+
+
+# A line that is no call, with why; each is tried alone and between two good lines.
+BAD = [
+    ("an unknown word", "opened"), ("a word in capitals", "OPEN"), ("a word too many", "open now"),
+    ("a word too many behind hex", "feed 00 00"), ("a missing word", "feed"), ("a missing number", "body 00"),
+    ("a space at the front", " open"), ("a space at the end", "open "), ("a space at the end of hex", "feed 00 "),
+    ("two spaces", "feed  00"), ("a tab", "feed\t00"), ("a carriage return", "open\r"), ("a lone carriage return", "\r"),
+    ("a carriage return behind hex", "feed 00\r"), ("a space alone", " "), ("an odd count of hex digits", "feed 123"),
+    ("no hex digit", "feed 0g"), ("no hex digit, first of two", "feed g0"), ("a slash, one below 0", "feed 0/"),
+    ("a colon, one above 9", "feed 0:"), ("an at, one below A", "feed 0@"), ("a G, one above F", "feed 0G"),
+    ("a backquote, one below a", "feed 0`"), ("an empty hex word", "feed "), ("a dash and hex", "feed -00"),
+    ("two dashes", "feed --"), ("a number over 2^64 - 1", f"body 18446744073709551616 {BLOCK}"),
+    ("a number far over 2^64 - 1", f"body 99999999999999999999999999 {BLOCK}"), ("a negative number", f"body -1 {BLOCK}"),
+    ("a number with a sign", f"body +1 {BLOCK}"), ("a number in hex", f"body 0x1 {BLOCK}"), ("no number", f"body a {BLOCK}"),
+    ("an empty number", f"body  {BLOCK}"), ("a sub call with one number", f"sub 0 {BLOCK}"),
+    ("a sub call with three numbers", f"sub 0 0 0 {BLOCK}"), ("a missing hex word", "sub 0 0"),
+    ("a phase over 2", "poke phase 3"), ("an unknown number of the state", "poke standing 1"), ("poke without a value", "poke held"),
+    ("poke with two values", "poke held 1 2"), ("an empty name", "poke  1"), ("an unknown buffer", "size holds 5"),
+    ("size without a number", "size hold"), ("size of the state's name", "size waits 5"), ("put past the hold", "put hold 65536 00"),
+    ("put past the store in force", "put force 8191 0000"), ("put past the waiting store", "put waiting 8193 -"),
+    ("put far past the hold", "put hold 18446744073709551615 00"), ("put without an offset", "put hold 00"),
+    ("put without bytes", "put hold 0"), ("put into an unknown buffer", "put out 0 00"), ("a comment behind a call", "open # now"),
+    ("bytes with a word", "bytes -"), ("withdraw with a word", "withdraw 1"), ("a zero byte", "open\0"),
+]
+
+
+def bad_lines():
+    for why, words in BAD:
+        yield f"bad line: {why}", f"{words}\n", "", bad(1)
+        yield f"bad line between two good ones: {why}", f"open\n{words}\nwithdraw\n", OPEN5 + NONE, bad(2)
+
+
+def numbers():
+    """Bounds of numbers and of hex, on the good side."""
+    held = "0 0 0 18446744073709551615 0 0 0 0"
+    yield "the largest number", "poke held 18446744073709551615\nbytes\n", line("refused 1", held), ""
+    yield "leading zeros", "poke taken 000000000000000000000000000000007\nbytes\n", line("part 0 0000", "0 0 0 0 0 7 0 0"), ""
+    yield "hex in capitals", f"poke phase 1\nfeed {BLOCK.upper()}\n", \
+        line("fed 8 block 0 0 0 8", "1 0 0 8 8 8 1 0", crcs(over(bytes.fromhex(BLOCK), HOLD))), ""
+    yield "a large field number", f"body 18446744073709551615 {BLOCK}\n", line("refused 5", ZERO), ""
+
+
+def passed_over():
+    yield "no input", "", "", ""
+    yield "an empty line", "\n", "", ""
+    yield "empty lines and comments count", "\n# a comment\n#open\n#\r\nfoo\n\nbar\n", "", bad(5, 7)
+    yield "a last line without a line feed", "withdraw\nbytes", NONE + EMPTY, ""
+    yield "a last bad line without a line feed", "withdraw\nbyte", NONE, bad(2)
+    yield "a last comment without a line feed", "withdraw\n# so", NONE, ""
+
+
+def size_put_poke():
+    yield "size lends less", "size hold 65535\npoke phase 1\nfeed -\n", line("refused 1", "1 0 0 0 0 0 0 0", crcs()), ""
+    yield "size for one call alone", "size hold 0\nbytes\nbytes\n", line("refused 1", ZERO) + EMPTY, ""
+    yield "a call that is not lent the buffer ends a size too", "size hold 0\nwithdraw\nbytes\n", NONE + EMPTY, ""
+    yield "a refused call ends a size too", "size hold 0\nopen\nbytes\n", OPEN5 + EMPTY, ""
+    yield "a bad line ends no size", "size hold 0\nfoo\nbytes\n", line("refused 1", ZERO), bad(2)
+    yield "poke and put end no size", "size hold 0\npoke blocks 0\nput force 0 5a\n\n# so\nbytes\n", line("refused 1", ZERO), ""
+    yield "the last size counts", "size hold 0\nsize hold 65536\nbytes\n", EMPTY, ""
+    yield "size over the buffer lends it whole", "size hold 18446744073709551615\nbytes\n", EMPTY, ""
+    yield "several sizes apply", "size waiting 8191\nsize hold 0\nsize force 8192\nopen\n", line("refused 1", ZERO, crcs()), ""
+    yield "size of the store in force", "size force 8191\nopen\n", line("refused 1", ZERO, crcs()), ""
+    yield "the CRCs are of the whole buffers", "size waiting 5\nstage 00\n", line("refused 1", ZERO, crcs()), ""
+    yield "put at the ends", "put hold 65535 01\nput force 0 02\nput waiting 8190 0304\nwithdraw\n", \
+        line("withdrawn 0", ZERO, crcs(HOLD[:-1] + b"\1", over(b"\2", FORCE), WAITING[:-2] + b"\3\4")), ""
+    yield "put of no bytes at the end", "put hold 65536 -\nput force 8192 -\nwithdraw\n", NONE, ""
+    yield "put of a whole store", f"put force 0 {'77' * 8192}\nwithdraw\n", line("withdrawn 0", ZERO, crcs(force=b"\x77" * 8192)), ""
+    yield "a put past the buffer writes nothing", "put waiting 8191 0000\nwithdraw\n", NONE, bad(1)
+    yield "put and bytes", "poke held 4\npoke taken 4\npoke stands 3\nput hold 0 010203\nbytes\n", \
+        line(f"part 3 {crc(bytes((1, 2, 3)))}", "0 0 0 4 3 4 0 0"), ""
+    names = ["phase", "force", "waits", "held", "stands", "taken", "blocks", "skipped"]
+    pokes = "".join(f"poke {name} {n + 1 if n else 2}\n" for n, name in enumerate(names))
+    yield "poke of every number", pokes + "bytes\n", line("refused 1", "2 2 3 4 5 6 7 8"), ""
+    yield "poke changes one number", "poke taken 9\npoke skipped 3\nbytes\n", line("part 0 0000", "0 0 0 0 0 9 0 3"), ""
+    yield "a poked waiting table", "poke waits 20\nwithdraw\nwithdraw\n", line("withdrawn 1", ZERO, crcs()) + NONE, ""
+    yield "phase 2", "poke phase 2\nfeed -\nfinish\n", \
+        line("refused 2", "2 0 0 0 0 0 0 0", crcs()) + line("end 0 0 0", ZERO, crcs()), ""
+
+
+def longest():
+    """270,000 bytes without the line feed are fine, one more is a bad line, on every side of a read."""
+    fits = "stage " + "00" * ((LONGEST - len("stage ")) // 2)
+    assert len(fits) == LONGEST
+    four = line("refused 4", ZERO, crcs())
+    yield "a line of 270,000 bytes", fits + "\nbytes\n", four + EMPTY, ""
+    yield "a line of 270,000 bytes, the last, without a line feed", "bytes\n" + fits, EMPTY + four, ""
+    yield "a line of 270,001 bytes", fits + "0\nbytes\n", EMPTY, bad(1)
+    yield "a line of 270,002 bytes", "bytes\n" + fits + "00\nbytes\nfoo\n", EMPTY * 2, bad(2, 4)
+    yield "a line of 270,002 bytes, the last, without a line feed", "bytes\n" + fits + "00", EMPTY, bad(2)
+    yield "a line of a million bytes", "bytes\n" + "open " * 200_000 + "\nbytes\n", EMPTY * 2, bad(2)
+    yield "a comment of 270,000 bytes", "#" * LONGEST + "\nbytes\n", EMPTY, ""
+    yield "a comment of 270,001 bytes", "#" * (LONGEST + 1) + "\nbytes\n", EMPTY, bad(1)
+    piece = bytes(65536)
+    yield "a feed of 65,536 bytes", f"poke phase 1\nfeed {piece.hex()}\n", \
+        line("fed 65536 more", "1 0 0 0 0 65536 0 65536", crcs()), ""
+
+
+def many():
+    """More output than one buffer of 8,192 bytes, with bad lines between."""
+    yield "2,000 calls and 1,000 bad lines", "bytes\nfoo\nwithdraw\n" * 1000, (EMPTY + NONE) * 1000, \
+        bad(*range(2, 3000, 3))
+
+
+def cases():
+    for group in (flight, bad_lines, numbers, passed_over, size_put_poke, longest, many):
+        yield from group()
+
+
+def played(script, env):
+    ran = subprocess.run([os.path.join(TOP, "tools", "x86run"), PROGRAM], input=script.encode("ascii"), env=env,
+                         stdout=subprocess.PIPE, stderr=subprocess.PIPE, timeout=60)
+    if ran.returncode != 0:
+        return f"status {ran.returncode}", ran.stderr.decode(errors="replace")
+    return ran.stdout.decode(errors="replace"), ran.stderr.decode(errors="replace")
+
+
+def main():
+    if not os.path.exists(PROGRAM):
+        print("test_flight: there is no target/bin/replay; `rt check replay` makes it\n0 passed, 1 failed")
+        return 1
+    env = dict(os.environ)
+    if "RATTLE_HOME" not in env:  # ask rt once, and not at each run
+        guide = subprocess.run(["rt", "doc"], stdout=subprocess.PIPE, text=True, check=True).stdout.strip()
+        env["RATTLE_HOME"] = os.path.dirname(os.path.dirname(guide))
+    passed = failed = 0
+    for name, script, want, told in cases():
+        if script is None:
+            same = want == told
+        else:
+            said = played(script, env)
+            same = said == (want, told)
+            if not same:
+                print(f"test_flight: {name}: says {said[0][:300]!r} and {said[1][:200]!r}, not {want[:300]!r} and {told[:200]!r}")
+        if not same and script is None:
+            print(f"test_flight: {name}: it is not")
+        passed, failed = (passed + 1, failed) if same else (passed, failed + 1)
+    print(f"{passed} passed, {failed} failed")
+    return 1 if failed else 0
+
+
+if __name__ == "__main__":
+    sys.exit(main())
