@@ -164,6 +164,17 @@ def many():
         bad(*range(2, 3000, 3))
 
 
+def failures(env):
+    """(name, what is told on standard error): standard input that cannot be read, standard output that cannot be written."""
+    def told(stdin, stdout):
+        return subprocess.run([os.path.join(TOP, "tools", "x86run"), PROGRAM], stdin=stdin, stdout=stdout, env=env,
+                              stderr=subprocess.PIPE, timeout=60).stderr.decode(errors="replace")
+    folder = os.open(TOP, os.O_RDONLY)
+    yield "a folder as standard input", "replay: cannot read standard input\n", told(folder, subprocess.DEVNULL)
+    with open(os.path.join(TOP, "samples", "flight-line.script"), "rb") as script, open("/dev/full", "wb") as full:
+        yield "a full device as standard output", "replay: cannot write to standard output\n", told(script, full)
+
+
 def cases():
     for group in (flight, bad_lines, numbers, passed_over, size_put_poke, longest, many):
         yield from group()
@@ -186,7 +197,8 @@ def main():
         guide = subprocess.run(["rt", "doc"], stdout=subprocess.PIPE, text=True, check=True).stdout.strip()
         env["RATTLE_HOME"] = os.path.dirname(os.path.dirname(guide))
     passed = failed = 0
-    for name, script, want, told in cases():
+    stopped = [(name, None, want, told) for name, want, told in failures(env)]
+    for name, script, want, told in [*cases(), *stopped]:
         if script is None:
             same = want == told
         else:
@@ -195,7 +207,7 @@ def main():
             if not same:
                 print(f"test_flight: {name}: says {said[0][:300]!r} and {said[1][:200]!r}, not {want[:300]!r} and {told[:200]!r}")
         if not same and script is None:
-            print(f"test_flight: {name}: it is not")
+            print(f"test_flight: {name}: {told[:300]!r}, not {want[:300]!r}")
         passed, failed = (passed + 1, failed) if same else (passed, failed + 1)
     print(f"{passed} passed, {failed} failed")
     return 1 if failed else 0

@@ -1,13 +1,12 @@
 -- No answer of the reader carries a NaN as a float.
 -- Assumes nothing.
-use mathlib.Core.Path.{_≡_, refl, sym, ap, _∙_, subst}
+use mathlib.Core.Path.{_≡_, refl, sym, _∙_, subst}
 use mathlib.Core.Bool.{Bool, true, false, not, cond}
 use Prim.Native.Nat.{ℕ}
 use lib.Dec.{T}
 use lib.Ieee.{Format, binary32, binary64, nanBits, isNan, ofBits}
 use lib.Ieee.Bits.{nanBits-is}
-use Rattle.record.specs.Answer.{Said, unsigned, signed, single, double, doNotUse, notInRevision, refused, Answers, singleCase, doubleCase, caseFor}
-use Rattle.record.specs.declared.Value.{Value}
+use Rattle.record.specs.Answer.{Said, unsigned, signed, single, double, doNotUse, notInRevision, refused, Answers, caseFor}
 use Rattle.record.specs.declared.Value.the-variants as value
 use Rattle.record.specs.declared.Answer.{Answer}
 use Rattle.replay.specs.Lines.{noNan, noNanIn}

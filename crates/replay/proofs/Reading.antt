@@ -1,17 +1,17 @@
 -- Reading a word from left to right: one law for each step of each loop, over plain lists.
 -- Assumes nothing.
-use mathlib.Core.Path.{_≡_, refl, sym, ap, _∙_}
-use mathlib.Core.Bool.{Bool, true, false, cond, _&&_}
+use mathlib.Core.Path.{_≡_, refl, ap, _∙_}
+use mathlib.Core.Bool.{Bool, true, false, _&&_}
 use mathlib.Core.List.{List, [], _∷_, _++_, append-assoc, append-nil}
 use mathlib.Core.Option.{Option, none, some}
-use Prim.Native.Nat.{ℕ, zero, suc, _+_, _-_, _*_, _≤_, _<_}
+use Prim.Native.Nat.{ℕ, suc, _+_, _-_, _*_, _≤_, _<_}
 use native.Mathlib.Numerals.{add-one}
 use native.Mathlib.Omega.{arith}
 use lib.ListN.{length, take, drop, getD, set, drop-of-length-le}
-use lib.Dec.{eqb, leb, ltb}
+use lib.Dec.{eqb}
 use lib.Seq.{drop-cons, take-suc-set}
 use borrow.Author.Tests.{eq-eqb, ne-eqb, le-leb, lt-leb, lt-ltb, le-ltb}
-use Rattle.replay.specs.Words.{upTo, sameAs, addDigit, digitBehind, numberThen, numberIn, hexDigit, behind, bytesFrom, bytesIn}
+use Rattle.replay.specs.Words.{upTo, sameAs, addDigit, numberThen, numberIn, hexDigit, behind, bytesFrom, bytesIn}
 
 at-cons : (s : List ℕ) (i : ℕ) → i < length s → drop i s ≡ getD s i 0 ∷ drop (i + 1) s
 at-cons s i h = rw (add-one, drop-cons s i 0)

@@ -1,13 +1,13 @@
 -- Text that grows at its end: each word put behind what stands makes the text so far and the word.
 -- Assumes nothing.
-use mathlib.Core.Path.{_≡_, refl, sym, ap, ap₂, _∙_}
-use mathlib.Core.List.{List, [], _∷_, _++_, append-assoc}
+use mathlib.Core.Path.{_≡_, ap, _∙_}
+use mathlib.Core.List.{List, _++_, append-assoc}
 use Prim.Native.Nat.{ℕ, _+_, _^_, _≤_, _<_}
 use native.Mathlib.Omega.{arith}
 use lib.ListN.{length, take, drop}
 use lib.Seq.{paste, take-paste, take-all}
 use Rattle.io.specs.Digits.{digits, Fewest}
-use Rattle.text.specs.Lines.{places, decimal, spaced, fourHex}
+use Rattle.text.specs.Lines.{decimal, fourHex}
 use Rattle.text.proofs.Decimals.{places-is, four-are}
 
 pub copied : (d e w : List ℕ) (at k : ℕ) → e ≡ paste d at (drop 0 w) k → at ≤ length d → k ≤ length w → take (at + k) e ≡ take at d ++ take k w

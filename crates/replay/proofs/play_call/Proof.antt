@@ -1,10 +1,6 @@
 -- `replay::play_call` keeps the output buffer: what is printed fits into the room made.
 -- Assumes nothing.
-use mathlib.Core.Path.{_≡_, refl, sym, ap, _∙_, subst}
-use mathlib.Core.List.{List, [], _∷_, _++_}
-use Prim.Native.Nat.{ℕ, suc, _+_, _-_, _*_, _≤_, _<_, _^_}
 use native.Mathlib.Omega.{arith}
-use lib.ListN.{length, take}
 use borrow.Author.Needs.{needs}
 use Rattle.replay.proofs.play_call.Statement.{statement}
 use Rattle.replay.proofs.play_call.Tie as tie

@@ -1,10 +1,8 @@
 -- `text::end_line` meets its contract: the words one behind the other.
 -- Assumes nothing.
-use mathlib.Core.Path.{_≡_}
 use mathlib.Core.List.{_++_}
-use Prim.Native.Nat.{_+_, _≤_}
 use native.Mathlib.Omega.{arith}
-use lib.ListN.{length, take}
+use lib.ListN.{take}
 use Rattle.text.specs.Lines.{spaced, wordEnd, newline}
 use Rattle.text.proofs.Joins.{joined}
 use borrow.Author.Needs.{needs}

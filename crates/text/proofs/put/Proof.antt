@@ -1,10 +1,7 @@
 -- `text::put` meets its contract: a copy is a paste, and its front is what stood there and the word.
 -- Assumes nothing.
-use mathlib.Core.Path.{_≡_, refl, sym, ap, _∙_}
-use mathlib.Core.List.{List, [], _∷_, _++_}
-use Prim.Native.Nat.{ℕ, _+_, _≤_}
+use mathlib.Core.Path.{refl}
 use native.Mathlib.Omega.{arith}
-use lib.ListN.{length, take}
 use Rattle.text.proofs.Joins.{copied-all}
 use borrow.Author.Needs.{needs}
 use Rattle.text.proofs.put.Statement.{statement}

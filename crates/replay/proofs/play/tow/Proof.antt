@@ -1,10 +1,5 @@
 -- `replay::play::tow` is safe: no answer of the reader carries a NaN as a float.
 -- Assumes nothing.
-use mathlib.Core.Path.{_≡_, refl, sym, ap, _∙_, subst}
-use mathlib.Core.List.{List, [], _∷_, _++_}
-use Prim.Native.Nat.{ℕ, suc, _+_, _-_, _*_, _≤_, _<_, _^_}
-use native.Mathlib.Omega.{arith}
-use lib.ListN.{length, take}
 use Rattle.replay.proofs.Floats.{answers-plain}
 use borrow.Author.Needs.{needs}
 use Rattle.replay.proofs.play.tow.Statement.{statement}

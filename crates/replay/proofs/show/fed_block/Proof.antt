@@ -1,10 +1,8 @@
 -- `replay::show::fed_block` meets its contract: the count, then the block.
 -- Assumes nothing.
-use mathlib.Core.Path.{_≡_, refl, sym, ap, _∙_, subst}
-use mathlib.Core.List.{List, [], _∷_, _++_}
-use Prim.Native.Nat.{ℕ, suc, _+_, _-_, _*_, _≤_, _<_, _^_}
+use mathlib.Core.List.{_++_}
 use native.Mathlib.Omega.{arith}
-use lib.ListN.{length, take}
+use lib.ListN.{take}
 use Rattle.text.proofs.Joins.{joined}
 use Rattle.text.specs.Lines.{blockWords}
 use Rattle.reader.specs.Said.{reportOf}

@@ -1,10 +1,7 @@
 -- `replay::show::field` meets its contract: a value or a refusal.
 -- Assumes nothing.
-use mathlib.Core.Path.{_≡_, refl, sym, ap, _∙_, subst}
-use mathlib.Core.List.{List, [], _∷_, _++_}
-use Prim.Native.Nat.{ℕ, suc, _+_, _-_, _*_, _≤_, _<_, _^_}
+use mathlib.Core.Path.{subst}
 use native.Mathlib.Omega.{arith}
-use lib.ListN.{length, take}
 use lib.Dec.{T}
 use Rattle.record.specs.declared.Answer.{Answer}
 use Rattle.replay.specs.Lines.{noNanIn}

@@ -1,19 +1,16 @@
 -- `replay::show::integer` meets its contract: a minus before a negative number.
 -- Assumes nothing.
-use mathlib.Core.Path.{_≡_, refl, sym, ap, _∙_, subst}
-use mathlib.Core.List.{List, [], _∷_, _++_}
-use Prim.Native.Nat.{ℕ, suc, _+_, _-_, _*_, _≤_, _<_, _^_}
+use mathlib.Core.Path.{sym, ap, _∙_}
+use mathlib.Core.List.{List, _++_}
+use Prim.Native.Nat.{ℕ}
 use native.Mathlib.Omega.{arith}
-use lib.ListN.{length, take}
+use lib.ListN.{take}
 use Rattle.text.proofs.Joins.{joined}
 use Rattle.text.specs.Lines.{spaced, decimal}
-use Rattle.replay.specs.Lines.{wordMinus, integerText}
+use Rattle.replay.specs.Lines.{wordMinus}
 use mathlib.Core.Bool.{true, false}
-use lib.Dec.{T}
-use lib.IntN.{ℤ, pos, natAbs}
-use lib.Signed.{ltZ, nonNeg}
+use lib.IntN.{natAbs}
 use mir.Syntax.{w64}
-use mir.Val.{toZ, ofZ}
 use mir.ValLaws.{toZ-ofZ}
 use Rattle.replay.proofs.Signs.{tested, negative-text, plain-text}
 use borrow.Author.Needs.{needs}

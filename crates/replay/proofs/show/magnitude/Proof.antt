@@ -1,17 +1,7 @@
 -- `replay::show::magnitude` meets its contract: a negative number is told from its distance below -1.
 -- Assumes nothing.
-use mathlib.Core.Path.{_≡_, refl, sym, ap, _∙_, subst}
-use mathlib.Core.List.{List, [], _∷_, _++_}
-use Prim.Native.Nat.{ℕ, suc, _+_, _-_, _*_, _≤_, _<_, _^_}
 use native.Mathlib.Omega.{arith}
-use lib.ListN.{length, take}
 use mathlib.Core.Bool.{true, false}
-use lib.Dec.{T}
-use lib.IntN.{ℤ, pos, natAbs}
-use lib.Signed.{ltZ, nonNeg}
-use mir.Syntax.{w64}
-use mir.Val.{toZ, ofZ}
-use mir.ValLaws.{toZ-ofZ}
 use Rattle.replay.proofs.Signs.{tested, plain-sign, plain-small, below-fits, below-plain, below-distance, below-small}
 use borrow.Author.Needs.{needs}
 use Rattle.replay.proofs.show.magnitude.Statement.{statement}

@@ -1,10 +1,7 @@
 -- `replay::show::more` meets its contract: the count, then the word.
 -- Assumes nothing.
-use mathlib.Core.Path.{_≡_, refl, sym, ap, _∙_, subst}
-use mathlib.Core.List.{List, [], _∷_, _++_}
-use Prim.Native.Nat.{ℕ, suc, _+_, _-_, _*_, _≤_, _<_, _^_}
 use native.Mathlib.Omega.{arith}
-use lib.ListN.{length, take}
+use lib.ListN.{take}
 use Rattle.text.proofs.Joins.{joined}
 use Rattle.replay.specs.Lines.{wordMore, fedText}
 use borrow.Author.Needs.{needs}

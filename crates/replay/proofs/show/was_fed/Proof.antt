@@ -1,10 +1,6 @@
 -- `replay::show::was_fed` meets its contract: one line for each answer.
 -- Assumes nothing.
-use mathlib.Core.Path.{_≡_, refl, sym, ap, _∙_, subst}
-use mathlib.Core.List.{List, [], _∷_, _++_}
-use Prim.Native.Nat.{ℕ, suc, _+_, _-_, _*_, _≤_, _<_, _^_}
 use native.Mathlib.Omega.{arith}
-use lib.ListN.{length, take}
 use borrow.Author.Needs.{needs}
 use Rattle.replay.proofs.show.was_fed.Statement.{statement}
 use Rattle.replay.proofs.show.was_fed.Tie as tie

@@ -1,12 +1,12 @@
 -- `replay::show::withdrawn` meets its contract: each answer is one word and a number.
 -- Assumes nothing.
-use mathlib.Core.Path.{_≡_, refl, sym, ap, _∙_, subst}
-use mathlib.Core.List.{List, [], _∷_, _++_}
-use Prim.Native.Nat.{ℕ, suc, _+_, _-_, _*_, _≤_, _<_, _^_}
+use mathlib.Core.Path.{ap, _∙_}
+use mathlib.Core.List.{_++_}
+use Prim.Native.Nat.{ℕ}
 use native.Mathlib.Omega.{arith}
-use lib.ListN.{length, take}
+use lib.ListN.{take}
 use Rattle.text.specs.Lines.{spaced}
-use Rattle.replay.specs.Lines.{wordWithdrawn, oneFor}
+use Rattle.replay.specs.Lines.{wordWithdrawn}
 use borrow.Author.Needs.{needs}
 use Rattle.replay.proofs.show.withdrawn.Statement.{statement}
 use Rattle.replay.proofs.show.withdrawn.Tie as tie

@@ -1,9 +1,7 @@
 -- `replay::words::add_digit` meets its contract: each return is one law of `addDigit`.
 -- Assumes nothing.
-use mathlib.Core.Path.{_≡_, refl, sym, ap, _∙_}
-use Prim.Native.Nat.{ℕ, suc, _+_, _-_, _*_, _≤_, _<_}
+use mathlib.Core.Path.{sym}
 use native.Mathlib.Omega.{arith}
-use lib.ListN.{length, take, drop, getD}
 use Rattle.replay.proofs.Reading.{digit-low, digit-high, digit-over, digit-fits}
 use borrow.Author.Needs.{needs}
 use Rattle.replay.proofs.words.add_digit.Statement.{statement}

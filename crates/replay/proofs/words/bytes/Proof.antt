@@ -1,9 +1,7 @@
 -- `replay::words::bytes` meets its contract: each return is one law of `bytesIn`.
 -- Assumes nothing.
-use mathlib.Core.Path.{_≡_, refl, sym, ap, _∙_}
-use Prim.Native.Nat.{ℕ, suc, _+_, _-_, _*_, _≤_, _<_}
+use mathlib.Core.Path.{sym, _∙_}
 use native.Mathlib.Omega.{arith}
-use lib.ListN.{length, take, drop, getD}
 use Rattle.replay.proofs.Reading.{bytes-none, bytes-dash, bytes-hex}
 use borrow.Author.Needs.{needs}
 use Rattle.replay.proofs.words.bytes.Statement.{statement}

@@ -1,10 +1,9 @@
 -- `replay::words::decode` meets its contract. The invariant: the bytes so far, with what is left behind them, are the whole.
 -- Assumes nothing.
 use mathlib.Core.Path.{_≡_, refl, sym, ap, _∙_}
-use Prim.Native.Nat.{ℕ, suc, _+_, _-_, _*_, _≤_, _<_}
+use Prim.Native.Nat.{ℕ, _+_, _-_, _*_, _≤_, _<_}
 use native.Mathlib.Omega.{arith}
 use lib.ListN.{length, take, drop, getD, length-set}
-use mathlib.Core.List.{List}
 use Rattle.replay.specs.Words.{hexDigit, behind, bytesFrom}
 use Rattle.replay.proofs.Reading.{before, before-empty, before-more, before-last, bytes-odd, bytes-high, bytes-low, bytes-more, bytes-end}
 use borrow.Author.Needs.{needs}

@@ -1,9 +1,7 @@
 -- `replay::words::hex_digit` meets its contract: each return is one law of `hexDigit`.
 -- Assumes nothing.
-use mathlib.Core.Path.{_≡_, refl, sym, ap, _∙_}
-use Prim.Native.Nat.{ℕ, suc, _+_, _-_, _*_, _≤_, _<_}
+use mathlib.Core.Path.{sym}
 use native.Mathlib.Omega.{arith}
-use lib.ListN.{length, take, drop, getD}
 use Rattle.replay.proofs.Reading.{hex-below, hex-figure, hex-between, hex-capital, hex-amid, hex-small, hex-above}
 use borrow.Author.Needs.{needs}
 use Rattle.replay.proofs.words.hex_digit.Statement.{statement}

@@ -1,9 +1,9 @@
 -- `replay::words::is` meets its contract. The invariant: what is left of both gives the whole.
 -- Assumes nothing.
-use mathlib.Core.Path.{_≡_, refl, sym, ap, _∙_}
-use Prim.Native.Nat.{ℕ, suc, _+_, _-_, _*_, _≤_, _<_}
+use mathlib.Core.Path.{_≡_, sym, _∙_}
+use Prim.Native.Nat.{_-_, _≤_}
 use native.Mathlib.Omega.{arith}
-use lib.ListN.{length, take, drop, getD}
+use lib.ListN.{length, drop}
 use Rattle.replay.specs.Words.{sameAs}
 use Rattle.replay.proofs.Reading.{lengths-differ, same-not, same-more, same-end}
 use borrow.Author.Needs.{needs}

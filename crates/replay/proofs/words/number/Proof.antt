@@ -1,9 +1,9 @@
 -- `replay::words::number` meets its contract. The invariant: what is left, behind the digits so far, gives the whole.
 -- Assumes nothing.
-use mathlib.Core.Path.{_≡_, refl, sym, ap, _∙_}
-use Prim.Native.Nat.{ℕ, suc, _+_, _-_, _*_, _≤_, _<_}
+use mathlib.Core.Path.{_≡_, sym, ap, _∙_}
+use Prim.Native.Nat.{_-_, _≤_}
 use native.Mathlib.Omega.{arith}
-use lib.ListN.{length, take, drop, getD}
+use lib.ListN.{length, drop, getD}
 use mathlib.Core.Option.{none, some}
 use Rattle.replay.specs.Words.{numberSays, addDigit, numberThen, numberIn}
 use Rattle.replay.proofs.Reading.{number-empty, number-some, number-stop, number-more, number-end}

@@ -1,9 +1,9 @@
 -- `replay::words::word_end` meets its contract. The invariant: what is left gives the whole.
 -- Assumes nothing.
-use mathlib.Core.Path.{_≡_, refl, sym, ap, _∙_}
-use Prim.Native.Nat.{ℕ, suc, _+_, _-_, _*_, _≤_, _<_}
+use mathlib.Core.Path.{_≡_, sym}
+use Prim.Native.Nat.{_+_, _-_, _≤_}
 use native.Mathlib.Omega.{arith}
-use lib.ListN.{length, take, drop, getD}
+use lib.ListN.{length, drop}
 use Rattle.replay.specs.Words.{upTo}
 use Rattle.replay.proofs.Reading.{up-here, up-more, up-end}
 use lib.Seq.{length-take-le}
