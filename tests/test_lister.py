@@ -125,14 +125,19 @@ def stream(seed):
 SEEDS = range(49)
 
 
+def kept():
+    """(name, stream, list) of the files that have their list beside them; see tests/streams/README.md."""
+    folder = os.path.join(TOP, "tests", "streams")
+    streams = sorted(os.path.join(folder, name) for name in os.listdir(folder) if name.endswith(".sbf"))
+    for path in [os.path.join(TOP, "samples", "flight.sbf")] + streams:
+        with open(path, "rb") as f, open(path[:-4] + ".list", encoding="ascii") as g:
+            yield os.path.relpath(path, TOP), f.read(), g.read()
+
+
 def cases():
     """(name, input, expected output); what is kept as expected is held to the rule too."""
-    with open(os.path.join(TOP, "samples", "flight.sbf"), "rb") as f:
-        flight = f.read()
-    with open(os.path.join(TOP, "samples", "flight.list"), encoding="ascii") as f:
-        flight_list = f.read()
-    for name, data, kept in [("document 01's sample", SAMPLE, SAMPLE_LIST), ("samples/flight.sbf", flight, flight_list)]:
-        yield f"test_lister: {name}, as kept", data, kept
+    for name, data, kept_list in [("document 01's sample", SAMPLE, SAMPLE_LIST)] + list(kept()):
+        yield f"test_lister: {name}, as kept", data, kept_list
         yield f"test_lister: {name}", data, listed(data)
     for seed in SEEDS:
         data = stream(seed)

@@ -1,8 +1,8 @@
 // A line as a call: its first word says which, and the rest of the line is read as that call asks.
 ghost use Prim.Native.Nat.{_≤_};
 ghost use lib.ListN.{length};
-use crate::words;
-use crate::words::Decimal;
+use text::words;
+use text::words::Decimal;
 
 pub enum Buffer {
     Hold,

@@ -3,7 +3,6 @@ ghost use Prim.Native.Nat.{_+_, _≤_, _<_};
 ghost use mathlib.Core.Path.{_≡_};
 ghost use lib.ListN.{length};
 
-mod words; // words.rt: where a word ends, decimal numbers, bytes in hex
 mod calls; // calls.rt: a line as a call
 mod bench; // bench.rt: the state and what is lent, between two calls
 mod show; // show.rt: answers as text

@@ -2,10 +2,10 @@
 -- Assumes nothing.
 use mathlib.Core.Path.{sym, _∙_}
 use native.Mathlib.Omega.{arith}
-use Rattle.replay.proofs.Reading.{bytes-none, bytes-dash, bytes-hex}
+use Rattle.text.proofs.Reading.{bytes-none, bytes-dash, bytes-hex}
 use borrow.Author.Needs.{needs}
-use Rattle.replay.proofs.words.bytes.Statement.{statement}
-use Rattle.replay.proofs.words.bytes.Tie as tie
+use Rattle.text.proofs.words.bytes.Statement.{statement}
+use Rattle.text.proofs.words.bytes.Tie as tie
 
 returns : tie.Need-returns
 returns c =

@@ -4,11 +4,11 @@ use mathlib.Core.Path.{_≡_, sym, _∙_}
 use Prim.Native.Nat.{_-_, _≤_}
 use native.Mathlib.Omega.{arith}
 use lib.ListN.{length, drop}
-use Rattle.replay.specs.Words.{sameAs}
-use Rattle.replay.proofs.Reading.{lengths-differ, same-not, same-more, same-end}
+use Rattle.text.specs.Words.{sameAs}
+use Rattle.text.proofs.Reading.{lengths-differ, same-not, same-more, same-end}
 use borrow.Author.Needs.{needs}
-use Rattle.replay.proofs.words.is.Statement.{statement}
-use Rattle.replay.proofs.words.is.Tie as tie
+use Rattle.text.proofs.words.is.Statement.{statement}
+use Rattle.text.proofs.words.is.Tie as tie
 
 abbrev Inv-loop : tie.InvT-loop
 Inv-loop word name i₀ i = (i ≤ length word) × (length word ≡ length name) × (sameAs (drop i word) (drop i name) ≡ sameAs word name)

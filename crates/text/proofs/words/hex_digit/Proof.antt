@@ -2,10 +2,10 @@
 -- Assumes nothing.
 use mathlib.Core.Path.{sym}
 use native.Mathlib.Omega.{arith}
-use Rattle.replay.proofs.Reading.{hex-below, hex-figure, hex-between, hex-capital, hex-amid, hex-small, hex-above}
+use Rattle.text.proofs.Reading.{hex-below, hex-figure, hex-between, hex-capital, hex-amid, hex-small, hex-above}
 use borrow.Author.Needs.{needs}
-use Rattle.replay.proofs.words.hex_digit.Statement.{statement}
-use Rattle.replay.proofs.words.hex_digit.Tie as tie
+use Rattle.text.proofs.words.hex_digit.Statement.{statement}
+use Rattle.text.proofs.words.hex_digit.Tie as tie
 
 returns : tie.Need-returns
 returns c =

@@ -4,11 +4,11 @@ use mathlib.Core.Path.{_≡_, refl, sym, ap, _∙_}
 use Prim.Native.Nat.{ℕ, _+_, _-_, _*_, _≤_, _<_}
 use native.Mathlib.Omega.{arith}
 use lib.ListN.{length, take, drop, getD, length-set}
-use Rattle.replay.specs.Words.{hexDigit, behind, bytesFrom}
-use Rattle.replay.proofs.Reading.{before, before-empty, before-more, before-last, bytes-odd, bytes-high, bytes-low, bytes-more, bytes-end}
+use Rattle.text.specs.Words.{hexDigit, behind, bytesFrom}
+use Rattle.text.proofs.Reading.{before, before-empty, before-more, before-last, bytes-odd, bytes-high, bytes-low, bytes-more, bytes-end}
 use borrow.Author.Needs.{needs}
-use Rattle.replay.proofs.words.decode.Statement.{statement}
-use Rattle.replay.proofs.words.decode.Tie as tie
+use Rattle.text.proofs.words.decode.Statement.{statement}
+use Rattle.text.proofs.words.decode.Tie as tie
 
 abbrev Inv-loop : tie.InvT-loop
 Inv-loop word given₀ count₀ at₀ given count at = (at ≡ count + count) × (at ≤ length word) × (length given ≡ length given₀) × (before (take count given) (bytesFrom (drop at word)) ≡ bytesFrom word)

@@ -11,7 +11,7 @@ use lib.ListN.{length, take, drop, getD, set, drop-of-length-le}
 use lib.Dec.{eqb}
 use lib.Seq.{drop-cons, take-suc-set}
 use borrow.Author.Tests.{eq-eqb, ne-eqb, le-leb, lt-leb, lt-ltb, le-ltb}
-use Rattle.replay.specs.Words.{upTo, sameAs, addDigit, numberThen, numberIn, hexDigit, behind, bytesFrom, bytesIn}
+use Rattle.text.specs.Words.{upTo, sameAs, addDigit, numberThen, numberIn, hexDigit, behind, bytesFrom, bytesIn}
 
 at-cons : (s : List ℕ) (i : ℕ) → i < length s → drop i s ≡ getD s i 0 ∷ drop (i + 1) s
 at-cons s i h = rw (add-one, drop-cons s i 0)

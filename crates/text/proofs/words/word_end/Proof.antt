@@ -4,12 +4,12 @@ use mathlib.Core.Path.{_≡_, sym}
 use Prim.Native.Nat.{_+_, _-_, _≤_}
 use native.Mathlib.Omega.{arith}
 use lib.ListN.{length, drop}
-use Rattle.replay.specs.Words.{upTo}
-use Rattle.replay.proofs.Reading.{up-here, up-more, up-end}
+use Rattle.text.specs.Words.{upTo}
+use Rattle.text.proofs.Reading.{up-here, up-more, up-end}
 use lib.Seq.{length-take-le}
 use borrow.Author.Needs.{needs}
-use Rattle.replay.proofs.words.word_end.Statement.{statement}
-use Rattle.replay.proofs.words.word_end.Tie as tie
+use Rattle.text.proofs.words.word_end.Statement.{statement}
+use Rattle.text.proofs.words.word_end.Tie as tie
 
 abbrev Inv-loop : tie.InvT-loop
 Inv-loop text i₀ i = (i ≤ length text) × (i + upTo 32 (drop i text) ≡ upTo 32 text)

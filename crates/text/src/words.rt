@@ -3,7 +3,7 @@ ghost use Prim.Native.Nat.{_+_, _≤_};
 ghost use mathlib.Core.Path.{_≡_};
 ghost use lib.ListN.{length, take, drop};
 ghost use Rattle.io.specs.Counts.{Counts};
-ghost use Rattle.replay.specs.Words.{upTo, sameAs, numberSays, addDigit, numberIn, hexDigit, bytesSay, bytesFrom, bytesIn};
+ghost use Rattle.text.specs.Words.{upTo, sameAs, numberSays, addDigit, numberIn, hexDigit, bytesSay, bytesFrom, bytesIn};
 
 // Where the word at the front of a text ends: at its first space, or with it.
 pub fn word_end(text: &[u8]) -> usize

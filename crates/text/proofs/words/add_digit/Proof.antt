@@ -2,10 +2,10 @@
 -- Assumes nothing.
 use mathlib.Core.Path.{sym}
 use native.Mathlib.Omega.{arith}
-use Rattle.replay.proofs.Reading.{digit-low, digit-high, digit-over, digit-fits}
+use Rattle.text.proofs.Reading.{digit-low, digit-high, digit-over, digit-fits}
 use borrow.Author.Needs.{needs}
-use Rattle.replay.proofs.words.add_digit.Statement.{statement}
-use Rattle.replay.proofs.words.add_digit.Tie as tie
+use Rattle.text.proofs.words.add_digit.Statement.{statement}
+use Rattle.text.proofs.words.add_digit.Tie as tie
 
 returns : tie.Need-returns
 returns c =

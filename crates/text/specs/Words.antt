@@ -5,8 +5,8 @@ use mathlib.Core.Bool.{Bool, true, false, cond, _&&_}
 use mathlib.Core.List.{List, [], _∷_}
 use mathlib.Core.Option.{Option, none, some}
 use lib.Dec.{eqb, leb, ltb}
-use Rattle.replay.specs.declared.words.Decimal.{Decimal}
-use Rattle.replay.specs.declared.words.Decimal.the-variants.{Value, NoNumber}
+use Rattle.text.specs.declared.words.Decimal.{Decimal}
+use Rattle.text.specs.declared.words.Decimal.the-variants.{Value, NoNumber}
 
 -- how many bytes stand before the first b
 unfoldable pub upTo : ℕ → List ℕ → ℕ

@@ -5,11 +5,11 @@ use Prim.Native.Nat.{_-_, _≤_}
 use native.Mathlib.Omega.{arith}
 use lib.ListN.{length, drop, getD}
 use mathlib.Core.Option.{none, some}
-use Rattle.replay.specs.Words.{numberSays, addDigit, numberThen, numberIn}
-use Rattle.replay.proofs.Reading.{number-empty, number-some, number-stop, number-more, number-end}
+use Rattle.text.specs.Words.{numberSays, addDigit, numberThen, numberIn}
+use Rattle.text.proofs.Reading.{number-empty, number-some, number-stop, number-more, number-end}
 use borrow.Author.Needs.{needs}
-use Rattle.replay.proofs.words.number.Statement.{statement}
-use Rattle.replay.proofs.words.number.Tie as tie
+use Rattle.text.proofs.words.number.Statement.{statement}
+use Rattle.text.proofs.words.number.Tie as tie
 
 abbrev Inv-loop : tie.InvT-loop
 Inv-loop word v₀ i₀ v i = (i ≤ length word) × (numberThen (drop i word) (some v) ≡ numberIn word)
