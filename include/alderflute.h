@@ -28,7 +28,7 @@
  *
  * ANSWERS. refusal is 0 where the call was done, else the number of the refusal; kind says which values are set. All other
  * values are 0. A refused call returns the old state and has written nothing; after a refused feed the last block still
- * stands. The calls are pure: the same arguments and bytes give the same answer.
+ * stands. The same arguments and bytes give the same answer.
  *
  * REFUSALS
  *    1  A buffer of the reader is too short, or the state does not hold together: over 65,532 held bytes, more held than
@@ -37,10 +37,12 @@
  *    2  Out of turn: open in an open run, feed without one or after the first finish, finish without one.
  *    3  The run is full: it has 4,294,967,295 bytes, the held bytes give no block and the piece is not empty.
  *    4  The table breaks a rule: the one to be staged, the one to be opened or the one in force.
- *    5  No table: open with none waiting and none in force, or a field asked for with none in force.
+ *    5  No table: open with none waiting and none in force, or a field or a sub-block asked for with none in
+ *       force.
  *    6  The table has no row for the block's number.
  *    7  The block is too short: a body field that its revision carries ends past its end, or it is below 14 bytes.
- *    8  The sub-blocks do not fit: one is shorter than its fields, or they end past the block's end.
+ *    8  The sub-blocks do not fit: one is shorter than the fields that its revision carries, or they end past the block's
+ *       end.
  *    9  No such field or no such sub-block.
  *   10  The bytes given are not one whole block: sync bytes, length and CRC do not all fit them.
  * Where several hold, open gives the first of 1, 2, 5, 4; feed of 1, 2, 3; finish of 1, 2; bytes and withdraw 1; stage of
@@ -61,6 +63,7 @@
  *         alderflute_part part = alderflute_bytes(state, hold, sizeof hold);
  *         const uint8_t *block = hold + part.offset;
  *         alderflute_field tow = alderflute_tow(state, block, part.length);
+ *         // In the table shipped, field 4 of AttEuler is Heading.
  *         alderflute_field heading = alderflute_body(state, in_force, sizeof in_force, block, part.length, 4);
  *         printf("block %llu %u %u %llu", (unsigned long long)b.place, b.number, b.revision, (unsigned long long)b.length);
  *         if (tow.kind == ALDERFLUTE_UNSIGNED) printf(" tow %llu", (unsigned long long)tow.number);
@@ -73,33 +76,56 @@
  *         printf("\n");
  *     }
  *
+ *     // Reads a table file. One byte more than a store has room for, so that a file that is too long is refused and not cut.
+ *     static int read_table(const char *name, uint8_t *table, size_t *length)
+ *     {
+ *         FILE *file = fopen(name, "rb");
+ *         if (file == NULL) return 0;
+ *         *length = fread(table, 1, ALDERFLUTE_STORE + 1, file);
+ *         int good = !ferror(file);
+ *         fclose(file);
+ *         return good;
+ *     }
+ *
+ *     // Feeds a piece until all of it is taken and no block is left in it. MORE with a rest: the run is full, and the next feed
+ *     // is refused.
+ *     static alderflute_reply feed_all(alderflute_reply r, const uint8_t *piece, size_t n)
+ *     {
+ *         size_t at = 0;
+ *         do {
+ *             r = alderflute_feed(r.state, hold, sizeof hold, piece + at, n - at);
+ *             at += r.answer.taken;
+ *             if (r.answer.kind == ALDERFLUTE_BLOCK) show(r.state, r.answer.block);
+ *         } while (r.answer.kind == ALDERFLUTE_BLOCK || (r.answer.refusal == 0 && at < n));
+ *         return r;
+ *     }
+ *
  *     int main(int argc, char **argv)
  *     {
- *         uint8_t table[ALDERFLUTE_STORE], piece[4096];
- *         FILE *file = argc == 2 ? fopen(argv[1], "rb") : NULL;
- *         if (file == NULL) return 2;
- *         size_t n = fread(table, 1, sizeof table, file);
+ *         uint8_t table[ALDERFLUTE_STORE + 1], piece[4096];
+ *         size_t n;
+ *         if (argc != 2 || !read_table(argv[1], table, &n)) {
+ *             fprintf(stderr, "usage: example TABLE <FILE, with a block table that can be read\n");
+ *             return 2;
+ *         }
  *         alderflute_reply r = alderflute_stage(alderflute_new(), waiting, sizeof waiting, table, n);
  *         if (r.answer.refusal == 0) r = alderflute_open(r.state, in_force, sizeof in_force, waiting, sizeof waiting);
- *         while (r.answer.refusal == 0 && (n = fread(piece, 1, sizeof piece, stdin)) > 0) {
- *             size_t at = 0;
- *             do {
- *                 r = alderflute_feed(r.state, hold, sizeof hold, piece + at, n - at);
- *                 at += r.answer.taken;
- *                 if (r.answer.kind == ALDERFLUTE_BLOCK) show(r.state, r.answer.block);
- *             } while (r.answer.kind == ALDERFLUTE_BLOCK);
+ *         while (r.answer.refusal == 0 && (n = fread(piece, 1, sizeof piece, stdin)) > 0) r = feed_all(r, piece, n);
+ *         if (ferror(stdin)) {
+ *             fprintf(stderr, "example: cannot read standard input\n");
+ *             return 2;
  *         }
  *         while (r.answer.refusal == 0 && r.answer.kind != ALDERFLUTE_END) {
  *             r = alderflute_finish(r.state, hold, sizeof hold);
  *             if (r.answer.kind == ALDERFLUTE_BLOCK) show(r.state, r.answer.block);
  *         }
  *         if (r.answer.refusal != 0) {
- *             printf("refused %u\n", (unsigned)r.answer.refusal);
+ *             fprintf(stderr, "example: refused with %u; alderflute.h says what that means\n", (unsigned)r.answer.refusal);
  *             return 1;
  *         }
  *         printf("end %llu %llu %llu\n", (unsigned long long)r.answer.end.bytes, (unsigned long long)r.answer.end.blocks,
  *                (unsigned long long)r.answer.end.skipped);
- *         return 0;
+ *         return fflush(stdout) == 0 ? 0 : 2;
  *     }
  */
 #ifndef ALDERFLUTE_H
@@ -199,16 +225,20 @@ typedef struct alderflute_part {
 /* A new reader: no run, no table. Not refused. */
 alderflute_state alderflute_new(void);
 
-/* Opens a run. A table that waits is copied to the in-force store first, and waits no more. VERSION of the table in force. */
+/* Opens a run. A table that waits is copied to the in-force store first, and waits no more. The counts begin at 0, and the
+   hold counts as empty. VERSION of the table in force. */
 alderflute_reply alderflute_open(alderflute_state state, uint8_t *in_force, size_t in_force_length, const uint8_t *waiting,
                                  size_t waiting_length);
 
-/* Drops the block last reported and takes bytes of the piece until a block is decided or the piece is spent. BLOCK or MORE,
-   each with taken. After BLOCK call again with the rest of the piece, which may be empty, until MORE. */
+/* Drops the block last reported and takes bytes of the piece until a block is decided, the piece is spent or the run has
+   4,294,967,295 bytes. BLOCK or MORE, each with taken. After BLOCK call again with the rest of the piece, which may be empty,
+   until MORE or a refusal. MORE with less than the piece taken: the run is full, and the next feed that is not empty is
+   refused with 3. */
 alderflute_reply alderflute_feed(alderflute_state state, uint8_t *hold, size_t hold_length, const uint8_t *piece,
                                  size_t piece_length);
 
-/* No more bytes come. Drops the block last reported. BLOCK, or END, which closes the run. Call it until END. */
+/* No more bytes come. Drops the block last reported. BLOCK, or END, which closes the run. Call it until
+   END or a refusal. */
 alderflute_reply alderflute_finish(alderflute_state state, uint8_t *hold, size_t hold_length);
 
 /* The block last reported, as a part of the hold; a part of length 0 where none stands. */

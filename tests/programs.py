@@ -15,6 +15,13 @@ def kit():
     return env
 
 
+def told(name, stdin, stdout, env):
+    """What a program writes to standard output, where that is a pipe, and to standard error, with these for its own."""
+    ran = subprocess.run([os.path.join(TOP, "tools", "x86run"), os.path.join(TOP, "target", "bin", name)], stdin=stdin,
+                         stdout=stdout, env=env, stderr=subprocess.PIPE, timeout=60)
+    return (ran.stdout or b"").decode(errors="replace"), ran.stderr.decode(errors="replace")
+
+
 class Program:
     """A built program; `judge` names what it is held to."""
 
@@ -43,9 +50,9 @@ class Program:
                 return f"line {n + 1}: {self.name} says {b!r}, {self.judge} {a!r}"
         return None
 
-    def compare(self, cases):
-        """Runs the cases (name, input, expected output) up to the first difference, and prints the counts last.
-        Gives the status to exit with."""
+    def compare(self, cases, others=()):
+        """Runs the cases (name, input, expected output) up to the first difference, then the others (name, a function of
+        the environment that says what is wrong), and prints the counts last. Gives the status to exit with."""
         if not os.path.exists(self.path):
             print(f"there is no target/bin/{self.name}; `rt check {self.name}` makes it\n0 passed, 1 failed")
             return 1
@@ -62,5 +69,11 @@ class Program:
                     print(f"{name}: {differs}\n{passed} passed, 1 failed")
                     return 1
                 passed += 1
+        for name, wrong in others:
+            differs = wrong(self.env)
+            if differs:
+                print(f"{name}: {differs}\n{passed} passed, 1 failed")
+                return 1
+            passed += 1
         print(f"{passed} passed, 0 failed")
         return 0

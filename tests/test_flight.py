@@ -10,7 +10,9 @@ import subprocess
 import sys
 import tempfile
 
-TOP = os.path.dirname(os.path.dirname(os.path.abspath(__file__)))
+import programs
+from programs import TOP
+
 PROGRAM = os.path.join(TOP, "target", "bin", "replay")
 BLOCK = "2440a98900000800"  # document 01's sample (b): number 0, revision 0, length 8
 LONGEST = 270_000
@@ -52,7 +54,11 @@ def flight():
             return f.read()
     script = text("flight-line.script")
     yield "samples/flight-line.script", script, text("flight-line.out"), ""
+    with open(os.path.join(TOP, "README.md"), encoding="utf-8") as f:
+        shown = "".join("    " + words + "\n" for words in text("flight-line.out").splitlines())
+        yield "README.md shows the flight line's output", None, "True", str(shown in f.read())
     staged = [words.split(" ")[1] for words in script.split("\n") if words.startswith("stage ")]
+    assert len(staged) == 2
     with tempfile.TemporaryDirectory() as folder:
         for version, given in zip((1, 2), staged):
             made = os.path.join(folder, "table")
@@ -167,8 +173,7 @@ def many():
 def failures(env):
     """(name, what is told on standard error): standard input that cannot be read, standard output that cannot be written."""
     def told(stdin, stdout):
-        return subprocess.run([os.path.join(TOP, "tools", "x86run"), PROGRAM], stdin=stdin, stdout=stdout, env=env,
-                              stderr=subprocess.PIPE, timeout=60).stderr.decode(errors="replace")
+        return programs.told("replay", stdin, stdout, env)[1]
     folder = os.open(TOP, os.O_RDONLY)
     yield "a folder as standard input", "replay: cannot read standard input\n", told(folder, subprocess.DEVNULL)
     with open(os.path.join(TOP, "samples", "flight-line.script"), "rb") as script, open("/dev/full", "wb") as full:
@@ -192,10 +197,7 @@ def main():
     if not os.path.exists(PROGRAM):
         print("test_flight: there is no target/bin/replay; `rt check replay` makes it\n0 passed, 1 failed")
         return 1
-    env = dict(os.environ)
-    if "RATTLE_HOME" not in env:  # ask rt once, and not at each run
-        guide = subprocess.run(["rt", "doc"], stdout=subprocess.PIPE, text=True, check=True).stdout.strip()
-        env["RATTLE_HOME"] = os.path.dirname(os.path.dirname(guide))
+    env = programs.kit()
     passed = failed = 0
     stopped = [(name, None, want, told) for name, want, told in failures(env)]
     for name, script, want, told in [*cases(), *stopped]:

@@ -8,8 +8,11 @@ import binascii
 import os
 import random
 import struct
+import subprocess
 import sys
+import tempfile
 
+import programs
 from programs import TOP, Program
 
 SAMPLE = bytes.fromhex("00 24 40 A9 89 00 00 08 00 24")
@@ -144,8 +147,39 @@ def cases():
         yield f"test_lister: seed {seed}, {len(data)} bytes", data, listed(data)
 
 
+# ---- input and output that fail
+
+def unread(env):
+    """A folder as standard input: no `end` line, and the error is told."""
+    folder = os.open(TOP, os.O_RDONLY)
+    try:
+        said = programs.told("lister", folder, subprocess.PIPE, env)
+    finally:
+        os.close(folder)
+    return "" if said == ("", "lister: cannot read standard input\n") else repr(said)
+
+
+def unwritten(data):
+    """A full device as standard output: told once, whether the lines fill the buffer or wait to the end."""
+    def wrong(env):
+        with tempfile.TemporaryFile() as given, open("/dev/full", "wb") as full:
+            given.write(data)
+            given.seek(0)
+            said = programs.told("lister", given, full, env)
+        return "" if said == ("", "lister: cannot write to standard output\n") else repr(said)
+    return wrong
+
+
+def failures():
+    yield "test_lister: a folder as standard input", unread
+    yield "test_lister: a full device, few lines", unwritten(SAMPLE)
+    yield "test_lister: a full device, many lines", unwritten(block(random.Random(1), b"") * 2000)
+
+
 if __name__ == "__main__":
-    if len(sys.argv) == 2:
+    if len(sys.argv) == 2 and sys.argv[1].isdigit():
         sys.stdout.buffer.write(stream(int(sys.argv[1])))
+    elif len(sys.argv) == 1:
+        sys.exit(Program("lister", "expected is").compare(cases(), failures()))
     else:
-        sys.exit(Program("lister", "expected is").compare(cases()))
+        sys.exit(__doc__)

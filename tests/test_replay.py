@@ -326,6 +326,7 @@ def compare_script(name):
     """One script through both; (name, counts, bad lines, report or None)."""
     data = material(name)
     printed, bad = model.play_lines(data)
+    assert len(printed) >= 100, "a script has 100 calls and more"
     want_out, want_err = model.join_play(printed, bad)
     out, err, status = run_program(REPLAY, data)
     lines = model.split_lines(data)
@@ -353,6 +354,7 @@ def compare_script(name):
 def compare_run(name):
     """One run through the lister and the model."""
     data = material(name)
+    assert len(data) >= 100_000, "a run has 100 kB and more"
     want = model.list_run(data)
     out, err, status = run_program(LISTER, data)
     told = None
@@ -497,7 +499,7 @@ def test(times):
         if not holds:
             print("the model's own sample %s fails" % name)
     for path in missing():
-        print("missing, or no program: %s" % path)
+        print("missing, or no program: %s (`rt check` builds the programs)" % path)
         failed += 1
     if failed:
         return passed, failed
