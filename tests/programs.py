@@ -1,4 +1,5 @@
-"""Programs of target/bin, run through tools/x86run on given inputs and compared with what each has to write."""
+"""What test programs share: cases counted, and programs of target/bin run through tools/x86run and compared with what each has
+to write."""
 import os
 import subprocess
 from concurrent.futures import ThreadPoolExecutor
@@ -13,6 +14,26 @@ def kit():
         guide = subprocess.run(["rt", "doc"], stdout=subprocess.PIPE, text=True, check=True).stdout.strip()
         env["RATTLE_HOME"] = os.path.dirname(os.path.dirname(guide))
     return env
+
+
+class Cases:
+    """Counts the cases that hold, and tells of those that do not."""
+
+    def __init__(self):
+        self.passed = self.failed = 0
+
+    def expect(self, name, ok, found=""):
+        if ok:
+            self.passed += 1
+        else:
+            self.failed += 1
+            print(f"FAILED: {name}" + (f": {found}" if found else ""))
+        return ok
+
+    def tally(self):
+        """Prints the counts, and gives the status to exit with."""
+        print(f"{self.passed} passed, {self.failed} failed")
+        return 1 if self.failed else 0
 
 
 def told(name, stdin, stdout, env):

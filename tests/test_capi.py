@@ -29,17 +29,8 @@ CFLAGS = ["-Wall", "-Wextra", "-Werror", "-pedantic", "-nostdinc", "-isystem", o
           "-Iinclude"]
 SEEDS = range(48)
 
-passed = failed = 0
-
-
-def expect(name, ok, found=""):
-    global passed, failed
-    if ok:
-        passed += 1
-    else:
-        failed += 1
-        print(f"FAILED: {name}" + (f": {found}" if found else ""))
-    return ok
+CASES = programs.Cases()
+expect = CASES.expect
 
 
 def read(path, mode="r"):
@@ -290,8 +281,7 @@ def main():
         example(env)
         odd(env)
         scripts(env)
-    print(f"{passed} passed, {failed} failed")
-    return 1 if failed else 0
+    return CASES.tally()
 
 
 if __name__ == "__main__":

@@ -198,21 +198,13 @@ def main():
         print("test_flight: there is no target/bin/replay; `rt check replay` makes it\n0 passed, 1 failed")
         return 1
     env = programs.kit()
-    passed = failed = 0
-    stopped = [(name, None, want, told) for name, want, told in failures(env)]
-    for name, script, want, told in [*cases(), *stopped]:
-        if script is None:
-            same = want == told
-        else:
-            said = played(script, env)
-            same = said == (want, told)
-            if not same:
-                print(f"test_flight: {name}: says {said[0][:300]!r} and {said[1][:200]!r}, not {want[:300]!r} and {told[:200]!r}")
-        if not same and script is None:
-            print(f"test_flight: {name}: {told[:300]!r}, not {want[:300]!r}")
-        passed, failed = (passed + 1, failed) if same else (passed, failed + 1)
-    print(f"{passed} passed, {failed} failed")
-    return 1 if failed else 0
+    counted = programs.Cases()
+    for name, script, want, told in cases():
+        said, wanted = (told, want) if script is None else (played(script, env), (want, told))
+        counted.expect(name, said == wanted, f"{str(said)[:500]}, not {str(wanted)[:500]}")
+    for name, want, told in failures(env):
+        counted.expect(name, told == want, f"{told[:300]!r}, not {want[:300]!r}")
+    return counted.tally()
 
 
 if __name__ == "__main__":

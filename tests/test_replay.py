@@ -314,10 +314,10 @@ def report(name, stream, number, call, want, got, status):
         lines.append("  script line %s: %s" % (number, shown(call)))
     lines += ["  model:   %s" % shown(want), "  program: %s" % shown(got),
               "  reproduce, in the top folder:",
-              "    %s --seed %s > /tmp/input" % (me, name),
-              "    tools/x86run target/bin/%s < /tmp/input" % program]
+              "    %s --seed %s > target/input" % (me, name),
+              "    tools/x86run target/bin/%s < target/input" % program]
     if program == "replay":
-        lines.append("    python3 %s < /tmp/input" % os.path.join(
+        lines.append("    python3 %s < target/input" % os.path.join(
             here, "model", "model.py"))
     return "\n".join(lines)
 

@@ -7,22 +7,15 @@ import subprocess
 import sys
 import tempfile
 
-ROOT = os.path.dirname(os.path.dirname(os.path.abspath(__file__)))
+from programs import TOP as ROOT, Cases
+
 TOOL = os.path.join(ROOT, "tools", "table")
 TEXT = os.path.join(ROOT, "samples", "shipped-v1.table.txt")
 FILE = os.path.join(ROOT, "samples", "shipped-v1.table")
 CRATE = os.path.join(ROOT, "crates", "shipped")
 
-passed = failed = 0
-
-
-def expect(name, ok, found=""):
-    global passed, failed
-    if ok:
-        passed += 1
-    else:
-        failed += 1
-        print("FAILED: %s%s" % (name, ": " + str(found) if found else ""))
+CASES = Cases()
+expect = CASES.expect
 
 
 def read(path, mode="r"):
@@ -203,5 +196,4 @@ agreement()
 round_trips()
 refused_texts()
 refused_files()
-print("%d passed, %d failed" % (passed, failed))
-sys.exit(1 if failed else 0)
+sys.exit(CASES.tally())
