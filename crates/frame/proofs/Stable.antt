@@ -1,84 +1,167 @@
--- A verdict rests on the bytes that it has seen: more bytes, or other bytes past those, do not change it.
+-- `judged` is a judge as runs ask for, and the judge of the run's end finds frames as it does.
 -- Assumes nothing.
-use mathlib.Core.Path.{_≡_, refl, sym, ap, ap₂, _∙_}
-use mathlib.Core.List.{List, _++_}
-use mathlib.Core.Bool.{Bool}
+use mathlib.Core.Path.{_≡_, refl, sym, ap, ap₂, _∙_, subst, subst⁻¹}
+use mathlib.Core.List.{List, [], _++_}
+use mathlib.Core.Bool.{Bool, true, false, cond}
 use Prim.Native.Nat.{ℕ, _+_, _≤_, _<_}
 use native.Mathlib.Nat.{zero-add}
 use native.Mathlib.Omega.{arith}
-use lib.ListN.{length, take, drop, getD, length-append}
-use lib.Seq.{getD-take, take-append-le}
-use lib.Dec.{eqb}
+use lib.ListN.{length, take, drop, getD, length-append, List·getD-append}
+use lib.Seq.{take-append-le}
+use lib.Dec.{ltb, eqb}
 use Rattle.crc.specs.Crc.{crcOf}
 use Rattle.wire.specs.Little.{littleAt}
 use Rattle.wire.proofs.Laws as little
 use Rattle.frame.specs.Frame.{lengthAt, allowed, crcRight}
-use Rattle.frame.specs.Judge.{judged, seen}
+use Rattle.frame.specs.Judge.{judged, lastBy, judgedLast}
+use Rattle.frame.specs.declared.Reason.{Reason}
+use Rattle.frame.specs.declared.Reason.the-variants.{NoSync, CrcWrong, FewLeft, PastEnd}
 use Rattle.frame.specs.declared.Verdict.{Verdict}
-use Rattle.frame.specs.declared.Verdict.the-variants.{Undecided, CrcWrong, Frame}
-use Rattle.frame.proofs.Cases.{sync0, sync1, bad-length, good, bad}
-use Rattle.frame.proofs.View.{Head, allows, View, waits-head, waits-body, at-sync0, at-sync1, at-length, at-bad, at-good, view, seen-le}
+use Rattle.frame.specs.declared.Verdict.the-variants.{NoFrame, Frame, Undecided}
+use Rattle.frame.proofs.Tests.{bool?, lt?}
+use Rattle.frame.proofs.Cases.{empty, sync0, sync1, bad-length, part, good, bad}
+use Rattle.frame.proofs.View.{Head, allows, View, waits-head, waits-body, at-sync0, at-sync1, at-length, at-bad, at-good, view}
+use Rattle.frame.proofs.Judging.{There, FitsFor, Fits, needFor, need, Judging}
 
-module _ (u v : List ℕ) (k : ℕ) (e : take k u ≡ take k v) where
-  same : (i : ℕ) → i < k → getD v i 0 ≡ getD u i 0
-  same i l = sym (getD-take k v i 0 l) ∙ ap (λ (x : List ℕ). getD x i 0) (sym e) ∙ getD-take k u i 0 l
+-- ---- what is read of the first bytes is read of them with more behind
 
-  same2 : (i : ℕ) → i + 2 ≤ k → littleAt 2 v i ≡ littleAt 2 u i
-  same2 i l = little.agree 2 v u i i (λ d h. same (i + d) (omega arith))
+module _ (xs ys : List ℕ) where
+  long : length (xs ++ ys) ≡ length xs + length ys
+  long = length-append xs ys
 
-  module _ (h : Head u) (l : 8 ≤ k) where
-    length-same : lengthAt v 0 ≡ lengthAt u 0
-    length-same = same2 6 (omega arith)
+  byte : (i : ℕ) → i < length xs → getD (xs ++ ys) i 0 ≡ getD xs i 0
+  byte i l = List·getD-append xs ys 0 i l
 
-    first : getD v 0 0 ≡ 0x24
-    first = same 0 (omega arith) ∙ h .first
+  two : (i : ℕ) → i + 2 ≤ length xs → littleAt 2 (xs ++ ys) i ≡ littleAt 2 xs i
+  two i l = little.agree 2 (xs ++ ys) xs i i (λ d h. byte (i + d) (omega arith))
 
-    second : getD v 1 0 ≡ 0x40
-    second = same 1 (omega arith) ∙ h .second
+  module _ (h : Head xs) where
+    length-same : lengthAt (xs ++ ys) 0 ≡ lengthAt xs 0
+    length-same = two 6 (h .eight)
 
-    allowed-same : {b : Bool} → allowed (lengthAt u 0) ≡ b → allowed (lengthAt v 0) ≡ b
+    allowed-same : {b : Bool} → allowed (lengthAt xs 0) ≡ b → allowed (lengthAt (xs ++ ys) 0) ≡ b
     allowed-same a = ap allowed length-same ∙ a
 
-    crc-same : k ≡ lengthAt u 0 → crcRight v 0 ≡ crcRight u 0
+    crc-same : lengthAt xs 0 ≤ length xs → crcRight (xs ++ ys) 0 ≡ crcRight xs 0
     unfolding crcRight
-    crc-same n =
-        let z : 0 + lengthAt u 0 ≡ k = zero-add (lengthAt u 0) ∙ sym n in
-        ap₂ (λ (x y : ℕ). eqb x y) (same2 2 (omega arith))
-        (ap (λ (x : ℕ). crcOf (drop 4 (take (0 + x) v))) length-same
-        ∙ ap (λ (x : ℕ). crcOf (drop 4 (take x v))) z
-        ∙ ap (λ (x : List ℕ). crcOf (drop 4 x)) (sym e)
-        ∙ ap (λ (x : ℕ). crcOf (drop 4 (take x u))) (sym z))
+    crc-same l =
+        let n : 0 + lengthAt xs 0 ≤ length xs = omega arith in
+        ap₂ (λ (x y : ℕ). eqb x y) (two 2 (omega (arith, h .eight)))
+        (ap (λ (x : ℕ). crcOf (drop 4 (take (0 + x) (xs ++ ys)))) length-same
+        ∙ ap (λ (x : List ℕ). crcOf (drop 4 x)) (take-append-le (0 + lengthAt xs 0) xs ys n))
 
-pub agree : (u v : List ℕ) {x : Verdict} → View u x → (x ≡ Undecided → ⊥) → seen x ≤ length v → take (seen x) u ≡ take (seen x) v → judged v ≡ x
-agree u v (waits-head h) n s e = absurd (n refl)
-agree u v (waits-body h a l) n s e = absurd (n refl)
-agree u v (at-sync0 l a) n s e = sync0 v (omega arith) (λ q. a (sym (same u v 1 e 0 (omega arith)) ∙ q))
-agree u v (at-sync1 l a b) n s e =
-    sync1 v (omega arith) (same u v 2 e 0 (omega arith) ∙ a) (λ q. b (sym (same u v 2 e 1 (omega arith)) ∙ q))
-agree u v (at-length h a) n s e =
-    let g : 8 ≤ 8 = omega arith in
-    bad-length v (omega arith) (first u v 8 e h g) (second u v 8 e h g) s (allowed-same u v 8 e h g a)
-agree u v (at-bad h a l q) n s e =
-    let k = lengthAt u 0 in
-    let g : 8 ≤ lengthAt u 0 = allows (lengthAt u 0) a .not-small in
-    let m : lengthAt v 0 ≤ length v = rw (length-same u v k e h g) s in
-    bad v (omega arith) (first u v k e h g) (second u v k e h g) (omega arith) (allowed-same u v k e h g a) m
-    (crc-same u v k e h g refl ∙ q)
-    ∙ ap CrcWrong (length-same u v k e h g)
-agree u v (at-good h a l q) n s e =
-    let k = lengthAt u 0 in
-    let g : 8 ≤ lengthAt u 0 = allows (lengthAt u 0) a .not-small in
-    let m : lengthAt v 0 ≤ length v = rw (length-same u v k e h g) s in
-    good v (omega arith) (first u v k e h g) (second u v k e h g) (omega arith) (allowed-same u v k e h g a) m
-    (crc-same u v k e h g refl ∙ q)
-    ∙ ap Frame (length-same u v k e h g)
+    eight : 8 ≤ length (xs ++ ys)
+    eight = omega (arith, long, h .eight)
 
--- once decided, decided: bytes that follow do not change it
-pub stable : (xs ys : List ℕ) → (judged xs ≡ Undecided → ⊥) → judged (xs ++ ys) ≡ judged xs
-stable xs ys n =
-    agree xs (xs ++ ys) (view xs) n (omega (arith, length-append xs ys, seen-le xs))
-    (sym (take-append-le (seen (judged xs)) xs ys (seen-le xs)))
+    first : getD (xs ++ ys) 0 0 ≡ 0x24
+    first = byte 0 (omega (arith, h .eight)) ∙ h .first
 
--- decided as soon as what it rests on is there
-pub local : (xs ys : List ℕ) → (judged (xs ++ ys) ≡ Undecided → ⊥) → seen (judged (xs ++ ys)) ≤ length xs → judged xs ≡ judged (xs ++ ys)
-local xs ys n l = agree (xs ++ ys) xs (view (xs ++ ys)) n l (take-append-le (seen (judged (xs ++ ys))) xs ys l)
+    second : getD (xs ++ ys) 1 0 ≡ 0x40
+    second = byte 1 (omega (arith, h .eight)) ∙ h .second
+
+    -- with a length that is allowed
+    module _ (ok : allowed (lengthAt xs 0) ≡ true) where
+      part-on : length (xs ++ ys) < lengthAt xs 0 → judged (xs ++ ys) ≡ Undecided
+      part-on l = part (xs ++ ys) (omega (arith, eight)) first second eight (allowed-same ok) (rw length-same l)
+
+      good-on : lengthAt xs 0 ≤ length (xs ++ ys) → crcRight (xs ++ ys) 0 ≡ true → judged (xs ++ ys) ≡ Frame (lengthAt xs 0)
+      good-on l q = good (xs ++ ys) (omega (arith, eight)) first second eight (allowed-same ok) (rw length-same l) q ∙ ap Frame length-same
+
+      bad-on : lengthAt xs 0 ≤ length (xs ++ ys) → crcRight (xs ++ ys) 0 ≡ false → judged (xs ++ ys) ≡ NoFrame (CrcWrong (lengthAt xs 0))
+      bad-on l q =
+          bad (xs ++ ys) (omega (arith, eight)) first second eight (allowed-same ok) (rw length-same l) q
+          ∙ ap (λ (n : ℕ). NoFrame (CrcWrong n)) length-same
+
+  stays-of : {x : Verdict} → View xs x → (x ≡ Undecided → ⊥) → judged (xs ++ ys) ≡ x
+  stays-of (waits-head h) n = absurd (n refl)
+  stays-of (waits-body h a l) n = absurd (n refl)
+  stays-of (at-sync0 l a) n = sync0 (xs ++ ys) (omega (arith, long)) (λ q. a (sym (byte 0 l) ∙ q))
+  stays-of (at-sync1 l a b) n =
+      sync1 (xs ++ ys) (omega (arith, long)) (byte 0 (omega arith) ∙ a) (λ q. b (sym (byte 1 l) ∙ q))
+  stays-of (at-length h a) n = bad-length (xs ++ ys) (omega (arith, eight h)) (first h) (second h) (eight h) (allowed-same h a)
+  stays-of (at-bad h a l q) n = bad-on h a (omega (arith, long)) (crc-same h l ∙ q)
+  stays-of (at-good h a l q) n = good-on h a (omega (arith, long)) (crc-same h l ∙ q)
+
+need-of : (v : List ℕ) {x : Verdict} → View v x → 8 ≤ need x
+need-of v (waits-head h) = omega arith
+need-of v (waits-body h a l) = omega arith
+need-of v (at-sync0 l a) = omega arith
+need-of v (at-sync1 l a b) = omega arith
+need-of v (at-length h m) = omega arith
+need-of v (at-bad h a l q) = allows (lengthAt v 0) a .not-small
+need-of v (at-good h a l q) = allows (lengthAt v 0) a .not-small
+
+module _ (xs ys : List ℕ) (n : judged (xs ++ ys) ≡ Undecided → ⊥) where
+  abbrev Soon : Verdict → Type 0
+  Soon x = length xs < need x
+
+  soon-of : {x : Verdict} → View xs x → x ≡ Undecided → Soon (judged (xs ++ ys))
+  soon-of (waits-head h) e = omega (arith, need-of (xs ++ ys) (view (xs ++ ys)))
+  soon-of (waits-body h a l) e =
+      lt? (length (xs ++ ys)) (lengthAt xs 0) (λ m. absurd (n (part-on xs ys h a m)))
+      (λ m.
+      bool? (crcRight (xs ++ ys) 0) (λ q. subst⁻¹ Soon (good-on xs ys h a m q) l)
+      (λ q. subst⁻¹ Soon (bad-on xs ys h a m q) l))
+  soon-of (at-sync0 l a) e = let z : _≡_ {A = ℕ} 0 1 = cc in omega arith
+  soon-of (at-sync1 l a b) e = let z : _≡_ {A = ℕ} 0 1 = cc in omega arith
+  soon-of (at-length h m) e = let z : _≡_ {A = ℕ} 0 1 = cc in omega arith
+  soon-of (at-bad h a l q) e = let z : _≡_ {A = ℕ} 0 1 = cc in omega arith
+  soon-of (at-good h a l q) e = let z : _≡_ {A = ℕ} 0 1 = cc in omega arith
+
+fits-of : (v : List ℕ) {x : Verdict} → View v x → Fits v x
+fits-of v (waits-head h) = tt
+fits-of v (waits-body h a l) = tt
+fits-of v (at-sync0 l a) = tt
+fits-of v (at-sync1 l a b) = tt
+fits-of v (at-length h m) = tt
+fits-of v (at-bad h a l q) = record { eight = allows (lengthAt v 0) a .not-small; within = l }
+fits-of v (at-good h a l q) = record { eight = allows (lengthAt v 0) a .not-small; within = l }
+
+pub judging : Judging judged
+judging =
+    record {
+      empty = empty [] refl;
+      fits = λ v. fits-of v (view v);
+      stays = λ xs ys n. stays-of xs ys (view xs) n;
+      soon = λ xs ys e n. soon-of xs ys n (view xs) e;
+    }
+
+-- ---- the run's end
+
+few-fits : (v : List ℕ) (a b : Bool) → FitsFor v (cond a NoSync (cond b FewLeft PastEnd))
+few-fits v true b = tt
+few-fits v false true = tt
+few-fits v false false = tt
+
+last-fits-by : (v : List ℕ) (x : Verdict) → Fits v x → Fits v (lastBy x v)
+last-fits-by v (NoFrame r) f = f
+last-fits-by v (Frame n) f = f
+last-fits-by v Undecided f = few-fits v (ltb (length v) 2) (ltb (length v) 8)
+
+pub last-fits : (v : List ℕ) → Fits v (judgedLast v)
+unfolding judgedLast
+last-fits v = last-fits-by v (judged v) (judging .fits v)
+
+-- a frame there is one here
+last-frame-by : (v : List ℕ) (x : Verdict) (n : ℕ) → lastBy x v ≡ Frame n → x ≡ Frame n
+last-frame-by v (NoFrame r) n e = let z : _≡_ {A = ℕ} 0 1 = cc in let f : ⊥ = omega arith in absurd f
+last-frame-by v (Frame k) n e = e
+last-frame-by v Undecided n e = let z : _≡_ {A = ℕ} 0 1 = cc in let f : ⊥ = omega arith in absurd f
+
+pub last-frame : (v : List ℕ) (n : ℕ) → judgedLast v ≡ Frame n → judged v ≡ Frame n
+unfolding judgedLast
+last-frame v n e = last-frame-by v (judged v) n e
+
+pub frame-last : (v : List ℕ) (n : ℕ) → judged v ≡ Frame n → judgedLast v ≡ Frame n
+unfolding judgedLast
+frame-last v n e = ap (λ (x : Verdict). lastBy x v) e
+
+-- every place is decided
+last-decides-by : (v : List ℕ) (x : Verdict) → lastBy x v ≡ Undecided → ⊥
+last-decides-by v (NoFrame r) e = let z : _≡_ {A = ℕ} 0 1 = cc in omega arith
+last-decides-by v (Frame k) e = let z : _≡_ {A = ℕ} 0 1 = cc in omega arith
+last-decides-by v Undecided e = let z : _≡_ {A = ℕ} 0 1 = cc in omega arith
+
+pub last-decides : (v : List ℕ) → judgedLast v ≡ Undecided → ⊥
+unfolding judgedLast
+last-decides v e = last-decides-by v (judged v) e

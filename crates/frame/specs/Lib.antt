@@ -1,11 +1,5 @@
 pub mod Frame
 pub mod Judge
-pub mod ReadRun
 pub mod Settle
 pub mod Feed
-pub mod SoFar
-pub mod Session
-pub mod Theorems
-pub mod Samples
 pub mod Scan
-pub mod Ending

@@ -1,55 +1,65 @@
--- Working definitions for the code's scan, which is proved to give what feeding a byte at a time gives. Only inner functions cite them.
+-- What the code says of the bytes passed and of what it found, and working definitions for its scan, which only inner functions cite.
 -- Assumes nothing.
 use mathlib.Core.Path.{_≡_}
 use Prim.Native.Nat.{ℕ, _+_, _≤_, _<_, max}
 use mathlib.Core.List.{List, [], _∷_, _++_}
+use mathlib.Core.Option.{Option, none, some}
 use lib.ListN.{length, getD}
-use Rattle.frame.specs.Judge.{judged}
+use Rattle.frame.specs.Settle.{Settled}
+use Rattle.frame.specs.Feed.{Feeding, size}
+use Rattle.frame.specs.declared.Reason.{Reason}
+use Rattle.frame.specs.declared.Reason.the-variants.{NoSync, LengthNotAllowed, CrcWrong, FewLeft, PastEnd}
 use Rattle.frame.specs.declared.Verdict.{Verdict}
-use Rattle.frame.specs.declared.Verdict.the-variants.{NoSync, LengthNotAllowed, CrcWrong, Frame, Undecided}
+use Rattle.frame.specs.declared.Passed.{Passed}
 use Rattle.frame.specs.declared.Found.{Found}
-use Rattle.frame.specs.declared.Found.the-variants as found
 use Rattle.frame.specs.declared.Part.{Part}
-use Rattle.frame.specs.declared.Part.the-variants as part
+use Rattle.frame.specs.declared.Part.the-variants.{Block, Waits, Through}
 
--- a verdict without its reason: passed with so many bytes seen, a block of so many bytes, or to be waited for
-pub data Step : Type 0 where
-  pass : ℕ → Step
-  stand : ℕ → Step
-  wait : Step
+-- ---- the bytes passed, counted
 
-abbrev pub told : Verdict → Step
-told (NoSync n) = pass n
-told LengthNotAllowed = pass 8
-told (CrcWrong n) = pass n
-told (Frame n) = stand n
-told Undecided = wait
+-- one more is passed, for a reason
+abbrev pub count : Passed → Reason → Passed
+count a r = record { skipped = a .skipped + 1 }
 
-unfoldable pub stepOf : List ℕ → Step
-stepOf v = told (judged v)
+unfoldable pub counts : Passed → List Reason → Passed
+counts a [] = a
+counts a (r ∷ rs) = counts (count a r) rs
 
-abbrev pub onStep : Step → ℕ → ℕ → (ℕ → Found) → Found
-onStep (pass n) p m go = go (max m (p + n))
-onStep (stand n) p m go = found.Block p n (max m (p + n))
-onStep wait p m go = found.More p
+abbrev pub counted : List Reason → Passed
+counted rs = counts (record { skipped = 0 }) rs
 
--- from the place p on, where m bytes had to be taken so far
-unfoldable pub scanFrom : List ℕ → ℕ → ℕ → Found
-scanFrom [] p m = found.More p
-scanFrom (b ∷ bs) p m = onStep (stepOf (b ∷ bs)) p m (scanFrom bs (p + 1))
+abbrev pub foundOf : Feeding → Found
+foundOf f = record { taken = f .taken; passed = counted (f .passed); block = size (f .standing) }
 
--- the same over the places of a part, with `rest` behind it. Only a wrong CRC raises the mark: a block has at least the eight bytes
--- that another verdict rests on
-abbrev pub onVerdict : Verdict → ℕ → ℕ → (ℕ → Part) → Part
-onVerdict (NoSync n) p m go = go m
-onVerdict LengthNotAllowed p m go = go m
-onVerdict (CrcWrong n) p m go = go (max m (p + n))
-onVerdict (Frame n) p m go = part.Block p n (max m (p + n))
-onVerdict Undecided p m go = part.Waits p
+-- ---- a part of the run
 
-unfoldable pub scanPart : List ℕ → List ℕ → ℕ → ℕ → Part
-scanPart [] rest p m = part.Passed m
-scanPart (b ∷ bs) rest p m = onVerdict (judged (b ∷ bs ++ rest)) p m (scanPart bs rest (p + 1))
+-- a judge of the places of a part, with `rest` behind it
+abbrev pub behind : (List ℕ → Verdict) → List ℕ → List ℕ → Verdict
+behind judge rest v = judge (v ++ rest)
+
+-- how many bytes had to be taken to pass the place p, where m had to be before. Only a wrong CRC raises the mark: a block has at least
+-- the eight bytes that another verdict rests on
+abbrev pub raised : Reason → ℕ → ℕ → ℕ
+raised NoSync p m = m
+raised LengthNotAllowed p m = m
+raised (CrcWrong n) p m = max m (p + n)
+raised FewLeft p m = m
+raised PastEnd p m = m
+
+unfoldable pub marks : ℕ → ℕ → List Reason → ℕ
+marks p m [] = m
+marks p m (r ∷ rs) = marks (p + 1) (raised r p m) rs
+
+abbrev pub partBy : Option ℕ → List ℕ → Passed → ℕ → Part
+partBy (some n) v a m = Block a n (max m (a .skipped + n))
+partBy none (b ∷ bs) a m = Waits a
+partBy none [] a m = Through a m
+
+-- a part settled, where a was passed before and m bytes had to be taken
+abbrev pub partOf : Settled → Passed → ℕ → Part
+partOf s a m = partBy (s .standing) (s .rest) (counts a (s .passed)) (marks (a .skipped) m (s .passed))
+
+-- ---- places where no frame can start
 
 -- from i up to r no first sync byte stands
 pub record NoDollar (s : List ℕ) (i r : ℕ) : Type 0 where

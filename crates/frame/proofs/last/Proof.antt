@@ -1,43 +1,37 @@
--- `frame::last` meets its contract. The invariant: the places before k are passed.
+-- `frame::last` meets its contract. The invariant: the places from k on give what the whole gives.
 -- Assumes nothing.
 use mathlib.Core.Path.{_≡_, refl, sym, ap, _∙_}
-use mathlib.Core.List.{List, [], _++_, append-nil}
+use mathlib.Core.List.{List, append-nil}
 use Prim.Native.Nat.{ℕ, _≤_, _<_, _+_, _-_}
 use native.Mathlib.Omega.{arith}
 use lib.ListN.{length, drop, take, length-drop}
 use lib.Seq.{take-all}
 use borrow.Author.Needs.{needs}
 use Rattle.frame.specs.Judge.{judged}
-use Rattle.frame.specs.Ending.{endingOf}
 use Rattle.frame.proofs.Apart.{no-frame}
-use Rattle.frame.proofs.Scanning.{no-sync, not-frame}
-use Rattle.frame.proofs.Finishing.{Passed, start, here, again, done, pass-run}
+use Rattle.frame.proofs.Places.{fromEnd, end-frame, end-pass, end-end, end-skip}
 use Rattle.frame.proofs.last.Statement.{statement}
 use Rattle.frame.proofs.last.Tie as tie
 
 abbrev Inv-loop : tie.InvT-loop
-Inv-loop held k₀ t6 k = (k ≤ length held) × Passed held k
+Inv-loop held k₀ t7 k = (k ≤ length held) × (fromEnd held k ≡ fromEnd held 0)
 
 abbrev μ-loop : tie.MeasureT-loop
-μ-loop held k₀ t6 k = length held - k
+μ-loop held k₀ t7 k = length held - k
 
 loop-holds : tie.Need-loop-holds Inv-loop μ-loop
-loop-holds c = (omega arith, start (c .before .args .held .now))
+loop-holds c = (omega arith, refl)
 
 start-from-requires : tie.Need-start-from-requires Inv-loop μ-loop
 start-from-requires c κs = search needs
 
 -- the places up to the next start are passed
-there : (f : tie.After-start-from Inv-loop μ-loop) → Passed (f .before .before .before .before .args .held .now) (f .start-from .result)
+there : (f : tie.After-start-from Inv-loop μ-loop)
+    → fromEnd (f .before .before .before .before .args .held .now) (f .start-from .result) ≡ fromEnd (f .before .before .before .before .args .held .now) 0
 there f =
     let s = f .before .before .before .before .args .held .now in
     let l = f .before .before .loop in
-    let e = f .start-from .ensures in
-    pass-run (f .start-from .result - l .k) s (l .k) (f .start-from .result) (omega (arith, e .from)) (e .within)
-    (λ k lo hi n q.
-    not-frame (judged (drop k s ++ [])) (no-sync s [] k (omega (arith, e .within)) (e .none k lo hi)) n
-    (ap judged (append-nil (drop k s)) ∙ q))
-    (l .inv .1)
+    sym (end-skip s (l .k) (f .start-from .result) (f .start-from .ensures)) ∙ l .inv .1
 
 inside : (c : tie.Else1 Inv-loop μ-loop) → c .before .start-from .result < length (c .before .before .before .before .before .args .held .now)
 inside c = omega (arith, c .before .start-from .ensures .within, c .if1 .left)
@@ -58,7 +52,7 @@ verdict j =
 returns : tie.Need-returns Inv-loop μ-loop
 returns c =
     let f = c .before in
-    sym (ap endingOf (done (f .before .before .before .before .args .held .now) (f .start-from .result) (there f) (omega (arith, c .if1 .taken))))
+    sym (end-end (f .before .before .before .before .args .held .now) (f .start-from .result) (omega (arith, c .if1 .taken))) ∙ there f
 
 sub-judge : tie.Need-sub-judge Inv-loop μ-loop
 sub-judge c = omega (arith, inside c)
@@ -82,9 +76,8 @@ returns-2 : tie.Need-returns-2 Inv-loop μ-loop
 returns-2 c =
     let j = c .before .before .before in
     sym
-    (ap endingOf
-    (here (run j) (place j) (there (j .before .before .before .before)) (inside (j .before .before .before)) (c .before .v .given .0 .0)
-    (sym (verdict j) ∙ c .before .v .given .1)))
+    (end-frame (run j) (place j) (c .before .v .given .0 .0) (inside (j .before .before .before)) (sym (verdict j) ∙ c .before .v .given .1))
+    ∙ there (j .before .before .before .before)
 
 add-k : tie.Need-add-k Inv-loop μ-loop
 add-k c = omega (arith, inside (c .before .before .before .before))
@@ -96,14 +89,14 @@ loop-again : tie.Need-loop-again Inv-loop μ-loop
 loop-again c =
     let j = c .before in (
       omega (arith, inside (j .before .before .before)),
-      again (run j) (place j) (there (j .before .before .before .before)) (inside (j .before .before .before))
-          (λ n e. no-frame (j .judge .result) (c .match .keys2) n (verdict j ∙ e)),
+      sym (end-pass (run j) (place j) (inside (j .before .before .before)) (λ n e. no-frame (j .judge .result) (c .match .keys2) n (verdict j ∙ e)))
+          ∙ there (j .before .before .before .before),
     )
 
 returns-3 : tie.Need-returns-3 Inv-loop μ-loop
 returns-3 c =
     let w = c .before .before .before .args .held .now in
-    sym (ap endingOf (done w (c .before .loop .k) (c .before .loop .inv .1) (omega arith)))
+    sym (end-end w (c .before .loop .k) (omega arith)) ∙ c .before .loop .inv .1
 
 pub last-spec : {M : Type 1} → statement M
 last-spec =

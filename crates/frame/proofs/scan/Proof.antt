@@ -1,102 +1,136 @@
--- `frame::scan` meets its contract: a part and then the rest is the whole.
+-- `frame::scan` meets its contract: a part and then the rest is the whole, which gives what feeding a byte at a time gives.
 -- Assumes nothing.
-use mathlib.Core.Path.{_≡_, sym, ap, _∙_}
-use mathlib.Core.List.{[], _++_}
+use mathlib.Core.Path.{_≡_, sym, ap, _∙_, subst}
+use mathlib.Core.List.{[]}
 use Prim.Native.Nat.{ℕ, _+_}
-use native.Mathlib.Nat.{zero-add}
+use native.Mathlib.Omega.{arith}
 use lib.ListN.{length}
-use Rattle.frame.specs.Scan.{scanFrom}
+use Rattle.frame.specs.Judge.{judged}
+use Rattle.frame.specs.Settle.{settle}
+use Rattle.frame.specs.Feed.{feedLit}
+use Rattle.frame.specs.Scan.{counts, foundOf, behind, marks}
+use Rattle.frame.specs.declared.Found.{Found}
 use Rattle.frame.specs.declared.Part.{Part}
-use Rattle.frame.proofs.Scanning.{thenFrom, part-then, last-part}
+use Rattle.frame.specs.declared.Part.the-variants.{Block, Through}
+use Rattle.frame.proofs.Stable.{judging}
+use Rattle.frame.proofs.Scanning.{thenPart, part-then, last-part, Kept, kept, foundBy, found}
 use borrow.Author.Needs.{needs}
 use Rattle.frame.proofs.scan.Statement.{statement}
 use Rattle.frame.proofs.scan.Tie as tie
 
+abbrev entry : tie.After-scan-part → tie.Start
+entry s = s .before .before .before
+
+-- what the call is to give
+abbrev whole : tie.After-scan-part → Found
+whole s = let a = entry s .args in foundOf (feedLit (a .held .now) (a .piece .now) (length (a .piece .now)))
+
+-- what is given for what is found in the end
+abbrev given : tie.After-scan-part → Part → Found
+given s x = let a = entry s .args in foundBy x (length (a .held .now)) (length (a .piece .now))
+
+-- what the held bytes give, and then the piece
+first : (s : tie.After-scan-part) {x : Part} → s .scan-part .result ≡ x → whole s ≡ given s (thenPart judged (entry s .args .piece .now) x)
+first s e =
+    let a = entry s .args in
+    found judged judging (a .held .now) (a .piece .now)
+    ∙ ap (given s)
+    (part-then judged (a .piece .now) (a .held .now) (record { skipped = 0 }) (length (a .held .now))
+    ∙ ap (thenPart judged (a .piece .now)) (sym (s .scan-part .ensures) ∙ e))
+
+first-kept : (s : tie.After-scan-part) {x : Part} → s .scan-part .result ≡ x → Kept (0 + length (entry s .args .held .now)) (length (entry s .args .held .now)) x
+first-kept s e =
+    let a = entry s .args in
+    subst (Kept (0 + length (a .held .now)) (length (a .held .now))) (sym (s .scan-part .ensures) ∙ e)
+    (kept (behind judged (a .piece .now)) (a .held .now) (record { skipped = 0 }) (length (a .held .now)))
+
+abbrev start : tie.After-scan-part2 → tie.After-scan-part
+start t = t .before .before .before .before .before
+
+second : (t : tie.After-scan-part2) {x : Part} → t .scan-part2 .result ≡ x → whole (start t) ≡ given (start t) (thenPart judged [] x)
+second t e =
+    let s = start t in
+    let b = t .before .before .before .before2 .given in
+    first s (b .1)
+    ∙ ap (given s) (last-part judged (entry s .args .piece .now) (b .0 .0) (b .0 .1 .0) ∙ ap (thenPart judged []) (sym (t .scan-part2 .ensures) ∙ e))
+
+second-kept : (t : tie.After-scan-part2) {x : Part} → t .scan-part2 .result ≡ x
+    → Kept (t .before .before .before .before2 .given .0 .0 .skipped + length (entry (start t) .args .piece .now)) (t .before .before .before .before2 .given .0 .1 .0) x
+second-kept t e =
+    let p = entry (start t) .args .piece .now in
+    let b = t .before .before .before .before2 .given in
+    subst (Kept (b .0 .0 .skipped + length p) (b .0 .1 .0)) (sym (t .scan-part2 .ensures) ∙ e) (kept (behind judged []) p (b .0 .0) (b .0 .1 .0))
+
 scan-part-requires : tie.Need-scan-part-requires
 scan-part-requires c κs = search needs
 
-enum-known-p : tie.Need-enum-known-p
-enum-known-p c = search needs
+enum-known-passed : tie.Need-enum-known-passed
+enum-known-passed c = search needs
 
-enum-known-p-2 : tie.Need-enum-known-p-2
-enum-known-p-2 c = search needs
+sub-t20 : tie.Need-sub-t20
+sub-t20 c = omega (arith, first-kept (c .before .before .before) (c .before .passed .given .1))
 
-enum-known-mark : tie.Need-enum-known-mark
-enum-known-mark c = search needs
+enum-known-passed-2 : tie.Need-enum-known-passed-2
+enum-known-passed-2 c = search needs
+
+enum-known-before : tie.Need-enum-known-before
+enum-known-before c = search needs
 
 slice-aggregate-scan-part : tie.Need-slice-aggregate-scan-part
 slice-aggregate-scan-part c = search needs
 
 scan-part-requires-2 : tie.Need-scan-part-requires-2
-scan-part-requires-2 c κs = search needs
+scan-part-requires-2 c κs =
+    let b = c .before .before in
+    let k = first-kept (b .before .before) (b .before2 .given .1) in
+    omega (arith, k .0)
 
-enum-known-p-3 : tie.Need-enum-known-p-3
-enum-known-p-3 c = search needs
+enum-known-passed-3 : tie.Need-enum-known-passed-3
+enum-known-passed-3 c = search needs
 
-enum-known-p-4 : tie.Need-enum-known-p-4
-enum-known-p-4 c = search needs
+sub-t25 : tie.Need-sub-t25
+sub-t25 c =
+    let t = c .before .before .before in
+    let b = t .before .before .before in
+    omega (arith, second-kept t (c .before .passed3 .given .1), first-kept (start t) (b .before2 .given .1) .1)
 
-enum-told : tie.Need-enum-told
-enum-told c = search needs
+enum-known-passed-4 : tie.Need-enum-known-passed-4
+enum-known-passed-4 c = search needs
 
-add-t21 : tie.Need-add-t21
-add-t21 c = search needs
-
--- what the held bytes give, and then the piece
-first : (s : tie.After-scan-part) {x : Part} → s .scan-part .result ≡ x
-    → scanFrom (s .before .before .before .args .held .now ++ s .before .before .before .args .piece .now) 0 (length (s .before .before .before .args .held .now))
-    ≡ thenFrom x (s .before .before .before .args .piece .now) (0 + length (s .before .before .before .args .held .now))
-first s {x} e =
-    let a = s .before .before .before .args in
-    part-then (a .held .now) (a .piece .now) 0 (length (a .held .now))
-    ∙ ap (λ (y : Part). thenFrom y (a .piece .now) (0 + length (a .held .now))) (sym (s .scan-part .ensures) ∙ e)
-
-second : (t : tie.After-scan-part2) {x : Part} → t .scan-part2 .result ≡ x
-    → scanFrom
-    (t .before .before .before .before .before .before .before .before .args .held .now ++ t .before .before .before .before .before .before .before .before .args .piece .now)
-    0 (length (t .before .before .before .before .before .before .before .before .args .held .now))
-    ≡ thenFrom x []
-    (length (t .before .before .before .before .before .before .before .before .args .held .now) + length (t .before .before .before .before .before .before .before .before .args .piece .now))
-second t {x} e =
-    let s = t .before .before .before .before .before in
-    let a = s .before .before .before .args in
-    let n = length (a .held .now) in
-    let m = t .before .before .before .mark .given .0 .0 in
-    first s (t .before .before .before .mark .given .1)
-    ∙ ap (λ (i : ℕ). scanFrom (a .piece .now) i m) (zero-add (length (a .held .now)))
-    ∙ last-part (a .piece .now) (length (a .held .now)) m
-    ∙ ap (λ (y : Part). thenFrom y [] (length (a .held .now) + length (a .piece .now))) (sym (t .scan-part2 .ensures) ∙ e)
+enum-known-passed-5 : tie.Need-enum-known-passed-5
+enum-known-passed-5 c = search needs
 
 returns : tie.Need-returns
-returns c = sym (first (c .before .before .before) (c .before .p .given .1))
+returns c = sym (first (c .before .before .before) (c .before .passed .given .1))
 
 returns-2 : tie.Need-returns-2
-returns-2 c = sym (first (c .before .before .before) (c .before .p2 .given .1))
+returns-2 c = sym (first (c .before .before .before) (c .before .passed2 .given .1))
 
 returns-3 : tie.Need-returns-3
-returns-3 c = sym (second (c .before .before .before) (c .before .p3 .given .1))
+returns-3 c = sym (second (c .before .before .before) (c .before .passed3 .given .1))
 
 returns-4 : tie.Need-returns-4
-returns-4 c = sym (second (c .before .before .before) (c .before .p4 .given .1))
+returns-4 c = sym (second (c .before .before .before) (c .before .passed4 .given .1))
 
 returns-5 : tie.Need-returns-5
-unfolding scanFrom
-returns-5 c = sym (second (c .before .before) (c .enum-told .given .1))
+unfolding settle counts marks
+returns-5 c = sym (second (c .before .before .before) (c .before .passed5 .given .1))
 
 pub scan-spec : {M : Type 1} → statement M
 scan-spec =
     tie.close
     (tie.spec
     scan-part-requires
-    enum-known-p
-    enum-known-p-2
-    enum-known-mark
+    enum-known-passed
+    sub-t20
+    enum-known-passed-2
+    enum-known-before
     slice-aggregate-scan-part
     scan-part-requires-2
-    enum-known-p-3
-    enum-known-p-4
-    enum-told
-    add-t21
+    enum-known-passed-3
+    sub-t25
+    enum-known-passed-4
+    enum-known-passed-5
     returns
     returns-2
     returns-3
