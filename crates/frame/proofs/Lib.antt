@@ -2,15 +2,5 @@ pub mod Apart
 pub mod Tests
 pub mod Cases
 pub mod View
-pub mod Judging
-pub mod Stable
 pub mod Standing
-pub mod Settling
-pub mod Marks
 pub mod Parts
-pub mod Calls
-pub mod Literal
-pub mod Eights
-pub mod Starts
-pub mod Places
-pub mod Scanning

@@ -43,7 +43,7 @@ FrontIf v Undecided = Unit {0}
 
 front-of : (v : List ℕ) {x : Verdict} → View v x → FrontIf v x
 unfolding frameAt syncAt endsWithin
-front-of v (waits-head h) = tt
+front-of v (waits-head h f s) = tt
 front-of v (waits-body h a l) = tt
 front-of v (at-sync0 l a) = tt
 front-of v (at-sync1 l a b) = tt

@@ -35,7 +35,7 @@ allows n e =
     }
 
 pub data View (v : List ℕ) : Verdict → Type 0 where
-  waits-head : length v < 8 → View v Undecided
+  waits-head : length v < 8 → (0 < length v → getD v 0 0 ≡ 0x24) → (1 < length v → getD v 1 0 ≡ 0x40) → View v Undecided
   waits-body : Head v → allowed (lengthAt v 0) ≡ true → length v < lengthAt v 0 → View v Undecided
   at-sync0 : 0 < length v → (getD v 0 0 ≡ 0x24 → ⊥) → View v (NoFrame NoSync)
   at-sync1 : 1 < length v → getD v 0 0 ≡ 0x24 → (getD v 1 0 ≡ 0x40 → ⊥) → View v (NoFrame NoSync)
@@ -68,8 +68,10 @@ module _ (v : List ℕ) where
       (λ m.
       eq? (getD v 1 0) 0x40
       (λ b.
-      lt? (length v) 8 (λ s. at (short v m a b s) (waits-head s)) (λ g. view-length (record { eight = g; first = a; second = b })))
+      lt? (length v) 8 (λ s. at (short v m a b s) (waits-head s (λ q. a) (λ q. b))) (λ g. view-length (record { eight = g; first = a; second = b })))
       (λ b. at (sync1 v m a b) (at-sync1 m a b)))
-      (λ m. at (one v l a (omega arith)) (waits-head (omega arith))))
+      (λ m. at (one v l a (omega arith)) (waits-head (omega arith) (λ q. a) (λ q. let f : ⊥ = omega arith in absurd f))))
       (λ a. at (sync0 v l a) (at-sync0 l a)))
-      (λ l. at (empty v (omega arith)) (waits-head (omega arith)))
+      (λ l.
+      at (empty v (omega arith))
+      (waits-head (omega arith) (λ q. let f : ⊥ = omega arith in absurd f) (λ q. let f : ⊥ = omega arith in absurd f)))

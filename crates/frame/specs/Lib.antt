@@ -1,5 +1,2 @@
 pub mod Frame
 pub mod Judge
-pub mod Settle
-pub mod Feed
-pub mod Scan

@@ -2,9 +2,9 @@
 -- Assumes nothing.
 use Prim.Native.Nat.{ℕ, zero, suc, _+_, _-_}
 use mathlib.Core.Bool.{Bool, true, false}
-use mathlib.Core.List.{List, [], _∷_, _++_}
+use mathlib.Core.List.{List, [], _∷_}
 use lib.ListN.{take}
 use Rattle.frame.specs.Frame.{idAt, lengthAt, numberOf, revisionOf, frameAt}
 
 -- what is reported of a block (place, number, revision, length), and its bytes
 pub record Block : Type 0 where
@@ -32,10 +32,6 @@ blockThen b r = record { blocks = b ∷ r .blocks; skipped = r .skipped }
 
 abbrev pub skipThen : ℕ → Reading → Reading
 skipThen p r = record { blocks = r .blocks; skipped = p ∷ r .skipped }
-
--- one reading, and then another
-abbrev pub both : Reading → Reading → Reading
-both r s = record { blocks = r .blocks ++ s .blocks; skipped = r .skipped ++ s .skipped }
 
 -- "If a frame stands at the place, it is a block and reading goes on at p+L. Otherwise that one byte is skipped."
 -- v is the run from the place p on; `go k` goes on at the next byte, of which k still belong to the block

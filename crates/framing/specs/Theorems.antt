@@ -1,33 +1,47 @@
 -- What holds of the definitions, as statements. Each is the `ensures` of a function with no code, so that a check names it.
 -- Assumes nothing.
 use mathlib.Core.Path.{_≡_}
-use mathlib.Core.List.{List, [], _++_}
+use mathlib.Core.List.{List, _++_}
 use mathlib.Core.Option.{none, some}
 use mathlib.Core.Bool.{true, false}
 use Prim.Native.Nat.{ℕ, _+_, _≤_, _<_, min}
-use lib.ListN.{length, take, drop}
-use Rattle.frame.specs.Judge.{judged, seen}
-use Rattle.frame.specs.Frame.{lengthAt, frameAt}
-use Rattle.frame.specs.ReadRun.{Reading, nothingRead, blockThen, skipThen, both, blockAt, readRun}
-use Rattle.frame.specs.SoFar.{soFar}
-use Rattle.frame.specs.Feed.{feedLit}
-use Rattle.frame.specs.Session.{feedAll, finishAll}
-use Rattle.frame.specs.declared.Verdict.the-variants.{Frame, Undecided}
+use lib.ListN.{length, getD, take, drop}
+use Rattle.frame.specs.Frame.{syncAt, lengthAt, allowed, frameAt}
+use Rattle.frame.specs.Judge.{judged}
+use Rattle.frame.specs.declared.Reason.the-variants.{NoSync}
+use Rattle.frame.specs.declared.Verdict.the-variants.{NoFrame, Frame, Undecided}
+use Rattle.scan.specs.Settle.{judgedLast}
+use Rattle.scan.specs.Feed.{feedLit}
+use Rattle.framing.specs.ReadRun.{Reading, nothingRead, blockThen, skipThen, blockAt, readRun}
 
 -- a place is judged a frame of n bytes exactly where one of n bytes stands
 pub record JudgedRight : Type 0 where
   pub frame : (w : List ℕ) (p : ℕ) → p < length w → frameAt w p ≡ true → judged (drop p w) ≡ Frame (lengthAt w p)
   pub stands : (w : List ℕ) (p n : ℕ) → p < length w → judged (drop p w) ≡ Frame n → (frameAt w p ≡ true) × (n ≡ lengthAt w p)
 
+-- "a place is decided once it has a wrong sync byte, or eight bytes with a length not allowed, or all its L bytes"
+pub data Decided (v : List ℕ) : Type 0 where
+  first-wrong : 0 < length v → (getD v 0 0 ≡ 0x24 → ⊥) → Decided v
+  second-wrong : 1 < length v → (getD v 1 0 ≡ 0x40 → ⊥) → Decided v
+  length-wrong : 8 ≤ length v → allowed (lengthAt v 0) ≡ false → Decided v
+  all-there : 8 ≤ length v → lengthAt v 0 ≤ length v → Decided v
+
+-- "and not before"
+pub record DecidedExactly : Type 0 where
+  pub once : (v : List ℕ) → Decided v → judged v ≡ Undecided → ⊥
+  pub not-before : (v : List ℕ) → (judged v ≡ Undecided → ⊥) → Decided v
+
 -- once a place is decided, bytes that follow do not change it
 abbrev pub DecidedStays : Type 0
 DecidedStays = (xs ys : List ℕ) → (judged xs ≡ Undecided → ⊥) → judged (xs ++ ys) ≡ judged xs
 
--- a verdict rests on no more bytes than it says: they are there, and any run with the same ones is judged the same
-pub record RestsOn : Type 0 where
-  pub there : (v : List ℕ) → seen (judged v) ≤ length v
-  pub same : (u v : List ℕ) → (judged u ≡ Undecided → ⊥) → seen (judged u) ≤ length v
-      → take (seen (judged u)) u ≡ take (seen (judged u)) v → judged v ≡ judged u
+-- when the run is finished every place is decided, a frame where one was, and for want of a sync pair exactly where there is none
+pub record LastRight : Type 0 where
+  pub decides : (v : List ℕ) → judgedLast v ≡ Undecided → ⊥
+  pub frame : (v : List ℕ) (n : ℕ) → judged v ≡ Frame n → judgedLast v ≡ Frame n
+  pub stands : (v : List ℕ) (n : ℕ) → judgedLast v ≡ Frame n → judged v ≡ Frame n
+  pub no-pair : (v : List ℕ) → syncAt v 0 ≡ false → judgedLast v ≡ NoFrame NoSync
+  pub pair : (v : List ℕ) → judgedLast v ≡ NoFrame NoSync → syncAt v 0 ≡ false
 
 -- the run w read from the place p on
 abbrev pub readAt : List ℕ → ℕ → Reading
@@ -40,11 +54,6 @@ pub record ReadByTheRule : Type 0 where
       → readAt w p ≡ blockThen (blockAt p (lengthAt w p) (drop p w)) (readAt w (p + lengthAt w p))
   pub skip : (w : List ℕ) (p : ℕ) → p < length w → frameAt w p ≡ false → readAt w p ≡ skipThen p (readAt w (p + 1))
 
--- reading xs ++ ys is reading xs, then what was left of it with ys
-abbrev pub ReadInTwo : Type 0
-ReadInTwo =
-    (p : ℕ) (xs ys : List ℕ) → readRun p (xs ++ ys) ≡ both (soFar p xs .reading) (readRun (soFar p xs .place) (soFar p xs .left ++ ys))
-
 -- "one that answers More has decided all it can": all it may take is taken, and the held bytes are none or begin with an undecided place
 abbrev pub MoreDecidesAll : Type 0
 MoreDecidesAll =
@@ -56,24 +65,5 @@ MoreDecidesAll =
 pub record BlockDecidesNoMore : Type 0 where
   pub stands : (held piece : List ℕ) (room n : ℕ) → feedLit held piece room .standing ≡ some n → judged (feedLit held piece room .held) ≡ Frame n
   pub held : (held piece : List ℕ) (room : ℕ)
-      → feedLit held piece room .held ≡ drop (feedLit held piece room .skipped) (held ++ take (feedLit held piece room .taken) piece)
+      → feedLit held piece room .held ≡ drop (length (feedLit held piece room .passed)) (held ++ take (feedLit held piece room .taken) piece)
   pub least : (held piece : List ℕ) (room t : ℕ) → t < feedLit held piece room .taken → feedLit held (take t piece) room .standing ≡ none
-
--- whatever the pieces, whatever the room: once finish has answered End, the blocks with their bytes and the skipped places are those of
--- the run of all bytes taken
-abbrev pub OneRun : Type 0
-OneRun =
-    (pieces : List (List ℕ)) (room calls : ℕ)
-    → finishAll calls (feedAll room 0 [] pieces .place) (feedAll room 0 [] pieces .held) .ended ≡ true
-    → both (feedAll room 0 [] pieces .reading) (finishAll calls (feedAll room 0 [] pieces .place) (feedAll room 0 [] pieces .held) .reading)
-    ≡ readRun 0 (feedAll room 0 [] pieces .took)
-
--- End comes after no more calls than one more than the held bytes
-abbrev pub EndComes : Type 0
-EndComes = (p : ℕ) (held : List ℕ) (calls : ℕ) → length held < calls → finishAll calls p held .ended ≡ true
-
--- the place where the next call goes on is the count of bytes taken less that of bytes held, and no more than the room is taken
-pub record PlaceKnown : Type 0 where
-  pub place : (pieces : List (List ℕ)) (room : ℕ)
-      → feedAll room 0 [] pieces .place + length (feedAll room 0 [] pieces .held) ≡ length (feedAll room 0 [] pieces .took)
-  pub limit : (pieces : List (List ℕ)) (room : ℕ) → length (feedAll room 0 [] pieces .took) ≤ room

@@ -1,5 +1,5 @@
 // What holds of the rules of framing, by proof: each theorem is a function with no code.
-ghost use Rattle.framing.specs.Theorems.{JudgedRight, DecidedExactly, DecidedStays, ReadByTheRule, MoreDecidesAll, BlockDecidesNoMore};
+ghost use Rattle.framing.specs.Theorems.{JudgedRight, DecidedExactly, DecidedStays, LastRight, ReadByTheRule, MoreDecidesAll, BlockDecidesNoMore};
 
 // A place is judged a frame exactly where one stands.
 pub fn judged_right()
@@ -14,6 +14,11 @@ pub fn decided_exactly()
 // Once a place is decided, bytes that follow do not change it.
 pub fn decided_stays()
     ensures { λ _. ⌜ DecidedStays ⌝ }
+{}
+
+// When the run is finished all is decided: a frame where one was, and no sync pair where there is none.
+pub fn last_right()
+    ensures { λ _. ⌜ LastRight ⌝ }
 {}
 
 // A run is read by the rule of document 01.

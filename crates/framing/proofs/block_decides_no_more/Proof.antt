@@ -1,8 +1,8 @@
--- `frame::block_decides_no_more`: the law `block-decides-no-more`.
+-- `framing::block_decides_no_more`: the law `block-decides-no-more`.
 -- Assumes nothing.
-use Rattle.frame.proofs.Calls.{block-decides-no-more}
-use Rattle.frame.proofs.block_decides_no_more.Statement.{statement}
-use Rattle.frame.proofs.block_decides_no_more.Tie as tie
+use Rattle.framing.proofs.Calls.{block-decides-no-more}
+use Rattle.framing.proofs.block_decides_no_more.Statement.{statement}
+use Rattle.framing.proofs.block_decides_no_more.Tie as tie
 
 returns : tie.Need-returns
 returns c = block-decides-no-more

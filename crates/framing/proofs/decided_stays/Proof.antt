@@ -1,11 +1,11 @@
--- `frame::decided_stays`: the law `stable`.
+-- `framing::decided_stays`: the judge's law `stays`.
 -- Assumes nothing.
-use Rattle.frame.proofs.Stable.{stable}
-use Rattle.frame.proofs.decided_stays.Statement.{statement}
-use Rattle.frame.proofs.decided_stays.Tie as tie
+use Rattle.scan.proofs.Stable.{judging}
+use Rattle.framing.proofs.decided_stays.Statement.{statement}
+use Rattle.framing.proofs.decided_stays.Tie as tie
 
 returns : tie.Need-returns
-returns c = stable
+returns c = judging .stays
 
 pub decided-stays-spec : {M : Type 1} → statement M
 decided-stays-spec = tie.close (tie.spec returns)

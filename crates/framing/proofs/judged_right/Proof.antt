@@ -1,8 +1,8 @@
--- `frame::judged_right`: the law `judged-right`.
+-- `framing::judged_right`: the law `judged-right`.
 -- Assumes nothing.
-use Rattle.frame.proofs.Standing.{judged-right}
-use Rattle.frame.proofs.judged_right.Statement.{statement}
-use Rattle.frame.proofs.judged_right.Tie as tie
+use Rattle.framing.proofs.Standing.{judged-right}
+use Rattle.framing.proofs.judged_right.Statement.{statement}
+use Rattle.framing.proofs.judged_right.Tie as tie
 
 returns : tie.Need-returns
 returns c = judged-right

@@ -1,8 +1,8 @@
--- `frame::more_decides_all`: the law `more-decides-all`.
+-- `framing::more_decides_all`: the law `more-decides-all`.
 -- Assumes nothing.
-use Rattle.frame.proofs.Calls.{more-decides-all}
-use Rattle.frame.proofs.more_decides_all.Statement.{statement}
-use Rattle.frame.proofs.more_decides_all.Tie as tie
+use Rattle.framing.proofs.Calls.{more-decides-all}
+use Rattle.framing.proofs.more_decides_all.Statement.{statement}
+use Rattle.framing.proofs.more_decides_all.Tie as tie
 
 returns : tie.Need-returns
 returns c = more-decides-all

@@ -1,8 +1,8 @@
--- `frame::read_by_the_rule`: the law `rule`.
+-- `framing::read_by_the_rule`: the law `rule`.
 -- Assumes nothing.
-use Rattle.frame.proofs.Runs.{rule}
-use Rattle.frame.proofs.read_by_the_rule.Statement.{statement}
-use Rattle.frame.proofs.read_by_the_rule.Tie as tie
+use Rattle.framing.proofs.Reading.{rule}
+use Rattle.framing.proofs.read_by_the_rule.Statement.{statement}
+use Rattle.framing.proofs.read_by_the_rule.Tie as tie
 
 returns : tie.Need-returns
 returns c = rule

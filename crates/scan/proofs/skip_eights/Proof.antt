@@ -1,13 +1,13 @@
--- `frame::skip_eights` meets its contract. The invariant: no first sync byte stands in what is passed.
+-- `scan::skip_eights` meets its contract. The invariant: no first sync byte stands in what is passed.
 -- Assumes nothing.
 use Prim.Native.Nat.{_-_}
 use native.Mathlib.Omega.{arith}
 use lib.ListN.{length}
-use Rattle.frame.specs.Scan.{NoDollar}
+use Rattle.scan.specs.Scan.{NoDollar}
 use Rattle.frame.proofs.Tests.{lt?}
-use Rattle.frame.proofs.Eights.{none-of-eight}
-use Rattle.frame.proofs.skip_eights.Statement.{statement}
-use Rattle.frame.proofs.skip_eights.Tie as tie
+use Rattle.scan.proofs.Eights.{none-of-eight}
+use Rattle.scan.proofs.skip_eights.Statement.{statement}
+use Rattle.scan.proofs.skip_eights.Tie as tie
 
 abbrev Inv-loop : tie.InvT-loop
 Inv-loop s i k₀ k = NoDollar s i k

@@ -5,15 +5,15 @@ use Prim.Native.Nat.{ℕ, _+_, _≤_, _<_, max}
 use mathlib.Core.List.{List, [], _∷_, _++_}
 use mathlib.Core.Option.{Option, none, some}
 use lib.ListN.{length, getD}
-use Rattle.frame.specs.Settle.{Settled}
-use Rattle.frame.specs.Feed.{Feeding, size}
+use Rattle.scan.specs.Settle.{Settled}
+use Rattle.scan.specs.Feed.{Feeding, size}
 use Rattle.frame.specs.declared.Reason.{Reason}
 use Rattle.frame.specs.declared.Reason.the-variants.{NoSync, LengthNotAllowed, CrcWrong, FewLeft, PastEnd}
 use Rattle.frame.specs.declared.Verdict.{Verdict}
-use Rattle.frame.specs.declared.Passed.{Passed}
-use Rattle.frame.specs.declared.Found.{Found}
-use Rattle.frame.specs.declared.Part.{Part}
-use Rattle.frame.specs.declared.Part.the-variants.{Block, Waits, Through}
+use Rattle.scan.specs.declared.Passed.{Passed}
+use Rattle.scan.specs.declared.Found.{Found}
+use Rattle.scan.specs.declared.Part.{Part}
+use Rattle.scan.specs.declared.Part.the-variants.{Block, Waits, Through}
 
 -- ---- the bytes passed, counted
 

@@ -1,4 +1,4 @@
--- `frame::last` meets its contract. The invariant: the places from k on give what the whole gives.
+-- `scan::last` meets its contract. The invariant: the places from k on give what the whole gives.
 -- Assumes nothing.
 use mathlib.Core.Path.{_≡_, refl, sym, ap, _∙_}
 use mathlib.Core.List.{List, append-nil}
@@ -7,11 +7,11 @@ use native.Mathlib.Omega.{arith}
 use lib.ListN.{length, drop, take, length-drop}
 use lib.Seq.{take-all}
 use borrow.Author.Needs.{needs}
 use Rattle.frame.specs.Judge.{judged}
 use Rattle.frame.proofs.Apart.{no-frame}
-use Rattle.frame.proofs.Places.{fromEnd, end-frame, end-pass, end-end, end-skip}
-use Rattle.frame.proofs.last.Statement.{statement}
-use Rattle.frame.proofs.last.Tie as tie
+use Rattle.scan.proofs.Places.{fromEnd, end-frame, end-pass, end-end, end-skip}
+use Rattle.scan.proofs.last.Statement.{statement}
+use Rattle.scan.proofs.last.Tie as tie
 
 abbrev Inv-loop : tie.InvT-loop
 Inv-loop held k₀ t7 k = (k ≤ length held) × (fromEnd held k ≡ fromEnd held 0)

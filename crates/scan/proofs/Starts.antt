@@ -5,8 +5,8 @@ use mathlib.Core.List.{List}
 use Prim.Native.Nat.{ℕ, _+_, _≤_, _<_}
 use native.Mathlib.Omega.{arith}
 use lib.ListN.{length, getD}
-use Rattle.frame.specs.Scan.{NoDollar, NoStart}
+use Rattle.scan.specs.Scan.{NoDollar, NoStart}
 use Rattle.frame.proofs.Tests.{lt?, eq?}
 
 module _ (s : List ℕ) where
   -- what is asked of a place that is passed

@@ -10,20 +10,20 @@ use native.Mathlib.Omega.{arith}
 use lib.ListN.{length, drop, getD, length-drop, length-append, drop-of-length-le, List·getD-append}
 use lib.Seq.{drop-cons}
 use lib.Dec.{ltb}
-use Rattle.frame.specs.Judge.{judged, lastBy, judgedLast}
-use Rattle.frame.specs.Settle.{Settled, stopAt, pass, settleBy, settle}
-use Rattle.frame.specs.Feed.{size}
-use Rattle.frame.specs.Scan.{counts, behind, raised, marks, partBy, partOf, NoStart}
+use Rattle.frame.specs.Judge.{judged}
+use Rattle.scan.specs.Settle.{Settled, stopAt, pass, settleBy, settle, lastBy, judgedLast}
+use Rattle.scan.specs.Feed.{size}
+use Rattle.scan.specs.Scan.{counts, behind, raised, marks, partBy, partOf, NoStart}
 use Rattle.frame.specs.declared.Reason.{Reason}
 use Rattle.frame.specs.declared.Reason.the-variants.{NoSync, FewLeft, PastEnd}
 use Rattle.frame.specs.declared.Verdict.{Verdict}
 use Rattle.frame.specs.declared.Verdict.the-variants.{NoFrame, Frame, Undecided}
-use Rattle.frame.specs.declared.Passed.{Passed}
-use Rattle.frame.specs.declared.Found.{Found}
-use Rattle.frame.specs.declared.Part.{Part}
-use Rattle.frame.specs.declared.Part.the-variants.{Waits, Through}
+use Rattle.scan.specs.declared.Passed.{Passed}
+use Rattle.scan.specs.declared.Found.{Found}
+use Rattle.scan.specs.declared.Part.{Part}
+use Rattle.scan.specs.declared.Part.the-variants.{Waits, Through}
 use Rattle.frame.proofs.Tests.{eq?}
 use Rattle.frame.proofs.Cases.{sync0, sync1, byte0, byte}
 
 -- ---- at a place
 

@@ -6,14 +6,17 @@ use Prim.Native.Nat.{ℕ, zero, suc, max, _+_, _≤_}
 use native.Mathlib.Nat.{add-zero, zero-add}
 use native.Mathlib.Omega.{arith}
 use lib.ListN.{length}
-use Rattle.frame.specs.Settle.{Settled, settleBy, settle}
-use Rattle.frame.specs.Scan.{count, counts, counted, raised, marks}
+use Rattle.scan.specs.Settle.{Settled, settleBy, settle}
+use Rattle.scan.specs.Scan.{count, counts, counted, raised, marks}
 use Rattle.frame.specs.declared.Reason.{Reason}
 use Rattle.frame.specs.declared.Reason.the-variants.{NoSync, LengthNotAllowed, CrcWrong, FewLeft, PastEnd}
 use Rattle.frame.specs.declared.Verdict.{Verdict}
 use Rattle.frame.specs.declared.Verdict.the-variants.{NoFrame, Frame, Undecided}
-use Rattle.frame.specs.declared.Passed.{Passed}
-use Rattle.frame.proofs.Judging.{There, FitsFor, Fits}
+use Rattle.scan.specs.declared.Passed.{Passed}
+use types.Run.{OneOf, miss}
+use denote.Enum.Declared.{tagOf}
+use Rattle.frame.proofs.Reason.{the-type}
+use Rattle.scan.proofs.Judging.{There, FitsFor, Fits}
 
 pub counts-append : (a : Passed) (xs ys : List Reason) → counts a (xs ++ ys) ≡ counts (counts a xs) ys
 unfolding counts
@@ -85,3 +88,15 @@ module _ (judge : List ℕ → Verdict) (fits : (v : List ℕ) → Fits v (judge
   marks-low [] p m l = refl
   marks-low (b ∷ bs) p m l =
       low-by (judge (b ∷ bs)) b bs (settle judge bs) p m (fits (b ∷ bs)) l (marks-low bs (p + 1) m (omega arith))
+
+-- ---- a reason that is none of a wrong CRC raises no mark
+
+abbrev unmarked : List ℕ
+unmarked = 0 ∷ 1 ∷ 3 ∷ 4 ∷ []
+
+pub no-mark : (r : Reason) → OneOf unmarked (tagOf the-type r) → (p m : ℕ) → raised r p m ≡ m
+no-mark NoSync h p m = refl
+no-mark LengthNotAllowed h p m = refl
+no-mark (CrcWrong n) h p m = absurd (miss unmarked 2 tt h)
+no-mark FewLeft h p m = refl
+no-mark PastEnd h p m = refl

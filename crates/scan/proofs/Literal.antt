@@ -9,17 +9,17 @@ use native.Mathlib.Nat.{zero-add}
 use native.Mathlib.Omega.{arith}
 use lib.ListN.{length, take, drop, length-drop, length-append}
 use lib.Seq.{drop-append-le, append-snoc, drop-drop, take-nil, take-all, take-append-seam}
-use Rattle.frame.specs.Settle.{Settled, settleBy, settle}
-use Rattle.frame.specs.Feed.{Feeding, stop, goOn, unlessBlock, feedBy}
-use Rattle.frame.specs.Scan.{marks}
+use Rattle.scan.specs.Settle.{Settled, settleBy, settle}
+use Rattle.scan.specs.Feed.{Feeding, stop, goOn, unlessBlock, feedBy}
+use Rattle.scan.specs.Scan.{marks}
 use Rattle.frame.specs.declared.Reason.{Reason}
 use Rattle.frame.specs.declared.Reason.the-variants.{NoSync, LengthNotAllowed, CrcWrong, FewLeft, PastEnd}
 use Rattle.frame.specs.declared.Verdict.{Verdict}
 use Rattle.frame.specs.declared.Verdict.the-variants.{NoFrame, Frame, Undecided}
-use Rattle.frame.proofs.Judging.{There, needFor, need, Judging}
+use Rattle.scan.proofs.Judging.{There, needFor, need, Judging}
 use Rattle.frame.proofs.Parts.{take-drop}
-use Rattle.frame.proofs.Marks.{marks-max, marks-shift, marks-append, marks-low}
-use Rattle.frame.proofs.Settling.{before, Rest, settle-rest, Stopped, settle-stopped, after, settle-after, settle-front}
+use Rattle.scan.proofs.Marks.{marks-max, marks-shift, marks-append, marks-low}
+use Rattle.scan.proofs.Settling.{before, Rest, settle-rest, Stopped, settle-stopped, after, settle-after, settle-front}
 
 -- how many bytes had to be taken, of n that were held and t in all, to pass the bytes for these reasons and come to this
 abbrev pub reach : Option ℕ → List Reason → ℕ → ℕ → ℕ

@@ -7,13 +7,13 @@ use mathlib.Core.Option.{Option, none, some}
 use Prim.Native.Nat.{ℕ, _≤_}
 use native.Mathlib.Omega.{arith}
 use lib.ListN.{length, drop}
-use Rattle.frame.specs.Settle.{Settled, stopAt, pass, settleBy, settle}
-use Rattle.frame.specs.Feed.{size}
-use Rattle.frame.specs.Scan.{behind}
+use Rattle.scan.specs.Settle.{Settled, stopAt, pass, settleBy, settle}
+use Rattle.scan.specs.Feed.{size}
+use Rattle.scan.specs.Scan.{behind}
 use Rattle.frame.specs.declared.Reason.{Reason}
 use Rattle.frame.specs.declared.Verdict.{Verdict}
 use Rattle.frame.specs.declared.Verdict.the-variants.{NoFrame, Frame, Undecided}
-use Rattle.frame.proofs.Judging.{There, Fits, Judging}
+use Rattle.scan.proofs.Judging.{There, Fits, Judging}
 
 -- some are passed first
 abbrev pub before : List Reason → Settled → Settled

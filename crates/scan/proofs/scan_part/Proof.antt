@@ -1,4 +1,4 @@
--- `frame::scan_part` meets its contract. The invariant: the places from k on, with the present mark, give what the whole part gives.
+-- `scan::scan_part` meets its contract. The invariant: the places from k on, with the present mark, give what the whole part gives.
 -- Assumes nothing.
 use mathlib.Core.Path.{_≡_, sym, ap, _∙_, subst}
 use mathlib.Core.List.{List, _++_}
@@ -8,21 +8,21 @@ use native.Mathlib.Omega.{arith}
 use lib.ListN.{length, drop, length-append, length-drop}
 use lib.Seq.{take-all}
 use borrow.Author.Needs.{needs}
 use Rattle.frame.specs.Judge.{judged}
-use Rattle.frame.specs.Settle.{settle}
-use Rattle.frame.specs.Scan.{counts, behind, raised, marks, partOf}
+use Rattle.scan.specs.Settle.{settle}
+use Rattle.scan.specs.Scan.{counts, behind, raised, marks, partOf}
 use Rattle.frame.specs.declared.Reason.{Reason}
 use Rattle.frame.specs.declared.Reason.the-variants.{CrcWrong}
 use Rattle.frame.specs.declared.Verdict.{Verdict}
 use Rattle.frame.specs.declared.Verdict.the-variants.{NoFrame, Frame, Undecided}
-use Rattle.frame.specs.declared.Part.{Part}
-use Rattle.frame.specs.declared.Part.the-variants.{Block, Waits}
-use Rattle.frame.proofs.Judging.{There, Fits}
-use Rattle.frame.proofs.Stable.{judging}
-use Rattle.frame.proofs.Apart.{no-mark}
-use Rattle.frame.proofs.Places.{fromPlace, part-stop, part-waits, part-pass, part-end, skip-run}
-use Rattle.frame.proofs.scan_part.Statement.{statement}
-use Rattle.frame.proofs.scan_part.Tie as tie
+use Rattle.scan.specs.declared.Part.{Part}
+use Rattle.scan.specs.declared.Part.the-variants.{Block, Waits}
+use Rattle.scan.proofs.Judging.{There, Fits}
+use Rattle.scan.proofs.Stable.{judging}
+use Rattle.scan.proofs.Marks.{no-mark}
+use Rattle.scan.proofs.Places.{fromPlace, part-stop, part-waits, part-pass, part-end, skip-run}
+use Rattle.scan.proofs.scan_part.Statement.{statement}
+use Rattle.scan.proofs.scan_part.Tie as tie
 
 abbrev Inv-loop : tie.InvT-loop
 Inv-loop s rest mark from k₀ m₀ k m =

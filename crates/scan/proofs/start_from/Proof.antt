@@ -1,13 +1,13 @@
--- `frame::start_from` meets its contract. The invariant: no start stands at the places passed.
+-- `scan::start_from` meets its contract. The invariant: no start stands at the places passed.
 -- Assumes nothing.
 use Prim.Native.Nat.{_-_}
 use native.Mathlib.Omega.{arith}
 use lib.ListN.{length}
 use borrow.Author.Needs.{needs}
-use Rattle.frame.specs.Scan.{NoStart}
-use Rattle.frame.proofs.Starts.{no-dollar, nothing, go-on}
-use Rattle.frame.proofs.start_from.Statement.{statement}
-use Rattle.frame.proofs.start_from.Tie as tie
+use Rattle.scan.specs.Scan.{NoStart}
+use Rattle.scan.proofs.Starts.{no-dollar, nothing, go-on}
+use Rattle.scan.proofs.start_from.Statement.{statement}
+use Rattle.scan.proofs.start_from.Tie as tie
 
 abbrev Inv-loop : tie.InvT-loop
 Inv-loop s i k₀ k = NoStart s i k

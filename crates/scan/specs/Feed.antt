@@ -3,10 +3,10 @@
 use Prim.Native.Nat.{ℕ, zero, suc}
 use mathlib.Core.List.{List, [], _∷_, _++_}
 use mathlib.Core.Option.{Option, none, some}
 use Rattle.frame.specs.Judge.{judged}
-use Rattle.frame.specs.Settle.{Settled, settle}
+use Rattle.scan.specs.Settle.{Settled, settle}
 use Rattle.frame.specs.declared.Reason.{Reason}
 use Rattle.frame.specs.declared.Verdict.{Verdict}
 
 -- how many bytes of the piece were taken, why each skipped byte was skipped, the length of the block at the front of the held bytes, and these
 pub record Feeding : Type 0 where

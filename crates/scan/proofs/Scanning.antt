@@ -7,19 +7,19 @@ use Prim.Native.Nat.{ℕ, max, _+_, _-_, _≤_}
 use native.Mathlib.Omega.{arith}
 use lib.ListN.{length, take, length-append}
 use lib.Seq.{take-all}
-use Rattle.frame.specs.Settle.{Settled, settle}
-use Rattle.frame.specs.Feed.{Feeding, feedBy, size}
-use Rattle.frame.specs.Scan.{counts, counted, foundOf, behind, marks, partBy, partOf}
+use Rattle.scan.specs.Settle.{Settled, settle}
+use Rattle.scan.specs.Feed.{Feeding, feedBy, size}
+use Rattle.scan.specs.Scan.{counts, counted, foundOf, behind, marks, partBy, partOf}
 use Rattle.frame.specs.declared.Reason.{Reason}
 use Rattle.frame.specs.declared.Verdict.{Verdict}
-use Rattle.frame.specs.declared.Passed.{Passed}
-use Rattle.frame.specs.declared.Found.{Found}
-use Rattle.frame.specs.declared.Part.{Part}
-use Rattle.frame.specs.declared.Part.the-variants.{Block, Waits, Through}
-use Rattle.frame.proofs.Judging.{Judging}
-use Rattle.frame.proofs.Settling.{joined, settle-rest, settle-joined}
-use Rattle.frame.proofs.Marks.{counts-append, counts-skipped, counted-skipped, marks-max, marks-append}
-use Rattle.frame.proofs.Literal.{reach, toLit, literal}
+use Rattle.scan.specs.declared.Passed.{Passed}
+use Rattle.scan.specs.declared.Found.{Found}
+use Rattle.scan.specs.declared.Part.{Part}
+use Rattle.scan.specs.declared.Part.the-variants.{Block, Waits, Through}
+use Rattle.scan.proofs.Judging.{Judging}
+use Rattle.scan.proofs.Settling.{joined, settle-rest, settle-joined}
+use Rattle.scan.proofs.Marks.{counts-append, counts-skipped, counted-skipped, marks-max, marks-append}
+use Rattle.scan.proofs.Literal.{reach, toLit, literal}
 
 -- ---- a part, and then the rest
 

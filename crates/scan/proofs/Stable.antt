@@ -12,16 +12,17 @@ use lib.Dec.{ltb, eqb}
 use Rattle.crc.specs.Crc.{crcOf}
 use Rattle.wire.specs.Little.{littleAt}
 use Rattle.wire.proofs.Laws as little
 use Rattle.frame.specs.Frame.{lengthAt, allowed, crcRight}
-use Rattle.frame.specs.Judge.{judged, lastBy, judgedLast}
+use Rattle.frame.specs.Judge.{judged}
+use Rattle.scan.specs.Settle.{lastBy, judgedLast}
 use Rattle.frame.specs.declared.Reason.{Reason}
 use Rattle.frame.specs.declared.Reason.the-variants.{NoSync, CrcWrong, FewLeft, PastEnd}
 use Rattle.frame.specs.declared.Verdict.{Verdict}
 use Rattle.frame.specs.declared.Verdict.the-variants.{NoFrame, Frame, Undecided}
 use Rattle.frame.proofs.Tests.{bool?, lt?}
 use Rattle.frame.proofs.Cases.{empty, sync0, sync1, bad-length, part, good, bad}
 use Rattle.frame.proofs.View.{Head, allows, View, waits-head, waits-body, at-sync0, at-sync1, at-length, at-bad, at-good, view}
-use Rattle.frame.proofs.Judging.{There, FitsFor, Fits, needFor, need, Judging}
+use Rattle.scan.proofs.Judging.{There, FitsFor, Fits, needFor, need, Judging}
 
 -- ---- what is read of the first bytes is read of them with more behind
 
@@ -73,7 +74,7 @@ module _ (xs ys : List ℕ) where
           ∙ ap (λ (n : ℕ). NoFrame (CrcWrong n)) length-same
 
   stays-of : {x : Verdict} → View xs x → (x ≡ Undecided → ⊥) → judged (xs ++ ys) ≡ x
-  stays-of (waits-head h) n = absurd (n refl)
+  stays-of (waits-head h f s) n = absurd (n refl)
   stays-of (waits-body h a l) n = absurd (n refl)
   stays-of (at-sync0 l a) n = sync0 (xs ++ ys) (omega (arith, long)) (λ q. a (sym (byte 0 l) ∙ q))
   stays-of (at-sync1 l a b) n =
@@ -83,7 +84,7 @@ module _ (xs ys : List ℕ) where
   stays-of (at-good h a l q) n = good-on h a (omega (arith, long)) (crc-same h l ∙ q)
 
 need-of : (v : List ℕ) {x : Verdict} → View v x → 8 ≤ need x
-need-of v (waits-head h) = omega arith
+need-of v (waits-head h f s) = omega arith
 need-of v (waits-body h a l) = omega arith
 need-of v (at-sync0 l a) = omega arith
 need-of v (at-sync1 l a b) = omega arith
@@ -96,7 +97,7 @@ module _ (xs ys : List ℕ) (n : judged (xs ++ ys) ≡ Undecided → ⊥) where
   Soon x = length xs < need x
 
   soon-of : {x : Verdict} → View xs x → x ≡ Undecided → Soon (judged (xs ++ ys))
-  soon-of (waits-head h) e = omega (arith, need-of (xs ++ ys) (view (xs ++ ys)))
+  soon-of (waits-head h f s) e = omega (arith, need-of (xs ++ ys) (view (xs ++ ys)))
   soon-of (waits-body h a l) e =
       lt? (length (xs ++ ys)) (lengthAt xs 0) (λ m. absurd (n (part-on xs ys h a m)))
       (λ m.
@@ -109,7 +110,7 @@ module _ (xs ys : List ℕ) (n : judged (xs ++ ys) ≡ Undecided → ⊥) where
   soon-of (at-good h a l q) e = let z : _≡_ {A = ℕ} 0 1 = cc in omega arith
 
 fits-of : (v : List ℕ) {x : Verdict} → View v x → Fits v x
-fits-of v (waits-head h) = tt
+fits-of v (waits-head h f s) = tt
 fits-of v (waits-body h a l) = tt
 fits-of v (at-sync0 l a) = tt
 fits-of v (at-sync1 l a b) = tt

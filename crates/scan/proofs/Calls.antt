@@ -8,12 +8,12 @@ use Prim.Native.Nat.{ℕ, zero, suc, min, _+_, _≤_}
 use native.Mathlib.Omega.{arith}
 use lib.ListN.{length, take, drop, length-drop, length-append, length-take}
 use lib.Seq.{append-snoc, drop-drop, drop-append-le}
-use Rattle.frame.specs.Settle.{Settled, settle}
-use Rattle.frame.specs.Feed.{Feeding, stop, unlessBlock, feedBy, size}
+use Rattle.scan.specs.Settle.{Settled, settle}
+use Rattle.scan.specs.Feed.{Feeding, stop, unlessBlock, feedBy, size}
 use Rattle.frame.specs.declared.Reason.{Reason}
 use Rattle.frame.specs.declared.Verdict.{Verdict}
-use Rattle.frame.proofs.Judging.{Fits}
-use Rattle.frame.proofs.Settling.{settle-rest, Stopped, settle-stopped, front-by}
+use Rattle.scan.proofs.Judging.{Fits}
+use Rattle.scan.proofs.Settling.{settle-rest, Stopped, settle-stopped, front-by}
 
 -- one call in numbers
 pub record Call (h piece : List ℕ) (room : ℕ) (f : Feeding) : Type 0 where

@@ -1,22 +1,22 @@
--- `frame::scan` meets its contract: a part and then the rest is the whole, which gives what feeding a byte at a time gives.
+-- `scan::scan` meets its contract: a part and then the rest is the whole, which gives what feeding a byte at a time gives.
 -- Assumes nothing.
 use mathlib.Core.Path.{_≡_, sym, ap, _∙_, subst}
 use mathlib.Core.List.{[]}
 use Prim.Native.Nat.{ℕ, _+_}
 use native.Mathlib.Omega.{arith}
 use lib.ListN.{length}
 use Rattle.frame.specs.Judge.{judged}
-use Rattle.frame.specs.Settle.{settle}
-use Rattle.frame.specs.Feed.{feedLit}
-use Rattle.frame.specs.Scan.{counts, foundOf, behind, marks}
-use Rattle.frame.specs.declared.Found.{Found}
-use Rattle.frame.specs.declared.Part.{Part}
-use Rattle.frame.specs.declared.Part.the-variants.{Block, Through}
-use Rattle.frame.proofs.Stable.{judging}
-use Rattle.frame.proofs.Scanning.{thenPart, part-then, last-part, Kept, kept, foundBy, found}
+use Rattle.scan.specs.Settle.{settle}
+use Rattle.scan.specs.Feed.{feedLit}
+use Rattle.scan.specs.Scan.{counts, foundOf, behind, marks}
+use Rattle.scan.specs.declared.Found.{Found}
+use Rattle.scan.specs.declared.Part.{Part}
+use Rattle.scan.specs.declared.Part.the-variants.{Block, Through}
+use Rattle.scan.proofs.Stable.{judging}
+use Rattle.scan.proofs.Scanning.{thenPart, part-then, last-part, Kept, kept, foundBy, found}
 use borrow.Author.Needs.{needs}
-use Rattle.frame.proofs.scan.Statement.{statement}
-use Rattle.frame.proofs.scan.Tie as tie
+use Rattle.scan.proofs.scan.Statement.{statement}
+use Rattle.scan.proofs.scan.Tie as tie
 
 abbrev entry : tie.After-scan-part → tie.Start
 entry s = s .before .before .before
