@@ -1,22 +1,19 @@
 -- A frame stands at the front of a run exactly where it is judged to.
 -- Assumes nothing.
-use mathlib.Core.Path.{_≡_, refl, sym, ap, ap₂, _∙_, subst}
+use mathlib.Core.Path.{_≡_, refl, subst}
 use mathlib.Core.List.{List}
-use mathlib.Core.Bool.{Bool, true, _&&_}
+use mathlib.Core.Bool.{true, _&&_}
 use Prim.Native.Nat.{ℕ, _+_, _-_, _≤_}
-use native.Mathlib.Nat.{zero-add}
 use native.Mathlib.Omega.{arith}
-use lib.ListN.{length, getD, take, drop, length-drop}
+use lib.ListN.{length, getD}
 use lib.Dec.{leb, eqb}
-use borrow.Author.Tests.{leb-true, eqb-true, le-leb, lt-leb, eq-eqb}
-use Rattle.crc.specs.Crc.{crcOf}
-use Rattle.wire.proofs.Laws.{little-drop}
-use Rattle.frame.specs.Frame.{syncAt, crcAt, lengthAt, allowed, endsWithin, crcRight, frameAt}
+use borrow.Author.Tests.{leb-true, eqb-true, le-leb, eq-eqb}
+use Rattle.frame.specs.Frame.{syncAt, lengthAt, allowed, endsWithin, crcRight, frameAt}
 use Rattle.frame.specs.Judge.{judged}
 use Rattle.frame.specs.declared.Verdict.{Verdict}
 use Rattle.frame.specs.declared.Verdict.the-variants.{NoFrame, Frame, Undecided}
-use Rattle.frame.proofs.Tests.{lt?, both-left, both-right, both-true}
-use Rattle.frame.proofs.Cases.{good, byte0, byte, body}
+use Rattle.frame.proofs.Tests.{both-left, both-right, both-true}
+use Rattle.frame.proofs.Cases.{good}
 use Rattle.frame.proofs.View.{allows, View, waits-head, waits-body, at-sync0, at-sync1, at-length, at-bad, at-good, view}
 
 pub front-judged : (v : List ℕ) → frameAt v 0 ≡ true → judged v ≡ Frame (lengthAt v 0)

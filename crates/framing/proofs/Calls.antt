@@ -9,7 +9,6 @@ use native.Mathlib.Omega.{arith}
 use lib.ListN.{length, take}
 use Rattle.frame.specs.Judge.{judged}
 use Rattle.frame.specs.declared.Verdict.{Verdict}
-use Rattle.frame.specs.declared.Verdict.the-variants.{Frame}
 use Rattle.scan.specs.Settle.{settle}
 use Rattle.scan.specs.Feed.{Feeding, unlessBlock, feedBy, feedLit}
 use Rattle.scan.proofs.Stable.{judging}

@@ -1,25 +1,25 @@
 -- Runs read, by what settling and feeding give: what a call skips, and the block that it leaves standing, are what the rule reads there.
 -- Assumes nothing.
-use mathlib.Core.Path.{_≡_, refl, sym, ap, ap₂, _∙_, subst}
+use mathlib.Core.Path.{_≡_, refl, sym, ap, ap₂, _∙_}
 use mathlib.Core.List.{List, [], _∷_, _++_, append-nil, append-assoc}
 use mathlib.Core.Bool.{Bool, true, false}
 use mathlib.Core.Option.{Option, none, some}
-use Prim.Native.Nat.{ℕ, zero, suc, _+_, _-_, _≤_, _<_}
+use Prim.Native.Nat.{ℕ, zero, suc, _+_, _-_, _≤_}
 use native.Mathlib.Nat.{add-zero, zero-add, add-assoc}
 use native.Mathlib.Numerals.{add-one}
 use native.Mathlib.Omega.{arith}
 use lib.ListN.{length, take, drop, getD, length-append}
 use lib.Seq.{drop-append-le, take-append-le, append-snoc, drop-drop, drop-length, drop-cons}
-use Rattle.frame.specs.Frame.{lengthAt, allowed, frameAt}
+use Rattle.frame.specs.Frame.{lengthAt, frameAt}
 use Rattle.frame.specs.Judge.{judged}
 use Rattle.frame.specs.declared.Reason.{Reason}
 use Rattle.frame.specs.declared.Verdict.{Verdict}
 use Rattle.frame.specs.declared.Verdict.the-variants.{NoFrame, Frame, Undecided}
-use Rattle.frame.proofs.Tests.{bool?, never}
+use Rattle.frame.proofs.Tests.{bool?}
 use Rattle.frame.proofs.Standing.{front-judged, judged-front}
 use Rattle.scan.specs.Settle.{Settled, settleBy, settle, judgedLast}
 use Rattle.scan.specs.Feed.{Feeding, unlessBlock, feedBy, feedLit, size}
-use Rattle.scan.proofs.Judging.{There, Fits}
+use Rattle.scan.proofs.Judging.{There}
 use Rattle.scan.proofs.Stable.{judging, frame-last, last-frame}
 use Rattle.scan.proofs.Settling.{Stopped, settle-stopped}
 use Rattle.scan.proofs.Calls.{fed-stopped}

@@ -1,16 +1,14 @@
 -- One call of feed in numbers and bytes, over any judge: none is lost, and all that may be is taken unless a block came.
 -- Assumes nothing.
 use mathlib.Core.Path.{_≡_, refl, sym, ap, _∙_, subst⁻¹}
-use mathlib.Core.Logic.{inl}
 use mathlib.Core.List.{List, [], _∷_, _++_, append-nil}
 use mathlib.Core.Option.{Option, none, some}
 use Prim.Native.Nat.{ℕ, zero, suc, min, _+_, _≤_}
 use native.Mathlib.Omega.{arith}
-use lib.ListN.{length, take, drop, length-drop, length-append, length-take}
+use lib.ListN.{length, take, drop, length-drop, length-append}
 use lib.Seq.{append-snoc, drop-drop, drop-append-le}
 use Rattle.scan.specs.Settle.{Settled, settle}
 use Rattle.scan.specs.Feed.{Feeding, stop, unlessBlock, feedBy, size}
-use Rattle.frame.specs.declared.Reason.{Reason}
 use Rattle.frame.specs.declared.Verdict.{Verdict}
 use Rattle.scan.proofs.Judging.{Fits}
 use Rattle.scan.proofs.Settling.{settle-rest, Stopped, settle-stopped, front-by}
@@ -22,6 +20,34 @@ pub record Call (h piece : List ℕ) (room : ℕ) (f : Feeding) : Type 0 where
   pub front : size (f .standing) ≤ length (f .held)
 
 module _ (judge : List ℕ → Verdict) where
+  -- ---- all that there is to take is taken, unless a block came
+
+  abbrev pub Took : Option ℕ → ℕ → ℕ → Type 0
+  Took none t m = t ≡ m
+  Took (some n) t m = t ≤ m
+
+  took-more : (o : Option ℕ) (t room m : ℕ) → Took o t (min room m) → Took o (suc t) (min (suc room) (suc m))
+  took-more none t room m h = omega arith
+  took-more (some n) t room m h = omega arith
+
+  took-by : (o : Option ℕ) (s : Settled) (next : Feeding) (room m : ℕ) → s .standing ≡ o → Took (next .standing) (next .taken) (min room m)
+      → Took (unlessBlock o s next .standing) (unlessBlock o s next .taken) (min (suc room) (suc m))
+  took-by (some n) s next room m e t = subst⁻¹ (λ (o : Option ℕ). Took o 0 (min (suc room) (suc m))) e (omega arith)
+  took-by none s next room m e t = took-more (next .standing) (next .taken) room m t
+
+  nothing-taken : (o : Option ℕ) (m : ℕ) → m ≡ 0 → Took o 0 m
+  nothing-taken none m e = sym e
+  nothing-taken (some n) m e = omega arith
+
+  pub fed-took : (piece : List ℕ) (room : ℕ) (h : List ℕ)
+      → Took (feedBy judge h piece room .standing) (feedBy judge h piece room .taken) (min room (length piece))
+  unfolding feedBy
+  fed-took [] room h = nothing-taken (settle judge h .standing) (min room 0) (omega arith)
+  fed-took (b ∷ bs) zero h = nothing-taken (settle judge h .standing) (min 0 (suc (length bs))) (omega arith)
+  fed-took (b ∷ bs) (suc room) h =
+      took-by (settle judge h .standing) (settle judge h) (feedBy judge (settle judge h .rest ++ b ∷ []) bs room) room (length bs) refl
+      (fed-took bs room (settle judge h .rest ++ b ∷ []))
+
   -- ---- what is held
 
   abbrev pub Holds : List ℕ → List ℕ → Feeding → Type 0
@@ -70,34 +96,6 @@ module _ (judge : List ℕ → Verdict) where
   fed-sum (b ∷ bs) zero h = settle-sum h
   fed-sum (b ∷ bs) (suc room) h =
       sum-by (settle judge h .standing) h b (feedBy judge (settle judge h .rest ++ b ∷ []) bs room) (fed-sum bs room (settle judge h .rest ++ b ∷ []))
-
-  -- ---- all that there is to take is taken, unless a block came
-
-  abbrev pub Took : Option ℕ → ℕ → ℕ → Type 0
-  Took none t m = t ≡ m
-  Took (some n) t m = t ≤ m
-
-  took-more : (o : Option ℕ) (t room m : ℕ) → Took o t (min room m) → Took o (suc t) (min (suc room) (suc m))
-  took-more none t room m h = omega arith
-  took-more (some n) t room m h = omega arith
-
-  took-by : (o : Option ℕ) (s : Settled) (next : Feeding) (room m : ℕ) → s .standing ≡ o → Took (next .standing) (next .taken) (min room m)
-      → Took (unlessBlock o s next .standing) (unlessBlock o s next .taken) (min (suc room) (suc m))
-  took-by (some n) s next room m e t = subst⁻¹ (λ (o : Option ℕ). Took o 0 (min (suc room) (suc m))) e (omega arith)
-  took-by none s next room m e t = took-more (next .standing) (next .taken) room m t
-
-  nothing-taken : (o : Option ℕ) (m : ℕ) → m ≡ 0 → Took o 0 m
-  nothing-taken none m e = sym e
-  nothing-taken (some n) m e = omega arith
-
-  pub fed-took : (piece : List ℕ) (room : ℕ) (h : List ℕ)
-      → Took (feedBy judge h piece room .standing) (feedBy judge h piece room .taken) (min room (length piece))
-  unfolding feedBy
-  fed-took [] room h = nothing-taken (settle judge h .standing) (min room 0) (omega arith)
-  fed-took (b ∷ bs) zero h = nothing-taken (settle judge h .standing) (min 0 (suc (length bs))) (omega arith)
-  fed-took (b ∷ bs) (suc room) h =
-      took-by (settle judge h .standing) (settle judge h) (feedBy judge (settle judge h .rest ++ b ∷ []) bs room) room (length bs) refl
-      (fed-took bs room (settle judge h .rest ++ b ∷ []))
 
   took-le : (o : Option ℕ) (t m : ℕ) → Took o t m → t ≤ m
   took-le none t m e = omega arith

@@ -5,7 +5,6 @@ use mathlib.Core.Logic.{⊎-elim}
 use mathlib.Core.List.{List, [], _∷_, _++_, append-nil}
 use mathlib.Core.Option.{Option, none, some}
 use Prim.Native.Nat.{ℕ, zero, suc, max, _+_, _-_, _≤_, _<_}
-use native.Mathlib.Nat.{zero-add}
 use native.Mathlib.Omega.{arith}
 use lib.ListN.{length, take, drop, length-drop, length-append}
 use lib.Seq.{drop-append-le, append-snoc, drop-drop, take-nil, take-all, take-append-seam}
@@ -19,7 +18,7 @@ use Rattle.frame.specs.declared.Verdict.the-variants.{NoFrame, Frame, Undecided
 use Rattle.scan.proofs.Judging.{There, needFor, need, Judging}
 use Rattle.frame.proofs.Parts.{take-drop}
 use Rattle.scan.proofs.Marks.{marks-max, marks-shift, marks-append, marks-low}
-use Rattle.scan.proofs.Settling.{before, Rest, settle-rest, Stopped, settle-stopped, after, settle-after, settle-front}
+use Rattle.scan.proofs.Settling.{before, settle-rest, Stopped, settle-stopped, after, settle-after, settle-front}
 
 -- how many bytes had to be taken, of n that were held and t in all, to pass the bytes for these reasons and come to this
 abbrev pub reach : Option ℕ → List Reason → ℕ → ℕ → ℕ

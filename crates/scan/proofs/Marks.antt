@@ -2,7 +2,7 @@
 -- Assumes nothing.
 use mathlib.Core.Path.{_≡_, refl, sym, ap, ap₂, _∙_}
 use mathlib.Core.List.{List, [], _∷_, _++_}
-use Prim.Native.Nat.{ℕ, zero, suc, max, _+_, _≤_}
+use Prim.Native.Nat.{ℕ, suc, max, _+_, _≤_}
 use native.Mathlib.Nat.{add-zero, zero-add}
 use native.Mathlib.Omega.{arith}
 use lib.ListN.{length}
@@ -16,7 +16,7 @@ use Rattle.scan.specs.declared.Passed.{Passed}
 use types.Run.{OneOf, miss}
 use denote.Enum.Declared.{tagOf}
 use Rattle.frame.proofs.Reason.{the-type}
-use Rattle.scan.proofs.Judging.{There, FitsFor, Fits}
+use Rattle.scan.proofs.Judging.{FitsFor, Fits}
 
 pub counts-append : (a : Passed) (xs ys : List Reason) → counts a (xs ++ ys) ≡ counts (counts a xs) ys
 unfolding counts

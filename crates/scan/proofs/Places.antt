@@ -1,6 +1,6 @@
 -- Settling place by place, in the numbers that the loops keep: what the places from k on give.
 -- Assumes nothing.
-use mathlib.Core.Path.{_≡_, refl, sym, ap, ap₂, _∙_, subst⁻¹}
+use mathlib.Core.Path.{_≡_, refl, sym, ap, _∙_, subst⁻¹}
 use mathlib.Core.Bool.{cond}
 use mathlib.Core.List.{List, [], _∷_, _++_, append-nil}
 use mathlib.Core.Option.{none}
@@ -11,7 +11,7 @@ use lib.ListN.{length, drop, getD, length-drop, length-append, drop-of-length-le
 use lib.Seq.{drop-cons}
 use lib.Dec.{ltb}
 use Rattle.frame.specs.Judge.{judged}
-use Rattle.scan.specs.Settle.{Settled, stopAt, pass, settleBy, settle, lastBy, judgedLast}
+use Rattle.scan.specs.Settle.{Settled, stopAt, settleBy, settle, lastBy, judgedLast}
 use Rattle.scan.specs.Feed.{size}
 use Rattle.scan.specs.Scan.{counts, behind, raised, marks, partBy, partOf, NoStart}
 use Rattle.frame.specs.declared.Reason.{Reason}

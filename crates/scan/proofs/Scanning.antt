@@ -5,10 +5,10 @@ use mathlib.Core.List.{List, [], _∷_, _++_, append-nil}
 use mathlib.Core.Option.{Option, none, some}
 use Prim.Native.Nat.{ℕ, max, _+_, _-_, _≤_}
 use native.Mathlib.Omega.{arith}
-use lib.ListN.{length, take, length-append}
+use lib.ListN.{length, length-append}
 use lib.Seq.{take-all}
 use Rattle.scan.specs.Settle.{Settled, settle}
-use Rattle.scan.specs.Feed.{Feeding, feedBy, size}
+use Rattle.scan.specs.Feed.{feedBy, size}
 use Rattle.scan.specs.Scan.{counts, counted, foundOf, behind, marks, partBy, partOf}
 use Rattle.frame.specs.declared.Reason.{Reason}
 use Rattle.frame.specs.declared.Verdict.{Verdict}

@@ -7,7 +7,7 @@ use mathlib.Core.Option.{Option, none, some}
 use Prim.Native.Nat.{ℕ, _≤_}
 use native.Mathlib.Omega.{arith}
 use lib.ListN.{length, drop}
-use Rattle.scan.specs.Settle.{Settled, stopAt, pass, settleBy, settle}
+use Rattle.scan.specs.Settle.{Settled, pass, settleBy, settle}
 use Rattle.scan.specs.Feed.{size}
 use Rattle.scan.specs.Scan.{behind}
 use Rattle.frame.specs.declared.Reason.{Reason}

@@ -4,7 +4,6 @@ use mathlib.Core.Path.{_≡_, refl, sym, ap, ap₂, _∙_, subst, subst⁻¹}
 use mathlib.Core.List.{List, [], _++_}
 use mathlib.Core.Bool.{Bool, true, false, cond}
 use Prim.Native.Nat.{ℕ, _+_, _≤_, _<_}
-use native.Mathlib.Nat.{zero-add}
 use native.Mathlib.Omega.{arith}
 use lib.ListN.{length, take, drop, getD, length-append, List·getD-append}
 use lib.Seq.{take-append-le}
@@ -15,14 +14,13 @@ use Rattle.wire.proofs.Laws as little
 use Rattle.frame.specs.Frame.{lengthAt, allowed, crcRight}
 use Rattle.frame.specs.Judge.{judged}
 use Rattle.scan.specs.Settle.{lastBy, judgedLast}
-use Rattle.frame.specs.declared.Reason.{Reason}
 use Rattle.frame.specs.declared.Reason.the-variants.{NoSync, CrcWrong, FewLeft, PastEnd}
 use Rattle.frame.specs.declared.Verdict.{Verdict}
 use Rattle.frame.specs.declared.Verdict.the-variants.{NoFrame, Frame, Undecided}
 use Rattle.frame.proofs.Tests.{bool?, lt?}
 use Rattle.frame.proofs.Cases.{empty, sync0, sync1, bad-length, part, good, bad}
 use Rattle.frame.proofs.View.{Head, allows, View, waits-head, waits-body, at-sync0, at-sync1, at-length, at-bad, at-good, view}
-use Rattle.scan.proofs.Judging.{There, FitsFor, Fits, needFor, need, Judging}
+use Rattle.scan.proofs.Judging.{FitsFor, Fits, need, Judging}
 
 -- ---- what is read of the first bytes is read of them with more behind
 

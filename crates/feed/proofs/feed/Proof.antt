@@ -4,11 +4,10 @@ use mathlib.Core.Path.{_≡_, sym, ap, _∙_}
 use mathlib.Core.List.{List}
 use Prim.Native.Nat.{ℕ, _-_, _+_, _≤_, min}
 use native.Mathlib.Omega.{arith}
-use lib.ListN.{length, take, drop}
+use lib.ListN.{length, drop}
 use lib.Seq.{length-take-le}
 use Rattle.scan.specs.Feed.{Feeding, feedLit}
 use Rattle.scan.specs.Scan.{foundOf}
-use Rattle.scan.specs.declared.Found.{Found}
 use Rattle.feed.specs.Hold.{restOf}
 use Rattle.feed.proofs.Bounds.{Bytes, take-bytes, drop-bytes, fed-held}
 use Rattle.feed.proofs.Literally.{roomed, rest-length, sum, few, whole, told, kept}

@@ -1,7 +1,7 @@
 -- `feed::finish` meets its contract: the rule for the run's end, over the held bytes.
 -- Assumes nothing.
 use mathlib.Core.Path.{_≡_}
-use Prim.Native.Nat.{ℕ, _-_, _≤_}
+use Prim.Native.Nat.{_-_, _≤_}
 use native.Mathlib.Omega.{arith}
 use Rattle.scan.specs.Settle.{settle, judgedLast}
 use Rattle.scan.specs.Feed.{stop}

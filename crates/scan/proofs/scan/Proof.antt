@@ -2,7 +2,7 @@
 -- Assumes nothing.
 use mathlib.Core.Path.{_≡_, sym, ap, _∙_, subst}
 use mathlib.Core.List.{[]}
-use Prim.Native.Nat.{ℕ, _+_}
+use Prim.Native.Nat.{_+_}
 use native.Mathlib.Omega.{arith}
 use lib.ListN.{length}
 use Rattle.frame.specs.Judge.{judged}
@@ -11,7 +11,6 @@ use Rattle.scan.specs.Feed.{feedLit}
 use Rattle.scan.specs.Scan.{counts, foundOf, behind, marks}
 use Rattle.scan.specs.declared.Found.{Found}
 use Rattle.scan.specs.declared.Part.{Part}
-use Rattle.scan.specs.declared.Part.the-variants.{Block, Through}
 use Rattle.scan.proofs.Stable.{judging}
 use Rattle.scan.proofs.Scanning.{thenPart, part-then, last-part, Kept, kept, foundBy, found}
 use borrow.Author.Needs.{needs}

@@ -10,13 +10,12 @@ use lib.Seq.{take-all}
 use borrow.Author.Needs.{needs}
 use Rattle.frame.specs.Judge.{judged}
 use Rattle.scan.specs.Settle.{settle}
-use Rattle.scan.specs.Scan.{counts, behind, raised, marks, partOf}
-use Rattle.frame.specs.declared.Reason.{Reason}
+use Rattle.scan.specs.Scan.{counts, behind, marks, partOf}
 use Rattle.frame.specs.declared.Reason.the-variants.{CrcWrong}
 use Rattle.frame.specs.declared.Verdict.{Verdict}
-use Rattle.frame.specs.declared.Verdict.the-variants.{NoFrame, Frame, Undecided}
+use Rattle.frame.specs.declared.Verdict.the-variants.{NoFrame}
 use Rattle.scan.specs.declared.Part.{Part}
-use Rattle.scan.specs.declared.Part.the-variants.{Block, Waits}
+use Rattle.scan.specs.declared.Part.the-variants.{Block}
 use Rattle.scan.proofs.Judging.{There, Fits}
 use Rattle.scan.proofs.Stable.{judging}
 use Rattle.scan.proofs.Marks.{no-mark}
