@@ -7,12 +7,12 @@ use Prim.Native.Nat.{ℕ}
 use Rattle.reader.specs.Said.{Said, refused}
 use Rattle.reader.specs.Calls.{Outcome, outcome}
 use Rattle.reader.specs.declared.State.{State}
-use Rattle.capi.specs.State.{stateOf, stateC}
-use Rattle.capi.specs.Answer.{answerC}
-use Rattle.capi.specs.Calls.{left, replyC, goesOn}
-use Rattle.capi.specs.declared.CState.{CState}
-use Rattle.capi.specs.declared.CAnswer.{CAnswer}
-use Rattle.capi.specs.declared.CReply.{CReply}
+use Rattle.cform.specs.State.{stateOf, stateC}
+use Rattle.cform.specs.Answer.{answerC, replyC}
+use Rattle.capi.specs.Calls.{left, goesOn}
+use Rattle.cform.specs.declared.CState.{CState}
+use Rattle.cform.specs.declared.CAnswer.{CAnswer}
+use Rattle.cform.specs.declared.CReply.{CReply}
 
 module _ (call : State → Outcome) (s : CState) (lent : List ℕ) where
   pub goes-on : {t u : State} {a : Said} {l : List ℕ} {x : CState} {y : CAnswer} → stateOf s ≡ some t → outcome a u l ≡ call t → x ≡ stateC u → y ≡ answerC a

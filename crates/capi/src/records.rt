@@ -4,13 +4,13 @@ ghost use Prim.Native.Nat.{_≤_, _<_};
 ghost use lib.ListN.{length};
 ghost use Rattle.record.specs.Block.{subLengthIn};
 ghost use Rattle.capi.specs.Calls.{handing, bodyC, subC, subBytesC, towC, wncC};
-use crate::CField;
-use crate::CPart;
-use crate::CState;
-use crate::Known;
-use crate::answers;
-use crate::fields;
-use crate::states;
+use cform::CField;
+use cform::CPart;
+use cform::CState;
+use cform::Known;
+use cform::answers;
+use cform::fields;
+use cform::states;
 use record::Handed;
 
 #[no_mangle]

@@ -1,12 +1,12 @@
 // A run, for C: Open, Feed, Finish, and the part of the hold that is the block just reported.
 ghost use mathlib.Core.Path.{_≡_};
 ghost use Rattle.capi.specs.Calls.{left, handing, openC, feedC, finishC, bytesC};
-use crate::CPart;
-use crate::CReply;
-use crate::CState;
-use crate::Known;
-use crate::answers;
-use crate::states;
+use cform::CPart;
+use cform::CReply;
+use cform::CState;
+use cform::Known;
+use cform::answers;
+use cform::states;
 use reader::Check;
 
 #[no_mangle]

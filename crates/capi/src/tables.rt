@@ -2,11 +2,11 @@
 ghost use mathlib.Core.Path.{_≡_};
 ghost use mathlib.Core.List.{[]};
 ghost use Rattle.capi.specs.Calls.{left, stageC, withdrawC};
-use crate::CReply;
-use crate::CState;
-use crate::Known;
-use crate::answers;
-use crate::states;
+use cform::CReply;
+use cform::CState;
+use cform::Known;
+use cform::answers;
+use cform::states;
 
 #[no_mangle]
 pub extern "C" fn alderflute_stage(s: CState, waiting: &mut [u8], table: &[u8]) -> CReply

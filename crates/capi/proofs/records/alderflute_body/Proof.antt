@@ -3,9 +3,10 @@
 use mathlib.Core.Path.{sym, ap, _∙_}
 use Rattle.reader.specs.declared.State.{State}
 use Rattle.reader.specs.Records.{bodyOf}
-use Rattle.capi.specs.State.{knownSays}
+use Rattle.cform.specs.State.{knownSays}
 use Rattle.capi.specs.Calls.{bodyC}
-use Rattle.capi.proofs.Telling.{no-nan, tells-it, tells-one}
+use Rattle.cform.proofs.Floats.{no-nan}
+use Rattle.capi.proofs.Telling.{tells-it, tells-one}
 use borrow.Author.Needs.{needs}
 use Rattle.capi.proofs.records.alderflute_body.Statement.{statement}
 use Rattle.capi.proofs.records.alderflute_body.Tie as tie

@@ -10,8 +10,8 @@ use Rattle.reader.specs.Records.{subBytesOf, subBytesRefusal}
 use Rattle.record.specs.Answer.{numberFor, handedSays}
 use Rattle.record.specs.Block.{subLengthIn}
 use Rattle.record.proofs.Parts.{lies}
-use Rattle.capi.specs.State.{knownSays}
-use Rattle.capi.specs.Answer.{partC}
+use Rattle.cform.specs.State.{knownSays}
+use Rattle.cform.specs.Answer.{partC}
 use Rattle.capi.specs.Calls.{subBytesC}
 use Rattle.capi.proofs.Handing as handing
 use borrow.Author.Needs.{needs}

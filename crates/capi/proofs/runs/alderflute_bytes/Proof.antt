@@ -9,8 +9,8 @@ use Rattle.reader.specs.Said.{refusalOf}
 use Rattle.reader.specs.Refusals.{bytesRefusal}
 use Rattle.reader.specs.Calls.{bytesOf}
 use Rattle.record.specs.Answer.{numberFor}
-use Rattle.capi.specs.State.{knownSays}
-use Rattle.capi.specs.Answer.{partC}
+use Rattle.cform.specs.State.{knownSays}
+use Rattle.cform.specs.Answer.{partC}
 use Rattle.capi.specs.Calls.{bytesC}
 use Rattle.capi.proofs.Handing.{hands-one, hands-none, hands-it, bytes-none, bytes-cut}
 use borrow.Author.Needs.{needs}

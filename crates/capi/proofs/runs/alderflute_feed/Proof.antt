@@ -3,7 +3,7 @@
 use mathlib.Core.Path.{sym, ap, _∙_}
 use Rattle.reader.specs.declared.State.{State}
 use Rattle.reader.specs.Calls.{feedOf}
-use Rattle.capi.specs.State.{knownSays}
+use Rattle.cform.specs.State.{knownSays}
 use Rattle.capi.specs.Calls.{feedC}
 use Rattle.capi.proofs.Going.{goes-on, goes-nowhere}
 use borrow.Author.Needs.{needs}

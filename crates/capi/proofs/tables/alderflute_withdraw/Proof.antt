@@ -4,7 +4,7 @@ use mathlib.Core.Path.{sym, ap, _∙_}
 use mathlib.Core.List.{[]}
 use Rattle.reader.specs.declared.State.{State}
 use Rattle.reader.specs.Calls.{withdrawOf}
-use Rattle.capi.specs.State.{knownSays}
+use Rattle.cform.specs.State.{knownSays}
 use Rattle.capi.specs.Calls.{withdrawC}
 use Rattle.capi.proofs.Going.{goes-on, goes-nowhere}
 use borrow.Author.Needs.{needs}

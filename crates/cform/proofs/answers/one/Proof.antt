@@ -1,0 +1,14 @@
+-- `cform::answers::one` meets its contract.
+-- Assumes nothing.
+use borrow.Author.Needs.{needs}
+use Rattle.cform.proofs.answers.one.Statement.{statement}
+use Rattle.cform.proofs.answers.one.Tie as tie
+
+plain-requires : tie.Need-plain-requires
+plain-requires c κs = search needs
+
+returns : tie.Need-returns
+returns c = rw (c .plain .ensures)
+
+pub one-spec : {M : Type 1} → statement M
+one-spec = tie.close (tie.spec plain-requires returns)

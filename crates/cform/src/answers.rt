@@ -1,0 +1,197 @@
+// Answers as C has them, from the reader's.
+ghost use mathlib.Core.Path.{_≡_};
+ghost use mathlib.Core.Option.{some};
+ghost use Rattle.record.specs.Answer.{numberFor};
+ghost use Rattle.reader.specs.Said.{refused, ended, reportOf, saidOpened, saidFed, saidFinished, saidStaged, saidWithdrawn};
+ghost use Rattle.cform.specs.Answer.{noBlock, noEnd, blockC, say, answerC, replyC, partC};
+use crate::CAnswer;
+use crate::CBlock;
+use crate::CEnd;
+use crate::CPart;
+use crate::CReply;
+use crate::CState;
+use reader::Block;
+use reader::Fed;
+use reader::Finished;
+use reader::Opened;
+use reader::Staged;
+use reader::Withdrawn;
+use record::Refusal;
+
+pub fn number_of(x: Refusal) -> u32
+    ensures { λ r. ⌜ r ≡ numberFor x ⌝ }
+{
+    match x {
+        Refusal::BadBuffer => 1,
+        Refusal::OutOfTurn => 2,
+        Refusal::RunFull => 3,
+        Refusal::BadTable => 4,
+        Refusal::NoTable => 5,
+        Refusal::NoRow => 6,
+        Refusal::TooShort => 7,
+        Refusal::BadSubBlocks => 8,
+        Refusal::NoSuchField => 9,
+        Refusal::NotOneFrame => 10,
+    }
+}
+
+fn no_block() -> CBlock
+    ensures { λ r. ⌜ r ≡ noBlock ⌝ }
+{
+    CBlock {
+        place: 0,
+        length: 0,
+        number: 0,
+        revision: 0,
+    }
+}
+
+fn no_end() -> CEnd
+    ensures { λ r. ⌜ r ≡ noEnd ⌝ }
+{
+    CEnd {
+        bytes: 0,
+        blocks: 0,
+        skipped: 0,
+    }
+}
+
+fn block_c(b: Block) -> CBlock
+    ensures { λ r. ⌜ r ≡ blockC (reportOf b) ⌝ }
+{
+    CBlock {
+        place: b.place,
+        length: b.length,
+        number: b.number,
+        revision: b.revision,
+    }
+}
+
+// An answer that has no block and no counts.
+fn plain(refusal: u32, kind: u32, version: u16, waited: u16, taken: usize) -> CAnswer
+    ensures { λ r. ⌜ r ≡ say refusal kind version waited taken noBlock noEnd ⌝ }
+{
+    CAnswer {
+        refusal,
+        kind,
+        version,
+        waited,
+        taken,
+        block: no_block(),
+        end: no_end(),
+    }
+}
+
+// A block, with the count taken.
+fn reported(taken: usize, b: Block) -> CAnswer
+    ensures { λ r. ⌜ r ≡ say 0 2 0 0 taken (blockC (reportOf b)) noEnd ⌝ }
+{
+    CAnswer {
+        refusal: 0,
+        kind: 2,
+        version: 0,
+        waited: 0,
+        taken,
+        block: block_c(b),
+        end: no_end(),
+    }
+}
+
+// The end, with its counts.
+fn at_end(bytes: usize, blocks: usize, skipped: usize) -> CAnswer
+    ensures { λ r. ⌜ r ≡ answerC (ended bytes blocks skipped) ⌝ }
+{
+    CAnswer {
+        refusal: 0,
+        kind: 4,
+        version: 0,
+        waited: 0,
+        taken: 0,
+        block: no_block(),
+        end: CEnd {
+            bytes,
+            blocks,
+            skipped,
+        },
+    }
+}
+
+pub fn refused_by(x: Refusal) -> CAnswer
+    ensures { λ r. ⌜ r ≡ answerC (refused (numberFor x)) ⌝ }
+{
+    plain(number_of(x), 0, 0, 0, 0)
+}
+
+// A phase that is none.
+pub fn one(s: CState) -> CReply
+    ensures { λ r. ⌜ r ≡ replyC (refused 1) s ⌝ }
+{
+    CReply {
+        state: s,
+        answer: plain(1, 0, 0, 0, 0),
+    }
+}
+
+// The empty part of a refused call.
+pub fn no_part(n: u32) -> CPart
+    ensures { λ r. ⌜ r ≡ partC (some n) 0 0 ⌝ }
+{
+    CPart {
+        refusal: n,
+        offset: 0,
+        length: 0,
+    }
+}
+
+pub fn opened_c(a: Opened) -> CAnswer
+    ensures { λ r. ⌜ r ≡ answerC (saidOpened a) ⌝ }
+{
+    match a {
+        Opened::Version(v) => plain(0, 1, v, 0, 0),
+        Opened::Refused(x) => refused_by(x),
+    }
+}
+
+pub fn fed_c(a: Fed) -> CAnswer
+    ensures { λ r. ⌜ r ≡ answerC (saidFed a) ⌝ }
+{
+    match a {
+        Fed::Block(n, b) => reported(n, b),
+        Fed::More(n) => plain(0, 3, 0, 0, n),
+        Fed::Refused(x) => refused_by(x),
+    }
+}
+
+pub fn finished_c(a: Finished) -> CAnswer
+    ensures { λ r. ⌜ r ≡ answerC (saidFinished a) ⌝ }
+{
+    match a {
+        Finished::Block(b) => reported(0, b),
+        Finished::End(n, b, s) => at_end(n, b, s),
+        Finished::Refused(x) => refused_by(x),
+    }
+}
+
+pub fn staged_c(a: Staged) -> CAnswer
+    ensures { λ r. ⌜ r ≡ answerC (saidStaged a) ⌝ }
+{
+    match a {
+        Staged::Version(v) => plain(0, 1, v, 0, 0),
+        Staged::Refused(x) => refused_by(x),
+    }
+}
+
+pub fn withdrawn_c(a: Withdrawn) -> CAnswer
+    ensures { λ r. ⌜ r ≡ answerC (saidWithdrawn a) ⌝ }
+{
+    match a {
+        Withdrawn::Waited(w) => {
+            if w {
+                plain(0, 5, 0, 1, 0)
+            } else {
+                plain(0, 5, 0, 0, 0)
+            }
+        }
+        Withdrawn::Refused(x) => refused_by(x),
+    }
+}
