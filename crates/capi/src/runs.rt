@@ -6,6 +6,7 @@ use cform::CReply;
 use cform::CState;
 use cform::Known;
 use cform::answers;
+use cform::replies;
 use cform::states;
 use reader::Check;
 
@@ -15,16 +16,8 @@ pub extern "C" fn alderflute_open(s: CState, in_force: &mut [u8], waiting: &[u8]
 {
     let k = states::state_of(s);
     match k {
-        Known::Unknown => answers::one(s),
-        Known::State(t) => {
-            let o = reader::runs::open(t, in_force, waiting);
-            let a = o.answer;
-            let next = o.state;
-            CReply {
-                state: states::state_c(next),
-                answer: answers::opened_c(a),
-            }
-        }
+        Known::Unknown => replies::one(s),
+        Known::State(t) => replies::opened(reader::runs::open(t, in_force, waiting)),
     }
 }
 
@@ -34,16 +27,8 @@ pub extern "C" fn alderflute_feed(s: CState, hold: &mut [u8], piece: &[u8]) -> C
 {
     let k = states::state_of(s);
     match k {
-        Known::Unknown => answers::one(s),
-        Known::State(t) => {
-            let o = reader::runs::feed(t, hold, piece);
-            let a = o.answer;
-            let next = o.state;
-            CReply {
-                state: states::state_c(next),
-                answer: answers::fed_c(a),
-            }
-        }
+        Known::Unknown => replies::one(s),
+        Known::State(t) => replies::fed(reader::runs::feed(t, hold, piece)),
     }
 }
 
@@ -53,16 +38,8 @@ pub extern "C" fn alderflute_finish(s: CState, hold: &mut [u8]) -> CReply
 {
     let k = states::state_of(s);
     match k {
-        Known::Unknown => answers::one(s),
-        Known::State(t) => {
-            let o = reader::runs::finish(t, hold);
-            let a = o.answer;
-            let next = o.state;
-            CReply {
-                state: states::state_c(next),
-                answer: answers::finished_c(a),
-            }
-        }
+        Known::Unknown => replies::one(s),
+        Known::State(t) => replies::finished(reader::runs::finish(t, hold)),
     }
 }
 

@@ -5,7 +5,7 @@ ghost use Rattle.capi.specs.Calls.{left, stageC, withdrawC};
 use cform::CReply;
 use cform::CState;
 use cform::Known;
-use cform::answers;
+use cform::replies;
 use cform::states;
 
 #[no_mangle]
@@ -14,16 +14,8 @@ pub extern "C" fn alderflute_stage(s: CState, waiting: &mut [u8], table: &[u8]) 
 {
     let k = states::state_of(s);
     match k {
-        Known::Unknown => answers::one(s),
-        Known::State(t) => {
-            let o = reader::tables::stage(t, waiting, table);
-            let a = o.answer;
-            let next = o.state;
-            CReply {
-                state: states::state_c(next),
-                answer: answers::staged_c(a),
-            }
-        }
+        Known::Unknown => replies::one(s),
+        Known::State(t) => replies::staged(reader::tables::stage(t, waiting, table)),
     }
 }
 
@@ -33,15 +25,7 @@ pub extern "C" fn alderflute_withdraw(s: CState) -> CReply
 {
     let k = states::state_of(s);
     match k {
-        Known::Unknown => answers::one(s),
-        Known::State(t) => {
-            let o = reader::tables::withdraw(t);
-            let a = o.answer;
-            let next = o.state;
-            CReply {
-                state: states::state_c(next),
-                answer: answers::withdrawn_c(a),
-            }
-        }
+        Known::Unknown => replies::one(s),
+        Known::State(t) => replies::withdrawn(reader::tables::withdraw(t)),
     }
 }

@@ -3,13 +3,11 @@ ghost use mathlib.Core.Path.{_≡_};
 ghost use mathlib.Core.Option.{some};
 ghost use Rattle.record.specs.Answer.{numberFor};
 ghost use Rattle.reader.specs.Said.{refused, ended, reportOf, saidOpened, saidFed, saidFinished, saidStaged, saidWithdrawn};
-ghost use Rattle.cform.specs.Answer.{noBlock, noEnd, blockC, say, answerC, replyC, partC};
+ghost use Rattle.cform.specs.Answer.{noBlock, noEnd, blockC, say, answerC, partC};
 use crate::CAnswer;
 use crate::CBlock;
 use crate::CEnd;
 use crate::CPart;
-use crate::CReply;
-use crate::CState;
 use reader::Block;
 use reader::Fed;
 use reader::Finished;
@@ -68,7 +66,7 @@ fn block_c(b: Block) -> CBlock
 }
 
 // An answer that has no block and no counts.
-fn plain(refusal: u32, kind: u32, version: u16, waited: u16, taken: usize) -> CAnswer
+pub fn plain(refusal: u32, kind: u32, version: u16, waited: u16, taken: usize) -> CAnswer
     ensures { λ r. ⌜ r ≡ say refusal kind version waited taken noBlock noEnd ⌝ }
 {
     CAnswer {
@@ -120,16 +118,6 @@ pub fn refused_by(x: Refusal) -> CAnswer
     ensures { λ r. ⌜ r ≡ answerC (refused (numberFor x)) ⌝ }
 {
     plain(number_of(x), 0, 0, 0, 0)
-}
-
-// A phase that is none.
-pub fn one(s: CState) -> CReply
-    ensures { λ r. ⌜ r ≡ replyC (refused 1) s ⌝ }
-{
-    CReply {
-        state: s,
-        answer: plain(1, 0, 0, 0, 0),
-    }
 }
 
 // The empty part of a refused call.

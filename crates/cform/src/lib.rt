@@ -5,6 +5,7 @@ use reader::State;
 
 pub mod states; // states.rt: states as C has them
 pub mod answers; // answers.rt: answers as C has them
+pub mod replies; // replies.rt: what a call leaves and answers, as C has it
 pub mod fields; // fields.rt: a field's answer as C has it
 
 // The state: the phase by its number (0 closed, 1 feeding, 2 after the first Finish), and the reader's numbers.

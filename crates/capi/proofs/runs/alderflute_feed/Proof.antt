@@ -25,11 +25,8 @@ enum-known-k c = search needs
 feed-requires : tie.Need-feed-requires
 feed-requires c κs = search needs
 
-state-c-requires : tie.Need-state-c-requires
-state-c-requires c κs = search needs
-
-fed-c-requires : tie.Need-fed-c-requires
-fed-c-requires c κs = search needs
+fed-requires : tie.Need-fed-requires
+fed-requires c κs = search needs
 
 returns : tie.Need-returns
 unfolding feedC
@@ -44,11 +41,11 @@ same-length c = search needs
 returns-2 : tie.Need-returns-2
 unfolding feedC
 returns-2 c =
-    let f = c .before .before .before .before .before in
+    let f = c .before .before .before in
     let m = f .before .before .before in
     let w = m .before .before in
     let a = w .before .before .before .args in
-    goes-on (λ (t : State). feedOf t (a .hold .now) (a .piece .now)) (a .s) (a .hold .now) (sym (w .state-of .ensures) ∙ ap knownSays (m .k .given .1)) (f .feed .ensures) (c .before .state-c .ensures) (c .fed-c .ensures)
+    goes-on (λ (t : State). feedOf t (a .hold .now) (a .piece .now)) (a .s) (a .hold .now) (sym (w .state-of .ensures) ∙ ap knownSays (m .k .given .1)) (f .feed .ensures) (c .fed .ensures)
 
 pub alderflute-feed-spec : {M : Type 1} → statement M
 alderflute-feed-spec =
@@ -59,8 +56,7 @@ alderflute-feed-spec =
     one-requires
     enum-known-k
     feed-requires
-    state-c-requires
-    fed-c-requires
+    fed-requires
     returns
     same-length
     returns-2)

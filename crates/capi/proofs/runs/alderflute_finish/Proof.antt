@@ -25,11 +25,8 @@ enum-known-k c = search needs
 finish-requires : tie.Need-finish-requires
 finish-requires c κs = search needs
 
-state-c-requires : tie.Need-state-c-requires
-state-c-requires c κs = search needs
-
-finished-c-requires : tie.Need-finished-c-requires
-finished-c-requires c κs = search needs
+finished-requires : tie.Need-finished-requires
+finished-requires c κs = search needs
 
 returns : tie.Need-returns
 unfolding finishC
@@ -44,11 +41,11 @@ same-length c = search needs
 returns-2 : tie.Need-returns-2
 unfolding finishC
 returns-2 c =
-    let f = c .before .before .before .before .before in
+    let f = c .before .before .before in
     let m = f .before .before .before in
     let w = m .before .before in
     let a = w .before .before .args in
-    goes-on (λ (t : State). finishOf t (a .hold .now)) (a .s) (a .hold .now) (sym (w .state-of .ensures) ∙ ap knownSays (m .k .given .1)) (f .finish .ensures) (c .before .state-c .ensures) (c .finished-c .ensures)
+    goes-on (λ (t : State). finishOf t (a .hold .now)) (a .s) (a .hold .now) (sym (w .state-of .ensures) ∙ ap knownSays (m .k .given .1)) (f .finish .ensures) (c .finished .ensures)
 
 pub alderflute-finish-spec : {M : Type 1} → statement M
 alderflute-finish-spec =
@@ -59,8 +56,7 @@ alderflute-finish-spec =
     one-requires
     enum-known-k
     finish-requires
-    state-c-requires
-    finished-c-requires
+    finished-requires
     returns
     same-length
     returns-2)

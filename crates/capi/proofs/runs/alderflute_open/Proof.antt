@@ -25,11 +25,8 @@ enum-known-k c = search needs
 open-requires : tie.Need-open-requires
 open-requires c κs = search needs
 
-state-c-requires : tie.Need-state-c-requires
-state-c-requires c κs = search needs
-
-opened-c-requires : tie.Need-opened-c-requires
-opened-c-requires c κs = search needs
+opened-requires : tie.Need-opened-requires
+opened-requires c κs = search needs
 
 returns : tie.Need-returns
 unfolding openC
@@ -44,11 +41,11 @@ same-length c = search needs
 returns-2 : tie.Need-returns-2
 unfolding openC
 returns-2 c =
-    let f = c .before .before .before .before .before in
+    let f = c .before .before .before in
     let m = f .before .before .before in
     let w = m .before .before in
     let a = w .before .before .before .args in
-    goes-on (λ (t : State). openOf t (a .in-force .now) (a .waiting .now)) (a .s) (a .in-force .now) (sym (w .state-of .ensures) ∙ ap knownSays (m .k .given .1)) (f .open .ensures) (c .before .state-c .ensures) (c .opened-c .ensures)
+    goes-on (λ (t : State). openOf t (a .in-force .now) (a .waiting .now)) (a .s) (a .in-force .now) (sym (w .state-of .ensures) ∙ ap knownSays (m .k .given .1)) (f .open .ensures) (c .opened .ensures)
 
 pub alderflute-open-spec : {M : Type 1} → statement M
 alderflute-open-spec =
@@ -59,8 +56,7 @@ alderflute-open-spec =
     one-requires
     enum-known-k
     open-requires
-    state-c-requires
-    opened-c-requires
+    opened-requires
     returns
     same-length
     returns-2)

@@ -25,11 +25,8 @@ enum-known-k c = search needs
 stage-requires : tie.Need-stage-requires
 stage-requires c κs = search needs
 
-state-c-requires : tie.Need-state-c-requires
-state-c-requires c κs = search needs
-
-staged-c-requires : tie.Need-staged-c-requires
-staged-c-requires c κs = search needs
+staged-requires : tie.Need-staged-requires
+staged-requires c κs = search needs
 
 returns : tie.Need-returns
 unfolding stageC
@@ -44,11 +41,11 @@ same-length c = search needs
 returns-2 : tie.Need-returns-2
 unfolding stageC
 returns-2 c =
-    let f = c .before .before .before .before .before in
+    let f = c .before .before .before in
     let m = f .before .before .before in
     let w = m .before .before in
     let a = w .before .before .before .args in
-    goes-on (λ (t : State). stageOf t (a .waiting .now) (a .table .now)) (a .s) (a .waiting .now) (sym (w .state-of .ensures) ∙ ap knownSays (m .k .given .1)) (f .stage .ensures) (c .before .state-c .ensures) (c .staged-c .ensures)
+    goes-on (λ (t : State). stageOf t (a .waiting .now) (a .table .now)) (a .s) (a .waiting .now) (sym (w .state-of .ensures) ∙ ap knownSays (m .k .given .1)) (f .stage .ensures) (c .staged .ensures)
 
 pub alderflute-stage-spec : {M : Type 1} → statement M
 alderflute-stage-spec =
@@ -59,8 +56,7 @@ alderflute-stage-spec =
     one-requires
     enum-known-k
     stage-requires
-    state-c-requires
-    staged-c-requires
+    staged-requires
     returns
     same-length
     returns-2)

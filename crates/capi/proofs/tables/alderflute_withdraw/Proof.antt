@@ -26,11 +26,8 @@ enum-known-k c = search needs
 withdraw-requires : tie.Need-withdraw-requires
 withdraw-requires c κs = search needs
 
-state-c-requires : tie.Need-state-c-requires
-state-c-requires c κs = search needs
-
-withdrawn-c-requires : tie.Need-withdrawn-c-requires
-withdrawn-c-requires c κs = search needs
+withdrawn-requires : tie.Need-withdrawn-requires
+withdrawn-requires c κs = search needs
 
 returns : tie.Need-returns
 unfolding withdrawC
@@ -42,11 +39,11 @@ returns c =
 returns-2 : tie.Need-returns-2
 unfolding withdrawC
 returns-2 c =
-    let f = c .before .before .before in
+    let f = c .before in
     let m = f .before .before in
     let w = m .before .before in
     let a = w .before .args in
-    goes-on (λ (t : State). withdrawOf t) (a .s) ([]) (sym (w .state-of .ensures) ∙ ap knownSays (m .k .given .1)) (f .withdraw .ensures) (c .before .state-c .ensures) (c .withdrawn-c .ensures)
+    goes-on (λ (t : State). withdrawOf t) (a .s) ([]) (sym (w .state-of .ensures) ∙ ap knownSays (m .k .given .1)) (f .withdraw .ensures) (c .withdrawn .ensures)
 
 pub alderflute-withdraw-spec : {M : Type 1} → statement M
 alderflute-withdraw-spec =
@@ -57,7 +54,6 @@ alderflute-withdraw-spec =
     one-requires
     enum-known-k
     withdraw-requires
-    state-c-requires
-    withdrawn-c-requires
+    withdrawn-requires
     returns
     returns-2)

@@ -1,8 +1,8 @@
--- `cform::answers::one` meets its contract.
+-- `cform::replies::one` meets its contract.
 -- Assumes nothing.
 use borrow.Author.Needs.{needs}
-use Rattle.cform.proofs.answers.one.Statement.{statement}
-use Rattle.cform.proofs.answers.one.Tie as tie
+use Rattle.cform.proofs.replies.one.Statement.{statement}
+use Rattle.cform.proofs.replies.one.Tie as tie
 
 plain-requires : tie.Need-plain-requires
 plain-requires c κs = search needs
