@@ -53,17 +53,13 @@ feeds (fed.Refused x) (fed.Refused y) e = let q : numberFor x ≡ numberFor y = 
 
 pub finishes : (a b : Finished) → saidFinished a ≡ saidFinished b → a ≡ b
 finishes (finished.Block a) (finished.Block b) e = let q : reportOf a ≡ reportOf b = cc in ap finished.Block (same-block a b q)
-finishes (finished.Block a) (finished.End n b s) e = let z : _≡_ {A = ℕ} 0 1 = cc in let f : ⊥ = omega arith in absurd f
+finishes (finished.Block a) (finished.End d) e = let z : _≡_ {A = ℕ} 0 1 = cc in let f : ⊥ = omega arith in absurd f
 finishes (finished.Block a) (finished.Refused y) e = let z : _≡_ {A = ℕ} 0 1 = cc in let f : ⊥ = omega arith in absurd f
-finishes (finished.End n k s) (finished.Block b) e = let z : _≡_ {A = ℕ} 0 1 = cc in let f : ⊥ = omega arith in absurd f
-finishes (finished.End n k s) (finished.End m l t) e =
-    let p : n ≡ m = cc in
-    let q : k ≡ l = cc in
-    let r : s ≡ t = cc in
-    ap₂ (λ (i j : ℕ). finished.End i j s) p q ∙ ap (finished.End m l) r
-finishes (finished.End n k s) (finished.Refused y) e = let z : _≡_ {A = ℕ} 0 1 = cc in let f : ⊥ = omega arith in absurd f
+finishes (finished.End c) (finished.Block b) e = let z : _≡_ {A = ℕ} 0 1 = cc in let f : ⊥ = omega arith in absurd f
+finishes (finished.End c) (finished.End d) e = let q : c ≡ d = cc in ap finished.End q
+finishes (finished.End c) (finished.Refused y) e = let z : _≡_ {A = ℕ} 0 1 = cc in let f : ⊥ = omega arith in absurd f
 finishes (finished.Refused x) (finished.Block b) e = let z : _≡_ {A = ℕ} 0 1 = cc in let f : ⊥ = omega arith in absurd f
-finishes (finished.Refused x) (finished.End m l t) e = let z : _≡_ {A = ℕ} 0 1 = cc in let f : ⊥ = omega arith in absurd f
+finishes (finished.Refused x) (finished.End d) e = let z : _≡_ {A = ℕ} 0 1 = cc in let f : ⊥ = omega arith in absurd f
 finishes (finished.Refused x) (finished.Refused y) e = let q : numberFor x ≡ numberFor y = cc in ap finished.Refused (same-refusal x y q)
 
 pub stages : (a b : Staged) → saidStaged a ≡ saidStaged b → a ≡ b

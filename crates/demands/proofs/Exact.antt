@@ -69,12 +69,12 @@ bad-state s =
     (both
     (both
     (both
-    (both (both (within (s .run .held) 65532) (within (s .run .held) (s .run .taken))) (within (s .run .standing) (s .run .held)))
+    (both (both (within (s .run .held) 65532) (within (s .run .held) (s .run .counts .taken))) (within (s .run .standing) (s .run .held)))
     (within (s .«in_force») 8192))
     (within (s .waiting) 8192))
-    (within (s .run .taken) limit))
-    (within (s .run .blocks) (s .run .taken)))
-    (within (s .run .skipped) (s .run .taken))
+    (within (s .run .counts .taken) limit))
+    (within (s .run .counts .blocks) (s .run .counts .taken)))
+    (within (s .run .counts .skipped) (s .run .counts .taken))
 
 closed-tells : (p : Phase) → Tells (isClosed p) (p ≡ Closed → ⊥)
 closed-tells Closed = record { fine = λ e f. f refl; holds = λ e. never refl e }
@@ -152,7 +152,7 @@ feed-exact s hold piece =
     followed 1 (hold-tells s hold)
     (followed 2 (feeding-tells (s .run .phase))
     (followed 3
-    (orelse (full-tells (s .run .taken)) (orelse (empty-tells (length piece)) (gives-tells (settle (restOf hold (s .run .held) (s .run .standing)) .standing))))
+    (orelse (full-tells (s .run .counts .taken)) (orelse (empty-tells (length piece)) (gives-tells (settle (restOf hold (s .run .held) (s .run .standing)) .standing))))
     exactly-none))
 
 finish-exact : (s : State) (hold : List ℕ) → Exactly (finishRefusal s hold) (finishOrder s hold)

@@ -104,7 +104,7 @@ back-said (refused m) e = let q : m ≡ 1 = cc in ap refused q
 back-said (version v) e = nothing-there e
 back-said (took n r) e = nothing-there e
 back-said (found r) e = nothing-there e
-back-said (ended n b s) e = nothing-there e
+back-said (ended c) e = nothing-there e
 back-said (waited b) e = nothing-there e
 
 module _ (w : World) (g : Good w) (l : Long w) where

@@ -45,8 +45,8 @@ fed-clean : (s : State) (hold piece : List ℕ) → Bytes hold → Bytes piece �
 unfolding feedingOf
 fed-clean s hold piece b p =
     let rest = restOf hold (s .run .held) (s .run .standing) in
-    let room = limit - s .run .taken in
-    let f = feedLit (restOf hold (s .run .held) (s .run .standing)) piece (limit - s .run .taken) in
+    let room = limit - s .run .counts .taken in
+    let f = feedLit (restOf hold (s .run .held) (s .run .standing)) piece (limit - s .run .counts .taken) in
     subst⁻¹ Bytes (fed-holds piece room rest)
     (drop-bytes (rest ++ take (f .taken) piece) (f .skipped)
     (append-bytes rest (take (f .taken) piece) (rest-bytes hold (s .run .held) (s .run .standing) b) (take-bytes piece (f .taken) p)))

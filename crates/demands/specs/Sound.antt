@@ -17,9 +17,9 @@ pub record Sound (s : State) (reported : ℕ) : Type 0 where
   pub few : s .run .held ≤ 65532
   pub front : s .run .standing ≤ s .run .held
   pub among : s .run .standing ≤ reported
-  pub count : s .run .blocks ≤ reported
-  pub sum : reported + s .run .skipped + (s .run .held - s .run .standing) ≡ s .run .taken
-  pub most : s .run .taken ≤ limit
+  pub count : s .run .counts .blocks ≤ reported
+  pub sum : reported + s .run .counts .skipped + (s .run .held - s .run .standing) ≡ s .run .counts .taken
+  pub most : s .run .counts .taken ≤ limit
   pub force : s .«in_force» ≤ 8192
   pub wait : s .waiting ≤ 8192
 
@@ -37,7 +37,7 @@ sizeIn (refused n) = 0
 sizeIn (version v) = 0
 sizeIn (took n r) = reportBytes r
 sizeIn (found r) = r .size
-sizeIn (ended n b s) = 0
+sizeIn (ended c) = 0
 sizeIn (waited b) = 0
 
 -- a run that opens has reported none
@@ -46,7 +46,7 @@ sinceOpen (refused n) b = b
 sinceOpen (version v) b = 0
 sinceOpen (took n r) b = b
 sinceOpen (found r) b = b
-sinceOpen (ended n k s) b = b
+sinceOpen (ended c) b = b
 sinceOpen (waited x) b = b
 
 pub record SoundKept : Type 0 where

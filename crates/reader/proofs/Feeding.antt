@@ -1,9 +1,9 @@
--- What feed and finish leave, from numbers to meaning: the run, and the report of the block at the front of the hold.
+-- What feed and finish leave, from numbers to meaning: the block that stands, its report, and bounds of the counts.
 -- Assumes nothing.
 use mathlib.Core.Path.{_≡_, refl, sym, ap, _∙_, subst}
 use mathlib.Core.List.{List, _++_}
 use mathlib.Core.Option.{Option, none, some}
-use Prim.Native.Nat.{ℕ, zero, suc, _+_, _-_, _≤_}
+use Prim.Native.Nat.{ℕ, _+_, _-_, _≤_}
 use native.Mathlib.Omega.{arith}
 use lib.ListN.{length, take, length-drop, List·getD-append}
 use lib.Seq.{getD-take}
@@ -21,10 +21,8 @@ use Rattle.frame.proofs.Calls.{call}
 use Rattle.feed.specs.Hold.{numbersOf}
 use Rattle.feed.specs.declared.Fed.{Fed}
 use Rattle.reader.specs.Said.{Said}
-use Rattle.reader.specs.Calls.{outcome, one, reported, runOn}
-use Rattle.reader.specs.Code.{oneIf, runBy, reportAt}
-use Rattle.reader.specs.declared.Phase.{Phase}
-use Rattle.reader.specs.declared.Run.{Run}
+use Rattle.reader.specs.Calls.{outcome, reported}
+use Rattle.reader.specs.Code.{reportAt}
 use Rattle.reader.specs.declared.State.{State}
 
 -- ---- a standing block is there whole
@@ -63,21 +61,6 @@ none-if (some n) v w e = let f : ⊥ = omega (arith, w .eight) in absurd f
 pub some-if : (o : Option ℕ) (n : ℕ) → size o ≡ n → (n ≡ 0 → ⊥) → o ≡ some n
 some-if none n e f = absurd (f (sym e))
 some-if (some m) n e f = ap some e
-
-one-big : (n : ℕ) → 8 ≤ n → oneIf n ≡ 1
-one-big zero l = let f : ⊥ = omega arith in absurd f
-one-big (suc n) l = refl
-
-one-is : (o : Option ℕ) (v : List ℕ) → WholeIf o v → oneIf (size o) ≡ one o
-one-is none v w = refl
-one-is (some n) v w = one-big n (w .eight)
-
--- the run from the numbers is the run
-pub run-is : (x : Phase) (r : Run) (f : Fed) (F : Feeding) → f ≡ numbersOf F → WholeIf (F .standing) (F .held) → runBy x r f ≡ runOn x r F
-run-is x r f F e w =
-    ap (runBy x r) e
-    ∙ ap (λ (k : ℕ). record { phase = x; held = length (F .held); standing = size (F .standing); taken = r .taken + F .taken; blocks = r .blocks + k; skipped = r .skipped + F .skipped })
-    (one-is (F .standing) (F .held) w)
 
 -- ---- the report
 

@@ -37,25 +37,25 @@ passes false n rest e = let z : _≡_ {A = ℕ} 0 1 = cc in let f : ⊥ = omega 
 
 pub record Facts (s : State) : Type 0 where
   pub held : s .run .held ≤ 65532
-  pub within : s .run .held ≤ s .run .taken
+  pub within : s .run .held ≤ s .run .counts .taken
   pub front : s .run .standing ≤ s .run .held
   pub «in_force» : s .«in_force» ≤ 8192
   pub waiting : s .waiting ≤ 8192
-  pub taken : s .run .taken ≤ limit
-  pub blocks : s .run .blocks ≤ s .run .taken
-  pub skipped : s .run .skipped ≤ s .run .taken
+  pub taken : s .run .counts .taken ≤ limit
+  pub blocks : s .run .counts .blocks ≤ s .run .counts .taken
+  pub skipped : s .run .counts .skipped ≤ s .run .counts .taken
 
 pub facts : (s : State) → sound s ≡ true → Facts s
 unfolding sound
 facts s e =
     let a = leb (s .run .held) 65532 in
-    let b = leb (s .run .held) (s .run .taken) in
+    let b = leb (s .run .held) (s .run .counts .taken) in
     let c = leb (s .run .standing) (s .run .held) in
     let d = leb (s .«in_force») 8192 in
     let f = leb (s .waiting) 8192 in
-    let g = leb (s .run .taken) limit in
-    let h = leb (s .run .blocks) (s .run .taken) in
-    let i = leb (s .run .skipped) (s .run .taken) in
+    let g = leb (s .run .counts .taken) limit in
+    let h = leb (s .run .counts .blocks) (s .run .counts .taken) in
+    let i = leb (s .run .counts .skipped) (s .run .counts .taken) in
     let e7 = both-left (a && b && c && d && f && g && h) i e in
     let e6 = both-left (a && b && c && d && f && g) h e7 in
     let e5 = both-left (a && b && c && d && f) g e6 in
@@ -64,13 +64,13 @@ facts s e =
     let e2 = both-left (a && b) c e3 in
     record {
       held = leb-true (s .run .held) 65532 (both-left a b e2);
-      within = leb-true (s .run .held) (s .run .taken) (both-right a b e2);
+      within = leb-true (s .run .held) (s .run .counts .taken) (both-right a b e2);
       front = leb-true (s .run .standing) (s .run .held) (both-right (a && b) c e3);
       «in_force» = leb-true (s .«in_force») 8192 (both-right (a && b && c) d e4);
       waiting = leb-true (s .waiting) 8192 (both-right (a && b && c && d) f e5);
-      taken = leb-true (s .run .taken) limit (both-right (a && b && c && d && f) g e6);
-      blocks = leb-true (s .run .blocks) (s .run .taken) (both-right (a && b && c && d && f && g) h e7);
-      skipped = leb-true (s .run .skipped) (s .run .taken) (both-right (a && b && c && d && f && g && h) i e);
+      taken = leb-true (s .run .counts .taken) limit (both-right (a && b && c && d && f) g e6);
+      blocks = leb-true (s .run .counts .blocks) (s .run .counts .taken) (both-right (a && b && c && d && f && g) h e7);
+      skipped = leb-true (s .run .counts .skipped) (s .run .counts .taken) (both-right (a && b && c && d && f && g && h) i e);
     }
 
 -- with a hold or a store that is long enough

@@ -1,7 +1,7 @@
 -- What each call but the record calls answers and leaves: the answer, the new state and every byte of the buffer it may write, refusals
 -- included. The contracts of Open, Feed, Finish, Bytes, Stage and Withdraw each cite one of these.
 -- Assumes nothing.
-use Prim.Native.Nat.{ℕ, _+_, _-_}
+use Prim.Native.Nat.{ℕ, zero, suc, _+_, _-_}
 use mathlib.Core.Bool.{cond}
 use mathlib.Core.List.{List, []}
 use mathlib.Core.Option.{Option, none, some}
@@ -10,15 +10,16 @@ use lib.Dec.{ltb}
 use Rattle.frame.specs.Settle.{finishLit}
 use Rattle.frame.specs.Feed.{Feeding, feedLit, stop}
 use Rattle.frame.specs.ReadRun.{blockAt}
-use Rattle.frame.specs.Session.{size}
-use Rattle.feed.specs.Hold.{restOf, holdOf}
+use Rattle.feed.specs.Hold.{restOf, numbersOf, holdOf}
 pub use Rattle.feed.specs.Hold.{over}
+use Rattle.feed.specs.declared.Fed.{Fed}
 use Rattle.table.specs.Decode.{decode}
-use Rattle.reader.specs.State.{limit}
+use Rattle.reader.specs.State.{limit, noCounts}
 use Rattle.reader.specs.Said.{Report, Said, refused, version, took, found, ended, waited}
 use Rattle.reader.specs.Refusals.{nextTable, openRefusal, feedRefusal, finishRefusal, bytesRefusal, stageRefusal, withdrawRefusal}
 use Rattle.reader.specs.declared.Phase.{Phase}
 use Rattle.reader.specs.declared.Phase.the-variants as phase
+use Rattle.reader.specs.declared.Counts.{Counts}
 use Rattle.reader.specs.declared.Run.{Run}
 use Rattle.reader.specs.declared.State.{State}
 
@@ -39,7 +40,7 @@ unless none s lent done = done
 -- ---- Open
 
 abbrev pub openRun : Run
-openRun = record { phase = phase.Feeding; held = 0; standing = 0; taken = 0; blocks = 0; skipped = 0 }
+openRun = record { phase = phase.Feeding; held = 0; standing = 0; counts = noCounts }
 
 -- "if a table waits, its bytes are copied over the start of the in-force store and nothing waits. Counts become zero, the hold counts as
 -- empty. Answers the version in force."
@@ -56,14 +57,9 @@ openOf s force wait = unless (openRefusal s force wait) s force (opening s force
 
 -- ---- Feed and Finish
 
--- 1 for a block, 0 for none
-abbrev pub one : Option ℕ → ℕ
-one none = 0
-one (some n) = 1
-
 -- the place of the first held byte
 abbrev pub front : Run → ℕ
-front r = r .taken - r .held
+front r = r .counts .taken - r .held
 
 -- a block of n bytes at the front of v, at the place p
 abbrev pub reported : ℕ → ℕ → List ℕ → Report
@@ -73,17 +69,22 @@ abbrev pub reportIf : Option ℕ → ℕ → List ℕ → Option Report
 reportIf none p v = none
 reportIf (some n) p v = some (reported p n v)
 
--- the run goes on in a phase by what a call did
+-- 1 for a block of so many bytes, 0 for none
+abbrev pub one : ℕ → ℕ
+one zero = 0
+one (suc n) = 1
+
+-- what a call did is counted
+abbrev pub counted : Counts → Fed → Counts
+counted c f =
+    record { taken = c .taken + f .taken; blocks = c .blocks + one (f .standing); skipped = c .skipped + f .skipped }
+
+-- the run goes on in a phase by the numbers of what a call did
+abbrev pub runBy : Phase → Run → Fed → Run
+runBy x r f = record { phase = x; held = f .held; standing = f .standing; counts = counted (r .counts) f }
+
 abbrev pub runOn : Phase → Run → Feeding → Run
-runOn x r f =
-    record {
-      phase = x;
-      held = length (f .held);
-      standing = size (f .standing);
-      taken = r .taken + f .taken;
-      blocks = r .blocks + one (f .standing);
-      skipped = r .skipped + f .skipped;
-    }
+runOn x r f = runBy x r (numbersOf f)
 
 abbrev pub withRun : State → Run → State
 withRun s r = record { run = r; «in_force» = s .«in_force»; waiting = s .waiting }
@@ -98,7 +99,7 @@ feedingBy f s hold =
     }
 
 unfoldable pub feedingOf : State → List ℕ → List ℕ → Feeding
-feedingOf s hold piece = feedLit (restOf hold (s .run .held) (s .run .standing)) piece (limit - s .run .taken)
+feedingOf s hold piece = feedLit (restOf hold (s .run .held) (s .run .standing)) piece (limit - s .run .counts .taken)
 
 unfoldable pub feedOf : State → List ℕ → List ℕ → Outcome
 feedOf s hold piece = unless (feedRefusal s hold piece) s hold (feedingBy (feedingOf s hold piece) s hold)
@@ -109,7 +110,7 @@ phaseAfter none = phase.Closed
 phaseAfter (some n) = phase.Finishing
 
 abbrev pub finishSaid : Option ℕ → Run → List ℕ → Said
-finishSaid none r v = ended (r .taken) (r .blocks) (r .skipped)
+finishSaid none r v = ended (r .counts)
 finishSaid (some n) r v = found (reported (front r) n v)
 
 abbrev pub finishingBy : Feeding → State → List ℕ → Outcome

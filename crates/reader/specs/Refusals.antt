@@ -60,7 +60,7 @@ unfoldable pub feedRefusal : State → List ℕ → List ℕ → Option ℕ
 feedRefusal s hold piece =
     need (sound s && longHold hold) 1
     (need (isFeeding (s .run .phase)) 2
-    (need (ltb (s .run .taken) limit || (eqb (length piece) 0 || isSome (settle (restOf hold (s .run .held) (s .run .standing)) .standing))) 3 none))
+    (need (ltb (s .run .counts .taken) limit || (eqb (length piece) 0 || isSome (settle (restOf hold (s .run .held) (s .run .standing)) .standing))) 3 none))
 
 -- 2: "Finish without one"
 unfoldable pub finishRefusal : State → List ℕ → Option ℕ

@@ -5,6 +5,7 @@ use mathlib.Core.Bool.{Bool}
 use mathlib.Core.Option.{Option, none, some}
 use Rattle.record.specs.Answer.{numberFor}
 use Rattle.reader.specs.declared.Block.{Block}
+use Rattle.reader.specs.declared.Counts.{Counts}
 use Rattle.reader.specs.declared.Check.{Check}
 use Rattle.reader.specs.declared.Check.the-variants as check
 use Rattle.reader.specs.declared.Opened.{Opened}
@@ -33,7 +34,7 @@ pub data Said : Type 0 where
   took : ℕ → Option Report → Said
   -- Finish: "answers Block, or End (bytes, blocks, skipped bytes)"
   found : Report → Said
-  ended : ℕ → ℕ → ℕ → Said
+  ended : Counts → Said
   -- Withdraw: "answers whether one did"
   waited : Bool → Said
 
@@ -55,7 +56,7 @@ saidFed (fed.Refused r) = refused (numberFor r)
 
 abbrev pub saidFinished : Finished → Said
 saidFinished (finished.Block b) = found (reportOf b)
-saidFinished (finished.End n b s) = ended n b s
+saidFinished (finished.End c) = ended c
 saidFinished (finished.Refused r) = refused (numberFor r)
 
 abbrev pub saidStaged : Staged → Said

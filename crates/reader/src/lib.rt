@@ -1,6 +1,6 @@
 // The reader: its state, and the public calls.
 ghost use mathlib.Core.Path.{_≡_};
-ghost use Rattle.reader.specs.State.{newState};
+ghost use Rattle.reader.specs.State.{noCounts, newState};
 
 mod refusals; // refusals.rt: the refusals of each call, in their order
 pub mod runs; // runs.rt: Open, Feed, Finish, Bytes
@@ -15,15 +15,19 @@ pub enum Phase {
     Finishing,
 }
 
-// What an open run reads by, with the table in force: how many bytes of the hold count, the standing block among them; the
-// counts of the run.
+// What a run counts: the bytes taken, the blocks reported, the bytes skipped.
+pub struct Counts {
+    pub taken: usize,
+    pub blocks: usize,
+    pub skipped: usize,
+}
+
+// What an open run reads by, with the table in force: how many bytes of the hold count, the standing block among them.
 pub struct Run {
     pub phase: Phase,
     pub held: usize,
     pub standing: usize,
-    pub taken: usize,
-    pub blocks: usize,
-    pub skipped: usize,
+    pub counts: Counts,
 }
 
 // A length of 0 means that no table is in force, or that none waits.
@@ -59,10 +63,10 @@ pub enum Fed {
     Refused(Refusal),
 }
 
-// A block, or the run's end: bytes, blocks, skipped bytes.
+// A block, or the run's end with its counts.
 pub enum Finished {
     Block(Block),
-    End(usize, usize, usize),
+    End(Counts),
     Refused(Refusal),
 }
 
@@ -102,6 +106,17 @@ pub struct WithdrawAnswer {
     pub state: State,
 }
 
+// The counts of a run that has taken nothing.
+pub fn no_counts() -> Counts
+    ensures { λ r. ⌜ r ≡ noCounts ⌝ }
+{
+    Counts {
+        taken: 0,
+        blocks: 0,
+        skipped: 0,
+    }
+}
+
 // A new reader.
 pub fn new() -> State
     ensures { λ r. ⌜ r ≡ newState ⌝ }
@@ -111,9 +126,7 @@ pub fn new() -> State
             phase: Phase::Closed,
             held: 0,
             standing: 0,
-            taken: 0,
-            blocks: 0,
-            skipped: 0,
+            counts: no_counts(),
         },
         in_force: 0,
         waiting: 0,

@@ -23,14 +23,15 @@ pub fn is_sound(s: State) -> bool
     ensures { λ r. ⌜ r ≡ sound s ⌝ }
 {
     let r = s.run;
+    let c = r.counts;
     (r.held <= 65532)
-        & (r.held <= r.taken)
+        & (r.held <= c.taken)
         & (r.standing <= r.held)
         & (s.in_force <= 8192)
         & (s.waiting <= 8192)
-        & (r.taken <= 4294967295)
-        & (r.blocks <= r.taken)
-        & (r.skipped <= r.taken)
+        & (c.taken <= 4294967295)
+        & (c.blocks <= c.taken)
+        & (c.skipped <= c.taken)
 }
 
 fn is_closed(p: Phase) -> bool
@@ -125,7 +126,8 @@ pub fn of_feed(s: State, hold: &[u8], piece: &[u8]) -> Check
     if !is_feeding(phase) {
         return Check::Refused(Refusal::OutOfTurn);
     }
-    if run.taken < 4294967295 {
+    let counts = run.counts;
+    if counts.taken < 4294967295 {
         return Check::Passed;
     }
     if piece.len() == 0 {

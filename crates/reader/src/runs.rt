@@ -5,10 +5,11 @@ ghost use Prim.Native.Nat.{_+_, _≤_};
 ghost use lib.ListN.{length};
 ghost use Rattle.reader.specs.Said.{reportOf, refusalOf, saidOpened, saidFed, saidFinished};
 ghost use Rattle.reader.specs.Refusals.{feedRefusal, finishRefusal, bytesRefusal};
-ghost use Rattle.reader.specs.Calls.{outcome, openRun, withRun, openOf, feedingOf, feedingBy, feedOf, finishingOf, finishingBy, finishOf, bytesOf};
-ghost use Rattle.reader.specs.Code.{oneIf, runBy, reportAt};
+ghost use Rattle.reader.specs.Calls.{outcome, openRun, one, counted, runBy, withRun, openOf, feedingOf, feedingBy, feedOf, finishingOf, finishingBy, finishOf, bytesOf};
+ghost use Rattle.reader.specs.Code.{reportAt};
 use crate::Block;
 use crate::Check;
+use crate::Counts;
 use crate::Fed;
 use crate::FeedAnswer;
 use crate::FinishAnswer;
@@ -29,9 +30,7 @@ fn open_state(n: usize) -> State
             phase: Phase::Feeding,
             held: 0,
             standing: 0,
-            taken: 0,
-            blocks: 0,
-            skipped: 0,
+            counts: crate::no_counts(),
         },
         in_force: n,
         waiting: 0,
@@ -67,25 +66,36 @@ pub fn open(s: State, in_force: &mut [u8], waiting: &[u8]) -> OpenAnswer
 
 // 1 where a block stands.
 fn one_if(standing: usize) -> usize
-    ensures { λ r. ⌜ (r ≡ oneIf standing) × (r ≤ 1) ⌝ }
+    ensures { λ r. ⌜ (r ≡ one standing) × (r ≤ 1) ⌝ }
 {
     if standing == 0 { 0 } else { 1 }
 }
 
-// The run after a call that took, skipped and kept what `f` says.
-fn went_on(r: Run, phase: Phase, f: feed::Fed) -> Run
-    requires { ⌜ (r .taken + f .taken ≤ 4294967295) × (r .blocks ≤ 4294967295) × (r .skipped + f .skipped ≤ 18446744073709551615) ⌝ }
-    ensures { λ x. ⌜ x ≡ runBy phase r f ⌝ }
+// The counts after a call that did what `f` says.
+fn counted(c: Counts, f: feed::Fed) -> Counts
+    requires { ⌜ (c .taken + f .taken ≤ 4294967295) × (c .blocks ≤ 4294967295) × (c .skipped + f .skipped ≤ 18446744073709551615) ⌝ }
+    ensures { λ r. ⌜ r ≡ counted c f ⌝ }
 {
     let standing = f.standing;
     let more = one_if(standing);
+    Counts {
+        taken: c.taken + f.taken,
+        blocks: c.blocks + more,
+        skipped: c.skipped + f.skipped,
+    }
+}
+
+// The run after a call that did and kept what `f` says.
+fn went_on(r: Run, phase: Phase, f: feed::Fed) -> Run
+    requires { ⌜ (r .counts .taken + f .taken ≤ 4294967295) × (r .counts .blocks ≤ 4294967295) × (r .counts .skipped + f .skipped ≤ 18446744073709551615) ⌝ }
+    ensures { λ x. ⌜ x ≡ runBy phase r f ⌝ }
+{
+    let before = r.counts;
     Run {
         phase,
         held: f.held,
-        standing,
-        taken: r.taken + f.taken,
-        blocks: r.blocks + more,
-        skipped: r.skipped + f.skipped,
+        standing: f.standing,
+        counts: counted(before, f),
     }
 }
 
@@ -120,19 +130,21 @@ fn feed_on(s: State, hold: &mut [u8], piece: &[u8]) -> FeedAnswer
     let run = s.run;
     let held = run.held;
     let standing = run.standing;
-    let room = 4294967295 - run.taken;
+    let before = run.counts;
+    let room = 4294967295 - before.taken;
     let f = feed::feed(hold, held, standing, piece, room);
     let taken = f.taken;
     let len = f.standing;
     let next = went_on(run, Phase::Feeding, f);
     let state = with_run(s, next);
+    let counts = next.counts;
     if len == 0 {
         return FeedAnswer {
             answer: Fed::More(taken),
             state,
         };
     }
-    let block = block_at(hold, next.taken - next.held, len);
+    let block = block_at(hold, counts.taken - next.held, len);
     FeedAnswer {
         answer: Fed::Block(taken, block),
         state,
@@ -163,13 +175,15 @@ fn finish_on(s: State, hold: &mut [u8]) -> FinishAnswer
     let len = f.standing;
     if len == 0 {
         let last = went_on(run, Phase::Closed, f);
+        let counts = last.counts;
         return FinishAnswer {
-            answer: Finished::End(last.taken, last.blocks, last.skipped),
+            answer: Finished::End(counts),
             state: with_run(s, last),
         };
     }
     let next = went_on(run, Phase::Finishing, f);
-    let block = block_at(hold, next.taken - next.held, len);
+    let counts = next.counts;
+    let block = block_at(hold, counts.taken - next.held, len);
     FinishAnswer {
         answer: Finished::Block(block),
         state: with_run(s, next),

@@ -14,12 +14,12 @@ use Rattle.feed.proofs.Literally.{rest-length}
 use Rattle.reader.specs.State.{limit, sound}
 use Rattle.reader.specs.Said.{Report, took}
 use Rattle.reader.specs.Refusals.{longHold, feedRefusal}
-use Rattle.reader.specs.Calls.{reported, reportIf, front, runOn, withRun, feedingOf}
+use Rattle.reader.specs.Calls.{reported, reportIf, front, runBy, runOn, withRun, feedingOf}
 use Rattle.reader.specs.Code.{reportAt}
 use Rattle.reader.specs.declared.Phase.the-variants as phase
 use Rattle.reader.specs.declared.Run.{Run}
 use Rattle.reader.proofs.Laws.{passes, Facts, with-hold}
-use Rattle.reader.proofs.Feeding.{WholeIf, fed-whole, none-if, some-if, whole-some, run-is, report-is, Few, fed-few, same-outcome}
+use Rattle.reader.proofs.Feeding.{WholeIf, fed-whole, none-if, some-if, whole-some, report-is, Few, fed-few, same-outcome}
 use borrow.Author.Needs.{needs}
 use Rattle.reader.proofs.runs.feed_on.Statement.{statement}
 use Rattle.reader.proofs.runs.feed_on.Tie as tie
@@ -47,7 +47,7 @@ whole : (d : tie.After-feed) → WholeIf (meaning d .standing) (meaning d .held)
 unfolding feedingOf
 whole d = fed-whole _ _ _
 
-good : (d : tie.After-feed) → Good (d .feed .result) (min (limit - entry d .args .s .run .taken) (length (entry d .args .piece .now)))
+good : (d : tie.After-feed) → Good (d .feed .result) (min (limit - entry d .args .s .run .counts .taken) (length (entry d .args .piece .now)))
 good d = d .feed .ensures .1 .1
 
 long-left : (d : tie.After-feed) → length (entry d .args .hold .now) ≤ length (d .feed .last .0)
@@ -61,7 +61,7 @@ state-is w =
     let d = w .before .before .before .before in
     w .with-run .ensures
     ∙ ap (withRun (entry d .args .s))
-    (w .before .went-on .ensures ∙ run-is phase.Feeding (entry d .args .s .run) (d .feed .result) (meaning d) (numbers d) (whole d))
+    (w .before .went-on .ensures ∙ ap (runBy phase.Feeding (entry d .args .s .run)) (numbers d))
 
 fewer : (d : tie.After-feed) → Few (entry d .args .s .run .held - entry d .args .s .run .standing) (d .feed .result)
 unfolding feedingOf
@@ -69,7 +69,7 @@ fewer d =
     let a = entry d .args in
     let f = room (entry d) in
     rw (sym (rest-length (a .hold .now) (a .s .run .held) (a .s .run .standing) (f .0 .front) (omega (arith, f .0 .held, f .1))))
-    (fed-few (restOf (a .hold .now) (a .s .run .held) (a .s .run .standing)) (a .piece .now) (limit - a .s .run .taken) (d .feed .result) (numbers d))
+    (fed-few (restOf (a .hold .now) (a .s .run .held) (a .s .run .standing)) (a .piece .now) (limit - a .s .run .counts .taken) (d .feed .result) (numbers d))
 
 sub-room : tie.Need-sub-room
 sub-room c = omega (arith, room (c .before .before .before .before) .0 .taken)
@@ -109,7 +109,7 @@ sub-block-at c =
     let f = room (entry d) in
     let k = fewer d in
     let n = w .before .went-on .ensures in
-    let a = ap (λ (r : Run). r .taken) n in
+    let a = ap (λ (r : Run). r .counts .taken) n in
     let b = ap (λ (r : Run). r .held) n in
     omega (arith, k .held, f .0 .within, f .0 .front, a, b)
 
@@ -130,7 +130,7 @@ returns-2 c =
     let es : meaning d .standing ≡ some (d .feed .result .standing) =
     some-if (meaning d .standing) (d .feed .result .standing) (sym (ap (λ (x : Fed). x .standing) (numbers d))) (c .before .before .before .if1 .left) in
     let nr : w .before .went-on .result ≡ runOn phase.Feeding (entry d .args .s .run) (meaning d) =
-    w .before .went-on .ensures ∙ run-is phase.Feeding (entry d .args .s .run) (d .feed .result) (meaning d) (numbers d) (whole d) in
+    w .before .went-on .ensures ∙ ap (runBy phase.Feeding (entry d .args .s .run)) (numbers d) in
     same-outcome
     (ap₂ (λ (t : ℕ) (o : Option Report). took t o) (ap (λ (x : Fed). x .taken) (numbers d))
     (ap some

@@ -14,13 +14,13 @@ use Rattle.feed.proofs.Literally.{rest-length}
 use Rattle.reader.specs.State.{sound}
 use Rattle.reader.specs.Said.{ended, found}
 use Rattle.reader.specs.Refusals.{longHold, finishRefusal}
-use Rattle.reader.specs.Calls.{reported, front, finishSaid, phaseAfter, runOn, withRun, finishingOf}
-use Rattle.reader.specs.Code.{runBy, reportAt}
+use Rattle.reader.specs.Calls.{reported, front, finishSaid, phaseAfter, runBy, runOn, withRun, finishingOf}
+use Rattle.reader.specs.Code.{reportAt}
 use Rattle.reader.specs.declared.Phase.{Phase}
 use Rattle.reader.specs.declared.Phase.the-variants as phase
 use Rattle.reader.specs.declared.Run.{Run}
 use Rattle.reader.proofs.Laws.{passes, Facts, with-hold}
-use Rattle.reader.proofs.Feeding.{WholeIf, end-whole, none-if, some-if, whole-some, run-is, report-is, Few, end-few, same-outcome}
+use Rattle.reader.proofs.Feeding.{WholeIf, end-whole, none-if, some-if, whole-some, report-is, Few, end-few, same-outcome}
 use borrow.Author.Needs.{needs}
 use Rattle.reader.proofs.runs.finish_on.Statement.{statement}
 use Rattle.reader.proofs.runs.finish_on.Tie as tie
@@ -62,15 +62,15 @@ fewer d =
 
 -- the sums fit
 fits : (d : tie.After-finish)
-    → (entry d .args .s .run .taken + d .finish .result .taken ≤ 4294967295) × (entry d .args .s .run .blocks ≤ 4294967295)
-    × (entry d .args .s .run .skipped + d .finish .result .skipped ≤ 18446744073709551615)
+    → (entry d .args .s .run .counts .taken + d .finish .result .taken ≤ 4294967295) × (entry d .args .s .run .counts .blocks ≤ 4294967295)
+    × (entry d .args .s .run .counts .skipped + d .finish .result .skipped ≤ 18446744073709551615)
 fits d =
     let f = room (entry d) in
     let g = d .finish .ensures .1 .1 .taken in
     (omega (arith, g, f .0 .taken), omega (arith, f .0 .blocks, f .0 .taken), omega (arith, fewer d .skipped, f .0 .skipped, f .0 .taken, f .0 .held, g))
 
 run-of : (d : tie.After-finish) (x : Phase) → runBy x (entry d .args .s .run) (d .finish .result) ≡ runOn x (entry d .args .s .run) (meaning d)
-run-of d x = run-is x (entry d .args .s .run) (d .finish .result) (meaning d) (numbers d) (whole d)
+run-of d x = ap (runBy x (entry d .args .s .run)) (numbers d)
 
 finish-requires : tie.Need-finish-requires
 finish-requires c κs =
@@ -93,7 +93,7 @@ returns c =
     let e : meaning d .standing ≡ none = none-if (meaning d .standing) (meaning d .held) (whole d) (sym (ap (λ (x : Fed). x .standing) (numbers d)) ∙ c .before .before .if1 .taken) in
     let nr : c .before .went-on .result ≡ runOn phase.Closed (entry d .args .s .run) (meaning d) = c .before .went-on .ensures ∙ run-of d phase.Closed in
     same-outcome
-    (ap (λ (x : Run). ended (x .taken) (x .blocks) (x .skipped)) nr
+    (ap (λ (x : Run). ended (x .counts)) nr
     ∙ sym (ap (λ (o : Option ℕ). finishSaid o (runOn (phaseAfter o) (entry d .args .s .run) (meaning d)) (meaning d .held)) e))
     (c .with-run .ensures ∙ ap (withRun (entry d .args .s)) (nr ∙ sym (ap (λ (o : Option ℕ). runOn (phaseAfter o) (entry d .args .s .run) (meaning d)) e)))
     (left d)
@@ -106,7 +106,7 @@ sub-block-at c =
     let d = c .before .before .before .before .before .before in
     let f = room (entry d) in
     let n = c .before .before .went-on2 .ensures in
-    let a = ap (λ (r : Run). r .taken) n in
+    let a = ap (λ (r : Run). r .counts .taken) n in
     let b = ap (λ (r : Run). r .held) n in
     omega (arith, fewer d .held, f .0 .within, f .0 .front, a, b)
 
