@@ -5,20 +5,22 @@ use native.Mathlib.Omega.{arith}
 use mathlib.Core.Path.{_≡_, refl, ap, ap₂, _∙_}
 use Rattle.record.specs.Answer.{numberFor}
 use Rattle.record.proofs.Calls.{same-refusal}
-use Rattle.reader.specs.Said.{Report, reportOf, refusalOf, saidOpened, saidFed, saidFinished, saidStaged, saidWithdrawn}
-use Rattle.reader.specs.declared.Block.{Block}
+use Rattle.reader.specs.Said.{Report, refusalOf}
+use Rattle.runs.specs.Said.{reportOf, saidFed, saidFinished}
+use Rattle.tables.specs.Said.{saidOpened, saidStaged, saidWithdrawn}
+use Rattle.runs.specs.declared.Block.{Block}
 use Rattle.reader.specs.declared.Check.{Check}
 use Rattle.reader.specs.declared.Check.the-variants as check
-use Rattle.reader.specs.declared.Opened.{Opened}
-use Rattle.reader.specs.declared.Opened.the-variants as opened
-use Rattle.reader.specs.declared.Fed.{Fed}
-use Rattle.reader.specs.declared.Fed.the-variants as fed
-use Rattle.reader.specs.declared.Finished.{Finished}
-use Rattle.reader.specs.declared.Finished.the-variants as finished
-use Rattle.reader.specs.declared.Staged.{Staged}
-use Rattle.reader.specs.declared.Staged.the-variants as staged
-use Rattle.reader.specs.declared.Withdrawn.{Withdrawn}
-use Rattle.reader.specs.declared.Withdrawn.the-variants as withdrawn
+use Rattle.tables.specs.declared.Opened.{Opened}
+use Rattle.tables.specs.declared.Opened.the-variants as opened
+use Rattle.runs.specs.declared.Fed.{Fed}
+use Rattle.runs.specs.declared.Fed.the-variants as fed
+use Rattle.runs.specs.declared.Finished.{Finished}
+use Rattle.runs.specs.declared.Finished.the-variants as finished
+use Rattle.tables.specs.declared.Staged.{Staged}
+use Rattle.tables.specs.declared.Staged.the-variants as staged
+use Rattle.tables.specs.declared.Withdrawn.{Withdrawn}
+use Rattle.tables.specs.declared.Withdrawn.the-variants as withdrawn
 
 same-block : (a b : Block) → reportOf a ≡ reportOf b → a ≡ b
 same-block a b e =

@@ -16,12 +16,13 @@ use Rattle.frame.specs.Session.{size, placesFrom, blocksOf, answer}
 use Rattle.frame.proofs.Calls as calls
 use Rattle.frame.proofs.Runs.{skipMany, both-both, read-frame, Ends, finished, finish-rest, finish-front, feed-read, fed-stands, answered}
 use Rattle.reader.specs.State.{limit, sound}
-use Rattle.reader.specs.Refusals.{longHold, isFeeding, feedRefusal}
-use Rattle.reader.specs.Calls.{one, runOn, feedingOf, finishingOf, phaseAfter}
+use Rattle.reader.specs.Refusals.{longHold}
+use Rattle.runs.specs.Refusals.{isFeeding, feedRefusal}
+use Rattle.runs.specs.Calls.{one, runOn, feedingOf, finishingOf, phaseAfter}
 use Rattle.reader.specs.declared.Phase.{Phase}
 use Rattle.reader.specs.declared.Phase.the-variants as phase
 use Rattle.reader.proofs.Laws.{passes}
-use Rattle.reader.proofs.Feeding.{WholeIf, fed-whole, end-whole}
+use Rattle.runs.proofs.Feeding.{WholeIf, fed-whole, end-whole}
 use Rattle.demands.specs.World.{World, Call, feed, finish, Answer}
 use Rattle.demands.specs.Sequence.{tookOf, reportIn, inHold, taken, blocks}
 use Rattle.demands.specs.Demand2.{MayFollow}

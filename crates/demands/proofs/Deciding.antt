@@ -14,8 +14,8 @@ use Rattle.frame.proofs.Calls.{more-decides-all}
 use Rattle.table.specs.Decode.{decode}
 use Rattle.reader.specs.State.{limit}
 use Rattle.reader.specs.Said.{took}
-use Rattle.reader.specs.Refusals.{nextTable}
-use Rattle.reader.specs.Calls.{feedingOf, front}
+use Rattle.tables.specs.Calls.{nextTable}
+use Rattle.runs.specs.Calls.{feedingOf, front}
 use Rattle.reader.specs.declared.Phase.the-variants as phase
 use Rattle.demands.specs.World.{World, Call, feed, Answer, said, looked, step, end}
 use Rattle.demands.specs.Sequence.{opened, tookOf, taken}

@@ -17,10 +17,11 @@ use Rattle.frame.proofs.Runs.{finish-rest}
 use Rattle.frame.proofs.Tests.{lt?}
 use Rattle.reader.specs.State.{limit, sound}
 use Rattle.reader.specs.Said.{Said, took}
-use Rattle.reader.specs.Refusals.{longHold, feedRefusal, finishRefusal}
-use Rattle.reader.specs.Calls.{reportIf, feedingOf, finishingOf, finishSaid, phaseAfter, front}
+use Rattle.reader.specs.Refusals.{longHold}
+use Rattle.runs.specs.Refusals.{feedRefusal, finishRefusal}
+use Rattle.runs.specs.Calls.{reportIf, feedingOf, finishingOf, finishSaid, phaseAfter, front}
 use Rattle.reader.proofs.Laws.{passes, with-hold}
-use Rattle.reader.proofs.Feeding.{Whole, WholeIf, end-whole}
+use Rattle.runs.proofs.Feeding.{Whole, WholeIf, end-whole}
 use Rattle.demands.specs.World.{World, feed, finish, Answer, said, step, end}
 use Rattle.demands.specs.Sequence.{endSaid, isEnd, opened}
 use Rattle.demands.specs.Progress.{MoreTakesAll, finishes, foundSaid, isFound, AllFound, Reaches, FinishEnds, Progress}

@@ -15,8 +15,10 @@ use Rattle.feed.specs.Hold.{restOf}
 use Rattle.frame.proofs.Tests.{both-left, both-right, never}
 use Rattle.table.specs.Rules.{tableOk}
 use Rattle.reader.specs.State.{limit, sound}
-use Rattle.reader.specs.Refusals.{need, isClosed, isFeeding, isSome, longHold, longStore, nextTable, tableRefusal, openRefusal, feedRefusal, finishRefusal, bytesRefusal, stageRefusal, withdrawRefusal}
-use Rattle.reader.specs.Records.{tableInForce, askRefusal}
+use Rattle.reader.specs.Refusals.{need, isClosed, longHold, longStore, tableRefusal}
+use Rattle.runs.specs.Refusals.{isFeeding, isSome, feedRefusal, finishRefusal, bytesRefusal}
+use Rattle.tables.specs.Calls.{nextTable, openRefusal, stageRefusal, withdrawRefusal}
+use Rattle.records.specs.Calls.{tableInForce, askRefusal}
 use Rattle.reader.specs.declared.Phase.{Phase}
 use Rattle.reader.specs.declared.Phase.the-variants.{Closed, Feeding, Finishing}
 use Rattle.reader.specs.declared.State.{State}

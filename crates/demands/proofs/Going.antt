@@ -14,11 +14,11 @@ use Rattle.frame.specs.Session.{size, blocksOf}
 use Rattle.feed.specs.Hold.{restOf, holdOf}
 use Rattle.feed.proofs.Literally.{goes-on, rest-length}
 use Rattle.reader.specs.State.{sound}
-use Rattle.reader.specs.Refusals.{bytesRefusal}
-use Rattle.reader.specs.Calls.{reported, reportIf, front, runOn, withRun, finishSaid, bytesOf}
+use Rattle.runs.specs.Refusals.{bytesRefusal}
+use Rattle.runs.specs.Calls.{reported, reportIf, front, runOn, withRun, finishSaid, bytesOf}
 use Rattle.reader.specs.declared.Phase.{Phase}
 use Rattle.reader.specs.declared.Run.{Run}
-use Rattle.reader.proofs.Feeding.{WholeIf}
+use Rattle.runs.proofs.Feeding.{WholeIf}
 use Rattle.demands.specs.World.{World, bytes, look, step}
 use Rattle.demands.specs.Sequence.{blockOf, inHold, partOf, shown, reportSaid}
 use Rattle.demands.proofs.Reached.{Good, good-sound}

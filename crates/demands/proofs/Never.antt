@@ -13,7 +13,7 @@ use lib.Dec.{ltb}
 use Rattle.reader.specs.State.{sound}
 use Rattle.reader.specs.Said.{Said, refused, version, took, found, ended, waited}
 use Rattle.feed.specs.Hold.{over}
-use Rattle.reader.specs.Calls.{feedingOf, finishingOf}
+use Rattle.runs.specs.Calls.{feedingOf, finishingOf}
 use Rattle.demands.specs.World.{World, TableCall, stage, withdraw, Look, bytes, body, sub, subBytes, tow, wnc, Call, openRun, feed, finish, table, look, Answer, looked, step, end}
 use Rattle.demands.specs.Sequence.{New, Fed, AllFed}
 use Rattle.demands.specs.Demand1.{refusalSaid, refusalIn, Long}

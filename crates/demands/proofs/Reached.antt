@@ -13,7 +13,7 @@ use Rattle.frame.proofs.Calls.{fed-holds}
 use Rattle.frame.proofs.Runs.{finish-rest}
 use Rattle.feed.specs.Hold.{restOf, holdOf}
 use Rattle.reader.specs.State.{limit, sound}
-use Rattle.reader.specs.Calls.{feedingOf, finishingOf}
+use Rattle.runs.specs.Calls.{feedingOf, finishingOf}
 use Rattle.reader.specs.declared.State.{State}
 use Rattle.demands.specs.Sound.{Sound, Bytes}
 use Rattle.demands.specs.World.{World, TableCall, stage, withdraw, Call, openRun, feed, finish, table, look, Answer, step, end}

@@ -13,8 +13,10 @@ use Rattle.frame.specs.Session.{size}
 use Rattle.frame.proofs.Runs.{read-end, Ends, finished}
 use Rattle.reader.specs.State.{sound}
 use Rattle.reader.specs.Said.{Report, ended, refused}
-use Rattle.reader.specs.Refusals.{longHold, feedRefusal, finishRefusal}
-use Rattle.reader.specs.Calls.{front, runOn, feedingOf, finishingOf, finishSaid, phaseAfter, opening}
+use Rattle.reader.specs.Refusals.{longHold}
+use Rattle.runs.specs.Refusals.{feedRefusal, finishRefusal}
+use Rattle.runs.specs.Calls.{front, runOn, feedingOf, finishingOf, finishSaid, phaseAfter}
+use Rattle.tables.specs.Calls.{opening}
 use Rattle.reader.specs.declared.Phase.the-variants as phase
 use Rattle.reader.specs.declared.Phase.{Phase}
 use Rattle.reader.proofs.Laws.{passes, with-hold}

@@ -25,17 +25,19 @@ use Rattle.feed.specs.Hold.{restOf}
 use Rattle.feed.proofs.Literally.{rest-length}
 use Rattle.table.proofs.Passed as table
 use Rattle.reader.specs.State.{limit, sound}
-use Rattle.reader.specs.Refusals.{openRefusal, feedRefusal, finishRefusal, stageRefusal, withdrawRefusal}
+use Rattle.tables.specs.Calls.{openRefusal, stageRefusal, withdrawRefusal, opening, openOf, staging, stageOf, withdrawing, withdrawOf}
+use Rattle.runs.specs.Refusals.{feedRefusal, finishRefusal}
 use Rattle.reader.specs.Refusals as refusals
 use Rattle.reader.specs.Said.{took}
-use Rattle.reader.specs.Calls.{Outcome, unless, one, reportIf, front, finishSaid, phaseAfter, runOn, withRun, opening, openOf, feedingBy, feedingOf, feedOf, finishingBy, finishingOf, finishOf, staging, stageOf, withdrawing, withdrawOf}
+use Rattle.reader.specs.Outcome.{Outcome, unless}
+use Rattle.runs.specs.Calls.{one, reportIf, front, finishSaid, phaseAfter, runOn, withRun, feedingBy, feedingOf, feedOf, finishingBy, finishingOf, finishOf}
 use Rattle.reader.specs.declared.Phase.{Phase}
 use Rattle.reader.specs.declared.Phase.the-variants as phase
 use Rattle.reader.specs.declared.Run.{Run}
 use Rattle.reader.specs.declared.State.{State}
 use Rattle.reader.proofs.Laws.{passes, with-hold}
-use Rattle.reader.proofs.Accepted.{stage-passed}
-use Rattle.reader.proofs.Feeding.{WholeIf, fed-whole, end-whole}
+use Rattle.tables.proofs.Accepted.{stage-passed}
+use Rattle.runs.proofs.Feeding.{WholeIf, fed-whole, end-whole}
 use Rattle.demands.specs.Sound.{Sound, Bytes, sizeIn, sinceOpen, SoundKept}
 
 -- a refused call keeps the state, and reports nothing; else what is done has to

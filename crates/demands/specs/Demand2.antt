@@ -11,7 +11,7 @@ use Rattle.frame.specs.ReadRun.{readRun}
 use Rattle.frame.specs.declared.Verdict.the-variants.{Undecided}
 use Rattle.table.specs.Decode.{decode}
 use Rattle.reader.specs.Said.{took}
-use Rattle.reader.specs.Records.{tableInForce}
+use Rattle.records.specs.Calls.{tableInForce}
 use Rattle.reader.specs.declared.Phase.{Phase}
 use Rattle.reader.specs.declared.Phase.the-variants.{Closed, Feeding, Finishing}
 use Rattle.demands.specs.World.{World, Look, Call, feed, look, said, step, end}

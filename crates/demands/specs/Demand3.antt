@@ -11,7 +11,7 @@ use Rattle.table.specs.Rows.{Table}
 use Rattle.record.specs.Calls.{bodyField, subField, subBlock, subBlockRefusal, towRow, wncRow, stamp}
 use Rattle.reader.specs.declared.Counts.{Counts}
 use Rattle.reader.specs.Said.{ended}
-use Rattle.reader.specs.Refusals.{nextTable}
+use Rattle.tables.specs.Calls.{nextTable}
 use Rattle.demands.specs.World.{World, Look, bytes, body, sub, subBytes, tow, wnc, Call, openRun, feed, finish, table, look, Answer, said, part, value, step, end, trace}
 use Rattle.demands.specs.Sequence.{Within, Closes, opened, tookOf, taken, blocks, shownBlocks}
 

@@ -12,8 +12,9 @@ use lib.ListN.{length}
 use Rattle.frame.specs.Settle.{settle}
 use Rattle.feed.specs.Hold.{restOf}
 use Rattle.table.specs.Rules.{tableOk}
-use Rattle.reader.specs.Refusals.{nextTable, openRefusal, feedRefusal, finishRefusal, bytesRefusal, stageRefusal, withdrawRefusal}
-use Rattle.reader.specs.Records.{tableInForce, askRefusal}
+use Rattle.tables.specs.Calls.{nextTable, openRefusal, stageRefusal, withdrawRefusal}
+use Rattle.runs.specs.Refusals.{feedRefusal, finishRefusal, bytesRefusal}
+use Rattle.records.specs.Calls.{tableInForce, askRefusal}
 use Rattle.reader.specs.declared.Phase.the-variants.{Closed, Feeding}
 use Rattle.reader.specs.declared.State.{State}
 

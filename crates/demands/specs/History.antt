@@ -10,7 +10,7 @@ use lib.ListN.{length, take}
 use Rattle.table.specs.Decode.{decode}
 use Rattle.table.specs.Rules.{tableOk}
 use Rattle.reader.specs.Said.{Report, Said, refused, version, took, found, ended, waited}
-use Rattle.reader.specs.Refusals.{nextTable}
+use Rattle.tables.specs.Calls.{nextTable}
 use Rattle.reader.specs.declared.Phase.{Phase}
 use Rattle.reader.specs.declared.Phase.the-variants.{Closed, Feeding, Finishing}
 use Rattle.demands.specs.World.{World, TableCall, stage, withdraw, Look, bytes, Call, openRun, feed, finish, table, look, Answer, said, part, value, step, end}

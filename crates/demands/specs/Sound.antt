@@ -8,7 +8,8 @@ use mathlib.Core.Option.{Option, none, some}
 use lib.ListN.{getD}
 use Rattle.reader.specs.State.{limit, newState, sound}
 use Rattle.reader.specs.Said.{Report, Said, refused, version, took, found, ended, waited}
-use Rattle.reader.specs.Calls.{openOf, feedOf, finishOf, stageOf, withdrawOf}
+use Rattle.tables.specs.Calls.{openOf, stageOf, withdrawOf}
+use Rattle.runs.specs.Calls.{feedOf, finishOf}
 use Rattle.reader.specs.declared.State.{State}
 
 -- `reported` is the number of bytes in the blocks reported since Open, the standing one among them: these, the skipped ones and those held
