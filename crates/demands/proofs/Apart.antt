@@ -3,8 +3,8 @@
 use Prim.Native.Nat.{ℕ}
 use native.Mathlib.Omega.{arith}
 use mathlib.Core.Path.{_≡_, refl, ap, ap₂, _∙_}
-use Rattle.record.specs.Answer.{numberFor}
-use Rattle.record.proofs.Calls.{same-refusal}
+use Rattle.refusal.specs.Numbers.{numberFor}
+use Rattle.refusal.proofs.Numbers.{same-refusal}
 use Rattle.reader.specs.Said.{Report, refusalOf}
 use Rattle.runs.specs.Said.{reportOf, saidFed, saidFinished}
 use Rattle.tables.specs.Said.{saidOpened, saidStaged, saidWithdrawn}

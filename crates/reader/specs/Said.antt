@@ -4,7 +4,7 @@
 use Prim.Native.Nat.{ℕ}
 use mathlib.Core.Bool.{Bool}
 use mathlib.Core.Option.{Option, none, some}
-use Rattle.record.specs.Answer.{numberFor}
+use Rattle.refusal.specs.Numbers.{numberFor}
 use Rattle.reader.specs.declared.Counts.{Counts}
 use Rattle.reader.specs.declared.Check.{Check}
 use Rattle.reader.specs.declared.Check.the-variants as check

@@ -4,7 +4,7 @@ ghost use mathlib.Core.Option.{none};
 ghost use Rattle.reader.specs.State.{noCounts, newState, sound};
 ghost use Rattle.reader.specs.Said.{refusalOf};
 ghost use Rattle.reader.specs.Refusals.{isClosed, need};
-use record::Refusal;
+use refusal::Refusal;
 
 pub enum Phase {
     Closed,

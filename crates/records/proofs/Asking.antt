@@ -9,10 +9,11 @@ use native.Mathlib.Omega.{arith}
 use lib.ListN.{length}
 use lib.Dec.{ltb}
 use Rattle.table.specs.Rules.{tableOk}
-use Rattle.record.specs.Answer.{Said, numberFor, Answers}
+use Rattle.refusal.specs.Numbers.{numberFor}
+use Rattle.record.specs.Answer.{Said, Answers}
 use Rattle.record.specs.declared.Answer.{Answer}
 use Rattle.record.specs.declared.Answer.the-variants as answer
-use Rattle.record.specs.declared.Refusal.{Refusal}
+use Rattle.refusal.specs.declared.Refusal.{Refusal}
 use Rattle.record.proofs.Calls.{refuses}
 use Rattle.record.proofs.Fields.{same}
 use Rattle.reader.specs.State.{sound}

@@ -7,7 +7,7 @@ use reader::Check;
 use reader::State;
 use record::Answer;
 use record::Handed;
-use record::Refusal;
+use refusal::Refusal;
 use table::Checked;
 
 // 1, 5, 4: the table in force is checked at every call, for a caller may have spoiled the store.

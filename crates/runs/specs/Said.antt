@@ -1,7 +1,7 @@
 -- How the answers of Feed and Finish are read.
 -- Assumes nothing.
 use mathlib.Core.Option.{none, some}
-use Rattle.record.specs.Answer.{numberFor}
+use Rattle.refusal.specs.Numbers.{numberFor}
 use Rattle.reader.specs.Said.{Report, Said, refused, took, found, ended}
 use Rattle.runs.specs.declared.Block.{Block}
 use Rattle.runs.specs.declared.Fed.{Fed}

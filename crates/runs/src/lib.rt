@@ -14,7 +14,7 @@ use reader::Check;
 use reader::Counts;
 use reader::Phase;
 use reader::State;
-use record::Refusal;
+use refusal::Refusal;
 
 // What is reported of a block.
 pub struct Block {

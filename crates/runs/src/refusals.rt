@@ -10,7 +10,7 @@ use frame::Found;
 use reader::Check;
 use reader::Phase;
 use reader::State;
-use record::Refusal;
+use refusal::Refusal;
 
 fn is_feeding(p: Phase) -> bool
     ensures { λ r. ⌜ r ≡ isFeeding p ⌝ }

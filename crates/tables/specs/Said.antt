@@ -1,6 +1,6 @@
 -- How the answers of Open, Stage and Withdraw are read.
 -- Assumes nothing.
-use Rattle.record.specs.Answer.{numberFor}
+use Rattle.refusal.specs.Numbers.{numberFor}
 use Rattle.reader.specs.Said.{Said, refused, version, waited}
 use Rattle.tables.specs.declared.Opened.{Opened}
 use Rattle.tables.specs.declared.Opened.the-variants as opened

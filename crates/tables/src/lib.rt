@@ -9,7 +9,7 @@ mod opening; // opening.rt: what Open answers, and the run that it opens
 
 use reader::Check;
 use reader::State;
-use record::Refusal;
+use refusal::Refusal;
 use table::Checked;
 
 pub enum Opened {

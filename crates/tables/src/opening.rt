@@ -7,7 +7,7 @@ use crate::Opened;
 use reader::Phase;
 use reader::Run;
 use reader::State;
-use record::Refusal;
+use refusal::Refusal;
 use table::Checked;
 
 // 1, 2, 5, 4, or the version of the table to be opened.

@@ -4,7 +4,7 @@ use mathlib.Core.Path.{sym, ap, _∙_}
 use mathlib.Core.Bool.{Bool}
 use mathlib.Core.Option.{none}
 use Rattle.record.specs.Calls.{wncRow, stamp}
-use Rattle.record.specs.declared.Refusal.the-variants.{BadBuffer}
+use Rattle.refusal.specs.declared.Refusal.the-variants.{BadBuffer}
 use Rattle.reader.specs.State.{sound}
 use Rattle.reader.specs.Refusals.{need}
 use Rattle.records.specs.Calls.{stampOf}

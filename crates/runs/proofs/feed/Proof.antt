@@ -1,7 +1,7 @@
 -- `runs::feed` meets its contract: refused, or done.
 -- Assumes nothing.
 use mathlib.Core.Path.{sym, ap, _∙_}
-use Rattle.record.specs.Answer.{numberFor}
+use Rattle.refusal.specs.Numbers.{numberFor}
 use Rattle.reader.specs.Said.{refusalOf}
 use Rattle.runs.specs.Refusals.{feedRefusal}
 use Rattle.runs.specs.Calls.{feedingBy, feedingOf, feedOf}

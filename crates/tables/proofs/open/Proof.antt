@@ -7,7 +7,7 @@ use Prim.Native.Nat.{ℕ}
 use native.Mathlib.Omega.{arith}
 use lib.ListN.{take}
 use borrow.Author.Tests.{lt-ltb, le-ltb}
-use Rattle.record.specs.Answer.{numberFor}
+use Rattle.refusal.specs.Numbers.{numberFor}
 use Rattle.tables.specs.Said.{saidOpened}
 use Rattle.tables.specs.Calls.{openRefusal, openRun, opening, openOf}
 use Rattle.reader.specs.Outcome.{Outcome}

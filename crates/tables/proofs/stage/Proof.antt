@@ -7,7 +7,7 @@ use Prim.Native.Nat.{ℕ, _≤_}
 use native.Mathlib.Omega.{arith}
 use lib.ListN.{length}
 use lib.Seq.{take-length}
-use Rattle.record.specs.Answer.{numberFor}
+use Rattle.refusal.specs.Numbers.{numberFor}
 use Rattle.table.proofs.Passed as table
 use Rattle.tables.specs.Said.{saidStaged}
 use Rattle.tables.specs.Calls.{stageRefusal, staging, stageOf}

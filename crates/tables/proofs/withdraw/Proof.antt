@@ -2,7 +2,7 @@
 -- Assumes nothing.
 use mathlib.Core.Path.{sym, ap, _∙_}
 use mathlib.Core.List.{[]}
-use Rattle.record.specs.Answer.{numberFor}
+use Rattle.refusal.specs.Numbers.{numberFor}
 use Rattle.reader.specs.Said.{refusalOf}
 use Rattle.tables.specs.Calls.{withdrawRefusal, withdrawing, withdrawOf}
 use Rattle.reader.proofs.Accepted.{is-refused, is-done}
