@@ -5,7 +5,7 @@ use mathlib.Core.List.{List}
 use mathlib.Core.Option.{none, some}
 use Prim.Native.Nat.{ℕ}
 use Rattle.reader.specs.Said.{Said, refused}
-use Rattle.reader.specs.Calls.{Outcome, outcome}
+use Rattle.reader.specs.Outcome.{Outcome, outcome}
 use Rattle.reader.specs.declared.State.{State}
 use Rattle.cform.specs.State.{stateOf, stateC}
 use Rattle.cform.specs.Answer.{replyC}

@@ -20,9 +20,10 @@ use Rattle.frame.specs.Frame.{wholeFrame}
 use Rattle.record.specs.Block.{countIn, subLengthIn, revisionIn, numberIn, endsBy, hasSubs, subCount, bodyFits, subsFit, Seen, refusedBy, row, seenRow, seen, seenSubRow, seenSub}
 use Rattle.record.specs.Calls.{subBytes, numberBy, partBy, subBlock, subBlockRefusal}
 use Rattle.reader.specs.declared.State.{State}
-use Rattle.reader.specs.Refusals.{bytesRefusal}
-use Rattle.reader.specs.Calls.{partUnless, bytesOf}
-use Rattle.reader.specs.Records.{tableInForce, askRefusal, firstOf, subBytesOf, subBytesRefusal}
+use Rattle.runs.specs.Refusals.{bytesRefusal}
+use Rattle.reader.specs.Outcome.{partUnless}
+use Rattle.runs.specs.Calls.{bytesOf}
+use Rattle.records.specs.Calls.{tableInForce, askRefusal, firstOf, subBytesOf, subBytesRefusal}
 use Rattle.reader.proofs.Laws.{passes, with-hold}
 use Rattle.cform.specs.State.{stateOf}
 use Rattle.cform.specs.Answer.{partC}

@@ -8,9 +8,11 @@ use Rattle.record.specs.Answer as field
 use Rattle.record.specs.Block.{subLengthIn}
 use Rattle.reader.specs.declared.State.{State}
 use Rattle.reader.specs.Said.{Said, refused}
-use Rattle.reader.specs.Refusals.{bytesRefusal}
-use Rattle.reader.specs.Calls.{Outcome, openOf, feedOf, finishOf, bytesOf, stageOf, withdrawOf}
-use Rattle.reader.specs.Records.{bodyOf, subOf, subBytesOf, subBytesRefusal, towOf, wncOf}
+use Rattle.runs.specs.Refusals.{bytesRefusal}
+use Rattle.reader.specs.Outcome.{Outcome}
+use Rattle.tables.specs.Calls.{openOf, stageOf, withdrawOf}
+use Rattle.runs.specs.Calls.{feedOf, finishOf, bytesOf}
+use Rattle.records.specs.Calls.{bodyOf, subOf, subBytesOf, subBytesRefusal, towOf, wncOf}
 use Rattle.cform.specs.declared.CState.{CState}
 use Rattle.cform.specs.declared.CReply.{CReply}
 use Rattle.cform.specs.declared.CField.{CField}

@@ -3,11 +3,10 @@ ghost use mathlib.Core.Path.{_≡_};
 ghost use Rattle.reader.specs.State.{newState};
 ghost use Rattle.cform.specs.State.{stateC};
 use cform::CState;
-use cform::states;
 
-pub mod runs; // runs.rt: Open, Feed, Finish, Bytes
-pub mod tables; // tables.rt: Stage, Withdraw
-pub mod records; // records.rt: a body field, a sub-block's field and bytes, TOW, WNc
+pub mod replies; // replies.rt: Open, Feed, Finish, Stage, Withdraw
+pub mod fields; // fields.rt: a body field, a sub-block's field, TOW, WNc
+pub mod parts; // parts.rt: Bytes, and the bytes of a sub-block
 
 // A new reader.
 #[no_mangle]
@@ -15,5 +14,5 @@ pub extern "C" fn alderflute_new() -> CState
     ensures { λ r. ⌜ r ≡ stateC newState ⌝ }
 {
     let s = reader::new();
-    states::state_c(s)
+    cform::states::state_c(s)
 }

@@ -9,17 +9,18 @@ use Rattle.record.specs.Answer as field
 use Rattle.reader.specs.declared.Phase.{Phase}
 use Rattle.reader.specs.declared.Phase.the-variants.{Closed, Feeding, Finishing}
 use Rattle.reader.specs.declared.State.{State}
-use Rattle.reader.specs.declared.Opened.{Opened}
-use Rattle.reader.specs.declared.Opened.the-variants as opened
-use Rattle.reader.specs.declared.Fed.{Fed}
-use Rattle.reader.specs.declared.Fed.the-variants as fed
-use Rattle.reader.specs.declared.Finished.{Finished}
-use Rattle.reader.specs.declared.Finished.the-variants as finished
-use Rattle.reader.specs.declared.Staged.{Staged}
-use Rattle.reader.specs.declared.Staged.the-variants as staged
-use Rattle.reader.specs.declared.Withdrawn.{Withdrawn}
-use Rattle.reader.specs.declared.Withdrawn.the-variants as withdrawn
-use Rattle.reader.specs.Said.{saidOpened, saidFed, saidFinished, saidStaged, saidWithdrawn}
+use Rattle.tables.specs.declared.Opened.{Opened}
+use Rattle.tables.specs.declared.Opened.the-variants as opened
+use Rattle.runs.specs.declared.Fed.{Fed}
+use Rattle.runs.specs.declared.Fed.the-variants as fed
+use Rattle.runs.specs.declared.Finished.{Finished}
+use Rattle.runs.specs.declared.Finished.the-variants as finished
+use Rattle.tables.specs.declared.Staged.{Staged}
+use Rattle.tables.specs.declared.Staged.the-variants as staged
+use Rattle.tables.specs.declared.Withdrawn.{Withdrawn}
+use Rattle.tables.specs.declared.Withdrawn.the-variants as withdrawn
+use Rattle.tables.specs.Said.{saidOpened, saidStaged, saidWithdrawn}
+use Rattle.runs.specs.Said.{saidFed, saidFinished}
 use Rattle.cform.specs.State.{phaseNumber, phaseOf, inPhaseIfAny, stateOf, stateC}
 use Rattle.cform.specs.Answer.{answerC, fieldC}
 use Rattle.cform.specs.Theorems.{answerBack, fieldBack, NothingLost}
@@ -59,7 +60,7 @@ fed-back (fed.Refused x) = refl
 
 finished-back : (a : Finished) → answerBack true (answerC (saidFinished a)) ≡ saidFinished a
 finished-back (finished.Block b) = refl
-finished-back (finished.End n b s) = refl
+finished-back (finished.End c) = refl
 finished-back (finished.Refused x) = refl
 
 staged-back : (a : Staged) → answerBack false (answerC (saidStaged a)) ≡ saidStaged a

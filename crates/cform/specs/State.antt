@@ -6,7 +6,9 @@ use mathlib.Core.Option.{Option, none, some}
 use lib.Dec.{eqb}
 use Rattle.reader.specs.declared.Phase.{Phase}
 use Rattle.reader.specs.declared.Phase.the-variants.{Closed, Feeding, Finishing}
+use Rattle.reader.specs.declared.Counts.{Counts}
 use Rattle.reader.specs.declared.State.{State}
+use Rattle.cform.specs.declared.CCounts.{CCounts}
 use Rattle.cform.specs.declared.CState.{CState}
 use Rattle.cform.specs.declared.Known.{Known}
 use Rattle.cform.specs.declared.Known.the-variants as known
@@ -21,10 +23,17 @@ phaseNumber Finishing = 2
 unfoldable pub phaseOf : ℕ → Option Phase
 phaseOf n = cond (eqb n 0) (some Closed) (cond (eqb n 1) (some Feeding) (cond (eqb n 2) (some Finishing) none))
 
+-- the counts of a run, there and back
+abbrev pub countsC : Counts → CCounts
+countsC c = record { taken = c .taken; blocks = c .blocks; skipped = c .skipped }
+
+abbrev pub countsOf : CCounts → Counts
+countsOf c = record { taken = c .taken; blocks = c .blocks; skipped = c .skipped }
+
 abbrev pub inPhase : CState → Phase → State
 inPhase s p =
     record {
-      run = record { phase = p; held = s .held; standing = s .standing; taken = s .taken; blocks = s .blocks; skipped = s .skipped };
+      run = record { phase = p; held = s .held; standing = s .standing; counts = countsOf (s .counts) };
       «in_force» = s .«in_force»;
       waiting = s .waiting;
     }
@@ -44,9 +53,7 @@ stateC t =
       phase = phaseNumber (t .run .phase);
       held = t .run .held;
       standing = t .run .standing;
-      taken = t .run .taken;
-      blocks = t .run .blocks;
-      skipped = t .run .skipped;
+      counts = countsC (t .run .counts);
       «in_force» = t .«in_force»;
       waiting = t .waiting;
     }

@@ -7,13 +7,15 @@ use mathlib.Core.Option.{none, some}
 use lib.Dec.{eqb}
 use Rattle.record.specs.Answer as field
 use Rattle.reader.specs.declared.State.{State}
-use Rattle.reader.specs.declared.Opened.{Opened}
-use Rattle.reader.specs.declared.Fed.{Fed}
-use Rattle.reader.specs.declared.Finished.{Finished}
-use Rattle.reader.specs.declared.Staged.{Staged}
-use Rattle.reader.specs.declared.Withdrawn.{Withdrawn}
-use Rattle.reader.specs.Said.{Report, Said, refused, version, took, found, ended, waited, saidOpened, saidFed, saidFinished, saidStaged, saidWithdrawn}
-use Rattle.cform.specs.State.{stateOf, stateC}
+use Rattle.tables.specs.declared.Opened.{Opened}
+use Rattle.runs.specs.declared.Fed.{Fed}
+use Rattle.runs.specs.declared.Finished.{Finished}
+use Rattle.tables.specs.declared.Staged.{Staged}
+use Rattle.tables.specs.declared.Withdrawn.{Withdrawn}
+use Rattle.reader.specs.Said.{Report, Said, refused, version, took, found, ended, waited}
+use Rattle.tables.specs.Said.{saidOpened, saidStaged, saidWithdrawn}
+use Rattle.runs.specs.Said.{saidFed, saidFinished}
+use Rattle.cform.specs.State.{countsOf, stateOf, stateC}
 use Rattle.cform.specs.Answer.{answerC, fieldC}
 use Rattle.cform.specs.declared.CState.{CState}
 use Rattle.cform.specs.declared.CBlock.{CBlock}
@@ -30,7 +32,7 @@ answerBack finish a =
     (cond (eqb (a .kind) 1) (version (a .version))
     (cond (eqb (a .kind) 2) (cond finish (found (reportBack (a .block))) (took (a .taken) (some (reportBack (a .block)))))
     (cond (eqb (a .kind) 3) (took (a .taken) none)
-    (cond (eqb (a .kind) 4) (ended (a .end .bytes) (a .end .blocks) (a .end .skipped)) (waited (eqb (a .waited) 1))))))
+    (cond (eqb (a .kind) 4) (ended (countsOf (a .end))) (waited (eqb (a .waited) 1))))))
 
 -- a field's answer by its kind
 abbrev pub fieldBack : CField → field.Said

@@ -1,37 +1,22 @@
 // Answers as C has them, from the reader's.
 ghost use mathlib.Core.Path.{_≡_};
-ghost use mathlib.Core.Option.{some};
-ghost use Rattle.record.specs.Answer.{numberFor};
-ghost use Rattle.reader.specs.Said.{refused, ended, reportOf, saidOpened, saidFed, saidFinished, saidStaged, saidWithdrawn};
-ghost use Rattle.cform.specs.Answer.{noBlock, noEnd, blockC, say, answerC, partC};
+ghost use Rattle.refusal.specs.Numbers.{numberFor};
+ghost use Rattle.reader.specs.Said.{refused, ended};
+ghost use Rattle.tables.specs.Said.{saidOpened, saidStaged, saidWithdrawn};
+ghost use Rattle.runs.specs.Said.{reportOf, saidFed, saidFinished};
+ghost use Rattle.cform.specs.Answer.{noBlock, noEnd, blockC, say, answerC};
 use crate::CAnswer;
 use crate::CBlock;
-use crate::CEnd;
-use crate::CPart;
-use reader::Block;
-use reader::Fed;
-use reader::Finished;
-use reader::Opened;
-use reader::Staged;
-use reader::Withdrawn;
-use record::Refusal;
-
-pub fn number_of(x: Refusal) -> u32
-    ensures { λ r. ⌜ r ≡ numberFor x ⌝ }
-{
-    match x {
-        Refusal::BadBuffer => 1,
-        Refusal::OutOfTurn => 2,
-        Refusal::RunFull => 3,
-        Refusal::BadTable => 4,
-        Refusal::NoTable => 5,
-        Refusal::NoRow => 6,
-        Refusal::TooShort => 7,
-        Refusal::BadSubBlocks => 8,
-        Refusal::NoSuchField => 9,
-        Refusal::NotOneFrame => 10,
-    }
-}
+use crate::CCounts;
+use crate::states;
+use reader::Counts;
+use refusal::Refusal;
+use runs::Block;
+use runs::Fed;
+use runs::Finished;
+use tables::Opened;
+use tables::Staged;
+use tables::Withdrawn;
 
 fn no_block() -> CBlock
     ensures { λ r. ⌜ r ≡ noBlock ⌝ }
@@ -44,14 +29,10 @@ fn no_block() -> CBlock
     }
 }
 
-fn no_end() -> CEnd
+fn no_end() -> CCounts
     ensures { λ r. ⌜ r ≡ noEnd ⌝ }
 {
-    CEnd {
-        bytes: 0,
-        blocks: 0,
-        skipped: 0,
-    }
+    states::counts_c(reader::no_counts())
 }
 
 fn block_c(b: Block) -> CBlock
@@ -96,8 +77,8 @@ fn reported(taken: usize, b: Block) -> CAnswer
 }
 
 // The end, with its counts.
-fn at_end(bytes: usize, blocks: usize, skipped: usize) -> CAnswer
-    ensures { λ r. ⌜ r ≡ answerC (ended bytes blocks skipped) ⌝ }
+fn at_end(c: Counts) -> CAnswer
+    ensures { λ r. ⌜ r ≡ answerC (ended c) ⌝ }
 {
     CAnswer {
         refusal: 0,
@@ -106,29 +87,14 @@ fn at_end(bytes: usize, blocks: usize, skipped: usize) -> CAnswer
         waited: 0,
         taken: 0,
         block: no_block(),
-        end: CEnd {
-            bytes,
-            blocks,
-            skipped,
-        },
+        end: states::counts_c(c),
     }
 }
 
 pub fn refused_by(x: Refusal) -> CAnswer
     ensures { λ r. ⌜ r ≡ answerC (refused (numberFor x)) ⌝ }
 {
-    plain(number_of(x), 0, 0, 0, 0)
-}
-
-// The empty part of a refused call.
-pub fn no_part(n: u32) -> CPart
-    ensures { λ r. ⌜ r ≡ partC (some n) 0 0 ⌝ }
-{
-    CPart {
-        refusal: n,
-        offset: 0,
-        length: 0,
-    }
+    plain(refusal::number(x), 0, 0, 0, 0)
 }
 
 pub fn opened_c(a: Opened) -> CAnswer
@@ -155,7 +121,7 @@ pub fn finished_c(a: Finished) -> CAnswer
 {
     match a {
         Finished::Block(b) => reported(0, b),
-        Finished::End(n, b, s) => at_end(n, b, s),
+        Finished::End(c) => at_end(c),
         Finished::Refused(x) => refused_by(x),
     }
 }

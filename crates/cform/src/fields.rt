@@ -6,7 +6,6 @@ ghost use lib.Ieee.{binary32, binary64, isNan, toBits};
 ghost use Rattle.record.specs.Answer.{refused, valueSays, answerSays};
 ghost use Rattle.cform.specs.Answer.{tell, fieldC, NoNan, NoNanIn};
 use crate::CField;
-use crate::answers;
 use record::Answer;
 use record::Value;
 
@@ -72,6 +71,6 @@ pub fn field_c(a: Answer) -> CField
 {
     match a {
         Answer::Field(v) => value_c(v),
-        Answer::Refused(x) => refused_c(answers::number_of(x)),
+        Answer::Refused(x) => refused_c(refusal::number(x)),
     }
 }

@@ -4,9 +4,18 @@ ghost use Rattle.cform.specs.Theorems.{NothingLost};
 use reader::State;
 
 pub mod states; // states.rt: states as C has them
-pub mod answers; // answers.rt: answers as C has them
+mod answers; // answers.rt: answers as C has them
 pub mod replies; // replies.rt: what a call leaves and answers, as C has it
 pub mod fields; // fields.rt: a field's answer as C has it
+pub mod parts; // parts.rt: parts of buffers as C has them
+
+// The counts of a run: in C the members of its state from `taken` to `skipped`, and at the end an alderflute_end.
+#[repr(C)]
+pub struct CCounts {
+    pub taken: usize,
+    pub blocks: usize,
+    pub skipped: usize,
+}
 
 // The state: the phase by its number (0 closed, 1 feeding, 2 after the first Finish), and the reader's numbers.
 #[repr(C)]
@@ -14,9 +23,7 @@ pub struct CState {
     pub phase: usize,
     pub held: usize,
     pub standing: usize,
-    pub taken: usize,
-    pub blocks: usize,
-    pub skipped: usize,
+    pub counts: CCounts,
     pub in_force: usize,
     pub waiting: usize,
 }
@@ -30,14 +37,6 @@ pub struct CBlock {
     pub revision: u16,
 }
 
-// The counts of a run at its end.
-#[repr(C)]
-pub struct CEnd {
-    pub bytes: usize,
-    pub blocks: usize,
-    pub skipped: usize,
-}
-
 // What a call that goes on with the state answers: the refusal's number or 0, a kind, and the values of that kind; the
 // others are 0.
 #[repr(C)]
@@ -48,7 +47,7 @@ pub struct CAnswer {
     pub waited: u16,
     pub taken: usize,
     pub block: CBlock,
-    pub end: CEnd,
+    pub end: CCounts,
 }
 
 #[repr(C)]

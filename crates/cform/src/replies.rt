@@ -1,17 +1,19 @@
 // What a call that goes on with the state leaves and answers, as C has it.
 ghost use mathlib.Core.Path.{_≡_};
-ghost use Rattle.reader.specs.Said.{refused, saidOpened, saidFed, saidFinished, saidStaged, saidWithdrawn};
+ghost use Rattle.reader.specs.Said.{refused};
+ghost use Rattle.tables.specs.Said.{saidOpened, saidStaged, saidWithdrawn};
+ghost use Rattle.runs.specs.Said.{saidFed, saidFinished};
 ghost use Rattle.cform.specs.State.{stateC};
 ghost use Rattle.cform.specs.Answer.{replyC};
 use crate::CReply;
 use crate::CState;
 use crate::answers;
 use crate::states;
-use reader::FeedAnswer;
-use reader::FinishAnswer;
-use reader::OpenAnswer;
-use reader::StageAnswer;
-use reader::WithdrawAnswer;
+use runs::FeedAnswer;
+use runs::FinishAnswer;
+use tables::OpenAnswer;
+use tables::StageAnswer;
+use tables::WithdrawAnswer;
 
 // A phase that is none.
 pub fn one(s: CState) -> CReply

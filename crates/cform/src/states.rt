@@ -1,23 +1,44 @@
 // States as C has them, from the reader's and back.
 ghost use mathlib.Core.Path.{_≡_};
-ghost use Rattle.cform.specs.State.{phaseNumber, inPhase, stateOf, stateC, knownSays};
+ghost use Rattle.cform.specs.State.{phaseNumber, countsOf, countsC, inPhase, stateOf, stateC, knownSays};
+use crate::CCounts;
 use crate::CState;
 use crate::Known;
+use reader::Counts;
 use reader::Phase;
 use reader::Run;
 use reader::State;
 
+fn counts_of(c: CCounts) -> Counts
+    ensures { λ r. ⌜ r ≡ countsOf c ⌝ }
+{
+    Counts {
+        taken: c.taken,
+        blocks: c.blocks,
+        skipped: c.skipped,
+    }
+}
+
+pub fn counts_c(c: Counts) -> CCounts
+    ensures { λ r. ⌜ r ≡ countsC c ⌝ }
+{
+    CCounts {
+        taken: c.taken,
+        blocks: c.blocks,
+        skipped: c.skipped,
+    }
+}
+
 fn in_phase(s: CState, phase: Phase) -> State
     ensures { λ r. ⌜ r ≡ inPhase s phase ⌝ }
 {
+    let c = s.counts;
     State {
         run: Run {
             phase,
             held: s.held,
             standing: s.standing,
-            taken: s.taken,
-            blocks: s.blocks,
-            skipped: s.skipped,
+            counts: counts_of(c),
         },
         in_force: s.in_force,
         waiting: s.waiting,
@@ -55,13 +76,12 @@ pub fn state_c(s: State) -> CState
 {
     let run = s.run;
     let phase = run.phase;
+    let counts = run.counts;
     CState {
         phase: phase_number(phase),
         held: run.held,
         standing: run.standing,
-        taken: run.taken,
-        blocks: run.blocks,
-        skipped: run.skipped,
+        counts: counts_c(counts),
         in_force: s.in_force,
         waiting: s.waiting,
     }

@@ -18,9 +18,10 @@ use Rattle.record.specs.Bits.{withSign, readAs, isDoNotUse, valueOf, fieldValue
 use Rattle.record.specs.Block.{bodyFits, subsFit, seenRow, seen, seenSubRow, seenSub}
 use Rattle.record.specs.Calls.{fieldSaid, bodyField, subBytes, subField, subBlock, subBlockRefusal, stamp}
 use Rattle.reader.specs.State.{sound}
-use Rattle.reader.specs.Refusals.{openRefusal, feedRefusal, finishRefusal, bytesRefusal, stageRefusal, withdrawRefusal}
-use Rattle.reader.specs.Calls.{openOf, feedingOf, feedOf, finishingOf, finishOf, bytesOf, stageOf, withdrawOf}
-use Rattle.reader.specs.Records.{askRefusal, bodyOf, subOf, subBytesOf, subBytesRefusal, stampOf}
+use Rattle.tables.specs.Calls.{openRefusal, stageRefusal, withdrawRefusal, openOf, stageOf, withdrawOf}
+use Rattle.runs.specs.Refusals.{feedRefusal, finishRefusal, bytesRefusal}
+use Rattle.runs.specs.Calls.{feedingOf, feedOf, finishingOf, finishOf, bytesOf}
+use Rattle.records.specs.Calls.{askRefusal, bodyOf, subOf, subBytesOf, subBytesRefusal, stampOf}
 use Rattle.demands.specs.World.{step, trace}
 use Rattle.demands.specs.Transcript.{newWorld, replayed}
 use Rattle.demands.specs.Samples.{SamplesHold}

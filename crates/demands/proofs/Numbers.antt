@@ -18,7 +18,7 @@ use Rattle.record.specs.Bits.{readAs, isDoNotUse, valueOf, fieldValue}
 use Rattle.record.specs.Block.{revisionIn, subCount, bodyFits, subsFit, Seen, refusedBy, row, seenRow, seen, seenSubRow}
 use Rattle.record.specs.Calls.{fieldSaid, fieldOr9, bodyBy, subBytes, subBy, numberBy, stamp}
 use Rattle.reader.specs.Refusals.{need}
-use Rattle.reader.specs.Records.{saidUnless, firstOf}
+use Rattle.records.specs.Calls.{saidUnless, firstOf}
 use Rattle.demands.specs.Exactly.{Order, Exactly}
 use Rattle.demands.specs.Demand1.{refusalValue}
 use Rattle.demands.specs.Asked.{Says, number}

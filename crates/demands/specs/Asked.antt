@@ -17,9 +17,10 @@ use Rattle.table.specs.Rows.{BlockRow, Table, ends}
 use Rattle.table.specs.Decode.{decode}
 use Rattle.record.specs.Answer as record-answer
 use Rattle.reader.specs.Said.{refused}
-use Rattle.reader.specs.Refusals.{bytesRefusal}
-use Rattle.reader.specs.Calls.{openOf, feedOf, finishOf, bytesOf, stageOf, withdrawOf}
-use Rattle.reader.specs.Records.{tableInForce, bodyOf, subOf, subBytesOf, subBytesRefusal, towOf, wncOf}
+use Rattle.runs.specs.Refusals.{bytesRefusal}
+use Rattle.tables.specs.Calls.{openOf, stageOf, withdrawOf}
+use Rattle.runs.specs.Calls.{feedOf, finishOf, bytesOf}
+use Rattle.records.specs.Calls.{tableInForce, bodyOf, subOf, subBytesOf, subBytesRefusal, towOf, wncOf}
 use Rattle.reader.specs.declared.State.{State}
 use Rattle.demands.specs.Exactly.{Order, nothing, first, Given, Exactly, BadState, ShortStore, Breaks, openOrder, feedOrder, finishOrder, stageOrder, withdrawOrder}
 

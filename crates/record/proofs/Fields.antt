@@ -7,11 +7,11 @@ use Prim.Native.Nat.{ℕ, _<_, _≤_}
 use lib.ListN.{length}
 use borrow.Author.Tests.{leb-true, le-leb, lt-leb}
 use Rattle.frame.specs.Frame.{wholeFrame}
+use Rattle.refusal.specs.declared.Refusal.the-variants.{TooShort, NotOneFrame}
 use Rattle.table.specs.declared.FieldRow.{FieldRow}
 use Rattle.table.specs.Rows.{ends}
 use Rattle.record.specs.declared.Value.{Value}
 use Rattle.record.specs.declared.Value.the-variants.{DoNotUse, NotInRevision}
-use Rattle.record.specs.declared.Refusal.the-variants.{TooShort, NotOneFrame}
 use Rattle.record.specs.declared.Answer.{Answer}
 use Rattle.record.specs.declared.Answer.the-variants.{Field, Refused}
 use Rattle.record.specs.Answer.{Said, Answers, Means}

@@ -7,14 +7,15 @@ use native.Mathlib.Omega.{arith}
 use lib.Dec.{T}
 use lib.Ieee.{Format, binary32, binary64, nanBits, isNan, ofBits}
 use lib.Ieee.Bits.{nanBits-is, toBits-ofBits}
+use Rattle.refusal.specs.Numbers.{numberFor}
+use Rattle.refusal.proofs.Numbers.{same-refusal}
 use Rattle.table.specs.Rows.{Table}
 use Rattle.record.specs.declared.Answer.{Answer}
 use Rattle.record.specs.declared.Handed.{Handed}
 use Rattle.record.specs.declared.Handed.the-variants.{Refused, Given}
-use Rattle.record.specs.Answer.{Said, single, double, numberFor, answerSays, caseFor, Answers, handedSays}
+use Rattle.record.specs.Answer.{Said, single, double, answerSays, caseFor, Answers, handedSays}
 use Rattle.record.specs.Calls.{bodyField, subField, subBlock, subBlockRefusal}
 use Rattle.record.specs.Theorems.{OneAnswer, AllByMeaning, FloatsKept}
-use Rattle.record.proofs.Calls.{same-refusal}
 use Rattle.record.proofs.Fields.{same}
 
 one : (r s : Answer) (said : Said) → Answers r said → Answers s said → r ≡ s

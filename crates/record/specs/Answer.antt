@@ -1,17 +1,14 @@
 -- What is said of a field, in the words of document 01 ('A field's answer'), and what the code's enums mean by them.
 -- Assumes nothing.
-use Prim.Native.Nat.{ℕ, _-_}
+use Prim.Native.Nat.{ℕ}
 use mathlib.Core.Path.{_≡_}
-use mathlib.Core.List.{List, [], _∷_}
 use mathlib.Core.Bool.{cond}
 use mathlib.Core.Option.{Option, none, some}
-use lib.ListN.{getD}
 use lib.IntN.{ℤ}
 use lib.Ieee.{binary32, binary64, nanBits, ofBits, toBits}
 use Rattle.record.specs.declared.Value.{Value}
 use Rattle.record.specs.declared.Value.the-variants.{Unsigned, Signed, Single, Double, SingleNan, DoubleNan, DoNotUse, NotInRevision}
-use Rattle.record.specs.declared.Refusal.{Refusal}
-use Rattle.record.specs.declared.Refusal.the-variants.{BadBuffer, OutOfTurn, RunFull, BadTable, NoTable, NoRow, TooShort, BadSubBlocks, NoSuchField, NotOneFrame}
+use Rattle.refusal.specs.Numbers.{numberFor, refusalNumbered}
 use Rattle.record.specs.declared.Answer.{Answer}
 use Rattle.record.specs.declared.Answer.the-variants as answer
 use Rattle.record.specs.declared.Handed.{Handed}
@@ -28,19 +25,6 @@ pub data Said : Type 0 where
   notInRevision : Said
   refused : ℕ → Said
 
--- the number that document 01's table gives each refusal
-abbrev pub numberFor : Refusal → ℕ
-numberFor BadBuffer = 1
-numberFor OutOfTurn = 2
-numberFor RunFull = 3
-numberFor BadTable = 4
-numberFor NoTable = 5
-numberFor NoRow = 6
-numberFor TooShort = 7
-numberFor BadSubBlocks = 8
-numberFor NoSuchField = 9
-numberFor NotOneFrame = 10
-
 -- what each case of the code's value says
 abbrev pub valueSays : Value → Said
 valueSays (Unsigned n) = unsigned n
@@ -56,14 +40,6 @@ valueSays NotInRevision = notInRevision
 abbrev pub answerSays : Answer → Said
 answerSays (answer.Field v) = valueSays v
 answerSays (answer.Refused r) = refused (numberFor r)
-
--- the refusals in the order of their numbers, and the one of a number
-abbrev pub refusals : List Refusal
-refusals =
-    BadBuffer ∷ OutOfTurn ∷ RunFull ∷ BadTable ∷ NoTable ∷ NoRow ∷ TooShort ∷ BadSubBlocks ∷ NoSuchField ∷ NotOneFrame ∷ []
-
-abbrev pub refusalNumbered : ℕ → Refusal
-refusalNumbered n = getD refusals (n - 1) BadBuffer
 
 -- the case for each: the NaN cases for the bits of a NaN, of which no float can be made, and for no others
 abbrev pub singleCase : ℕ → Value

@@ -9,7 +9,7 @@ ghost use Rattle.table.specs.Rules.{tableOk};
 ghost use Rattle.record.specs.Block.{numberIn, revisionIn, endsBy, bodyFits, subsFit, Judging, Looking, SubLooking};
 ghost use Rattle.frame.specs.Frame.{wholeFrame};
 use crate::Looked;
-use crate::Refusal;
+use refusal::Refusal;
 use table::FieldRow;
 use table::Found;
 use table::Row;

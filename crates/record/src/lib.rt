@@ -11,25 +11,12 @@ ghost use Rattle.record.specs.Block.{endsBy, subLengthIn};
 ghost use Rattle.record.specs.Calls.{fieldSaid, bodyField, subBytes, subField, subBlock, subBlockRefusal, towRow, wncRow, stamp};
 ghost use Rattle.record.specs.Samples.{SamplesHold};
 ghost use Rattle.record.specs.Theorems.{OneAnswer, AllByMeaning, FloatsKept};
+use refusal::Refusal;
 use table::FieldRow;
 use table::Row;
 
 mod block; // block.rt: a block against a table: its row, or why it is refused
 mod bits; // bits.rt: what the bits of a field mean
-
-// Why a call is refused.
-pub enum Refusal {
-    BadBuffer,
-    OutOfTurn,
-    RunFull,
-    BadTable,
-    NoTable,
-    NoRow,
-    TooShort,
-    BadSubBlocks,
-    NoSuchField,
-    NotOneFrame,
-}
 
 // What a field answers. A NaN is carried as its bits: no float can be made of them.
 pub enum Value {

@@ -1,8 +1,8 @@
 -- `cform::answers::fed_c` meets its contract: case by case.
 -- Assumes nothing.
 use mathlib.Core.Path.{sym, ap, _∙_}
-use Rattle.reader.specs.Said.{saidFed}
-use Rattle.reader.specs.declared.Fed.{Fed}
+use Rattle.runs.specs.Said.{saidFed}
+use Rattle.runs.specs.declared.Fed.{Fed}
 use Rattle.cform.specs.Answer.{answerC}
 use borrow.Author.Needs.{needs}
 use Rattle.cform.proofs.answers.fed_c.Statement.{statement}

@@ -1,8 +1,8 @@
 -- `cform::answers::finished_c` meets its contract: case by case.
 -- Assumes nothing.
 use mathlib.Core.Path.{sym, ap, _∙_}
-use Rattle.reader.specs.Said.{saidFinished}
-use Rattle.reader.specs.declared.Finished.{Finished}
+use Rattle.runs.specs.Said.{saidFinished}
+use Rattle.runs.specs.declared.Finished.{Finished}
 use Rattle.cform.specs.Answer.{answerC}
 use borrow.Author.Needs.{needs}
 use Rattle.cform.proofs.answers.finished_c.Statement.{statement}

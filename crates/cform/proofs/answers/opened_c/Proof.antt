@@ -1,8 +1,8 @@
 -- `cform::answers::opened_c` meets its contract: case by case.
 -- Assumes nothing.
 use mathlib.Core.Path.{sym, ap, _∙_}
-use Rattle.reader.specs.Said.{saidOpened}
-use Rattle.reader.specs.declared.Opened.{Opened}
+use Rattle.tables.specs.Said.{saidOpened}
+use Rattle.tables.specs.declared.Opened.{Opened}
 use Rattle.cform.specs.Answer.{answerC}
 use borrow.Author.Needs.{needs}
 use Rattle.cform.proofs.answers.opened_c.Statement.{statement}

@@ -1,8 +1,8 @@
 -- `cform::answers::staged_c` meets its contract: case by case.
 -- Assumes nothing.
 use mathlib.Core.Path.{sym, ap, _∙_}
-use Rattle.reader.specs.Said.{saidStaged}
-use Rattle.reader.specs.declared.Staged.{Staged}
+use Rattle.tables.specs.Said.{saidStaged}
+use Rattle.tables.specs.declared.Staged.{Staged}
 use Rattle.cform.specs.Answer.{answerC}
 use borrow.Author.Needs.{needs}
 use Rattle.cform.proofs.answers.staged_c.Statement.{statement}

@@ -2,8 +2,9 @@
 -- Assumes nothing.
 use mathlib.Core.Path.{sym, ap, _∙_}
 use mathlib.Core.Bool.{Bool}
-use Rattle.reader.specs.Said.{saidWithdrawn, waited}
-use Rattle.reader.specs.declared.Withdrawn.{Withdrawn}
+use Rattle.tables.specs.Said.{saidWithdrawn}
+use Rattle.reader.specs.Said.{waited}
+use Rattle.tables.specs.declared.Withdrawn.{Withdrawn}
 use Rattle.cform.specs.Answer.{answerC}
 use borrow.Author.Needs.{needs}
 use Rattle.cform.proofs.answers.withdrawn_c.Statement.{statement}

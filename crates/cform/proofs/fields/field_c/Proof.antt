@@ -18,8 +18,8 @@ value-c-requires c κs = subst NoNanIn (c .before .a .given .1) (c .before .befo
 enum-known-a-2 : tie.Need-enum-known-a-2
 enum-known-a-2 c = search needs
 
-number-of-requires : tie.Need-number-of-requires
-number-of-requires c κs = search needs
+number-requires : tie.Need-number-requires
+number-requires c κs = search needs
 
 refused-c-requires : tie.Need-refused-c-requires
 refused-c-requires c κs = search needs
@@ -28,7 +28,7 @@ returns : tie.Need-returns
 returns c = search needs
 
 returns-2 : tie.Need-returns-2
-returns-2 c = c .refused-c .ensures ∙ ap (λ (n : ℕ). fieldC (refused n)) (c .before .number-of .ensures) ∙ sym (ap (λ (x : Answer). fieldC (answerSays x)) (c .before .before .before .a2 .given .1))
+returns-2 c = c .refused-c .ensures ∙ ap (λ (n : ℕ). fieldC (refused n)) (c .before .number .ensures) ∙ sym (ap (λ (x : Answer). fieldC (answerSays x)) (c .before .before .before .a2 .given .1))
 
 pub field-c-spec : {M : Type 1} → statement M
 field-c-spec =
@@ -37,7 +37,7 @@ field-c-spec =
     enum-known-a
     value-c-requires
     enum-known-a-2
-    number-of-requires
+    number-requires
     refused-c-requires
     returns
     returns-2)
