@@ -10,17 +10,17 @@ use lib.ListN.{length, getD, length-map}
 use lib.Seq.{length-take-le}
 use borrow.Author.Tests.{eqb-true}
 use Rattle.wire.specs.Little.{littleAt}
 use Rattle.table.specs.declared.Row.{Row}
 use Rattle.table.specs.Lists.{tabulate, every}
 use Rattle.table.specs.Decode.{blockCount, toFields, covered, blocksAt, fieldCount, fieldAt, rowFrom, rowAt, rowsOf, blockOf, decode}
-use Rattle.table.specs.Encode.{two, fieldBytes, fieldsPart, rowsPart, unsealed, encode}
+use Rattle.encode.specs.Encode.{two, fieldBytes, fieldsPart, rowsPart, unsealed, encode}
 use Rattle.table.specs.Rules.{rowOk, numberOk, highestOk, counts, indexOk, tableOk}
-use Rattle.table.specs.Theorems.{Decodes}
+use Rattle.encode.specs.Theorems.{Decodes}
 use Rattle.table.proofs.Bools.{both}
 use Rattle.table.proofs.Lists.{length-tab}
-use Rattle.table.proofs.Parts as parts
-use Rattle.table.proofs.Parts.{part}
+use Rattle.encode.proofs.Parts as parts
+use Rattle.encode.proofs.Parts.{part}
 use Rattle.table.proofs.Passed.{Passed, passed}
 
 module _ (t : List ℕ) (bytes : (j : ℕ) → getD t j 0 < 256) where
   -- a number's two bytes are the two bytes that it was read from

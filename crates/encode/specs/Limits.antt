@@ -8,10 +8,10 @@ use Prim.Native.Nat.{ℕ}
 use Prim.Native.String.{String}
 use lib.ListN.{set, take, drop}
 use Rattle.crc.specs.Crc.{crcOf}
 use Rattle.table.specs.declared.FieldRow.{FieldRow}
 use Rattle.table.specs.Rows.{BlockRow, Table}
-use Rattle.table.specs.Encode.{two, unsealed, encode}
+use Rattle.encode.specs.Encode.{two, unsealed, encode}
 use Rattle.table.specs.Rules.{tableOk}
 
 pub record Case : Type 0 where
   pub name : String
