@@ -8,7 +8,7 @@ use lib.IntN.{pos, negsuc}
 use Rattle.wire.specs.Little.{littleAt}
 use Rattle.frame.specs.Frame.{numberOf, revisionOf}
 use Rattle.frame.specs.Samples.{sampleB}
-use Rattle.table.specs.declared.FieldRow.{FieldRow}
+use Rattle.rows.specs.declared.FieldRow.{FieldRow}
 use Rattle.table.specs.Rows.{Table}
 use Rattle.value.specs.Said.{Said, unsigned, signed, single, double, doNotUse, notInRevision, refused}
 use Rattle.value.specs.Bits.{fieldValue}

@@ -10,9 +10,10 @@ use lib.ListN.{length, getD, length-map}
 use lib.Seq.{length-take-le}
 use borrow.Author.Tests.{eqb-true}
 use Rattle.wire.specs.Little.{littleAt}
-use Rattle.table.specs.declared.Row.{Row}
+use Rattle.rows.specs.declared.Row.{Row}
 use Rattle.table.specs.Lists.{tabulate, every}
-use Rattle.table.specs.Decode.{blockCount, toFields, covered, blocksAt, fieldCount, fieldAt, rowFrom, rowAt, rowsOf, blockOf, decode}
+use Rattle.rows.specs.Places.{blockCount, blocksAt, fieldCount, fieldAt, rowFrom, rowAt}
+use Rattle.table.specs.Decode.{toFields, covered, rowsOf, blockOf, decode}
 use Rattle.encode.specs.Encode.{two, fieldBytes, fieldsPart, rowsPart, unsealed, encode}
 use Rattle.table.specs.Rules.{rowOk, numberOk, highestOk, counts, indexOk, tableOk}
 use Rattle.encode.specs.Theorems.{Decodes}

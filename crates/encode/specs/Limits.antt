@@ -8,7 +8,7 @@ use Prim.Native.Nat.{ℕ}
 use Prim.Native.String.{String}
 use lib.ListN.{set, take, drop}
 use Rattle.crc.specs.Crc.{crcOf}
-use Rattle.table.specs.declared.FieldRow.{FieldRow}
+use Rattle.rows.specs.declared.FieldRow.{FieldRow}
 use Rattle.table.specs.Rows.{BlockRow, Table}
 use Rattle.encode.specs.Encode.{two, unsealed, encode}
 use Rattle.table.specs.Rules.{tableOk}

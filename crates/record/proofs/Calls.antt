@@ -10,10 +10,11 @@ use Rattle.refusal.specs.declared.Refusal.{Refusal}
 use Rattle.refusal.specs.declared.Refusal.the-variants.{NoSuchField}
 use Rattle.refusal.specs.Numbers.{numberFor}
 use Rattle.refusal.proofs.Numbers.{back}
-use Rattle.table.specs.declared.FieldRow.{FieldRow}
-use Rattle.table.specs.declared.Row.{Row}
+use Rattle.rows.specs.declared.FieldRow.{FieldRow}
+use Rattle.rows.specs.declared.Row.{Row}
 use Rattle.table.specs.Lists.{tabulate, pick}
-use Rattle.table.specs.Decode.{fieldAt, blockOf, decode}
+use Rattle.rows.specs.Places.{fieldAt}
+use Rattle.table.specs.Decode.{blockOf, decode}
 use Rattle.table.proofs.Bools.{both}
 use Rattle.table.proofs.Lists.{every-at, pick-in, pick-out}
 use Rattle.record.specs.declared.Answer.{Answer}

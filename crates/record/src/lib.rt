@@ -10,8 +10,8 @@ ghost use Rattle.record.specs.Answer.{Answers, handedSays};
 ghost use Rattle.record.specs.Block.{endsBy, subLengthIn};
 ghost use Rattle.record.specs.Calls.{fieldSaid, bodyField, subBytes, subField, subBlock, subBlockRefusal, towRow, wncRow, stamp};
 use refusal::Refusal;
-use table::FieldRow;
-use table::Row;
+use rows::FieldRow;
+use rows::Row;
 use value::Value;
 
 mod block; // block.rt: a block against a table: its row, or why it is refused
@@ -56,7 +56,7 @@ pub fn body_field(table: &[u8], block: &[u8], i: usize) -> Answer
             if count <= i {
                 return Answer::Refused(Refusal::NoSuchField);
             }
-            let f = table::field(table, start + i);
+            let f = rows::field_at(table, start + i);
             field(block, f, block::revision(block))
         }
         Looked::Refused(x) => Answer::Refused(x),
@@ -87,7 +87,7 @@ pub fn sub_field(table: &[u8], block: &[u8], k: usize, j: usize) -> Answer
             if count <= j {
                 return Answer::Refused(Refusal::NoSuchField);
             }
-            let f = table::field(table, start + j);
+            let f = rows::field_at(table, start + j);
             let revision = block::revision(block);
             field(part(block, k), f, revision)
         }

@@ -1,6 +1,6 @@
 pub mod Bools
 pub mod Lists
-pub mod Types
+pub mod Marks
 pub mod Fused
 pub mod Passed
 pub mod Loops

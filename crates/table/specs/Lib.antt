@@ -1,5 +1,5 @@
 pub mod Lists
-pub mod Types
+pub mod Marks
 pub mod Rows
 pub mod Decode
 pub mod Rules

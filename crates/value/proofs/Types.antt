@@ -9,8 +9,8 @@ use lib.ListN.{getD}
 use borrow.Author.Tests.{ne-eqb}
 use Rattle.crc.proofs.Table.{at}
 use Rattle.wire.specs.Little.{littleAt}
-use Rattle.table.specs.declared.FieldRow.{FieldRow}
-use Rattle.table.specs.Types.{sizeOf}
+use Rattle.rows.specs.declared.FieldRow.{FieldRow}
+use Rattle.rows.specs.Types.{sizeOf}
 use Rattle.value.specs.declared.Value.{Value}
 use Rattle.value.specs.declared.Value.the-variants.{DoNotUse}
 use Rattle.value.specs.Said.{unsigned, Means}

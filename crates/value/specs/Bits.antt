@@ -7,8 +7,8 @@ use lib.ListN.{getD}
 use lib.Dec.{ltb, eqb}
 use lib.IntN.{ℤ, pos, negsuc}
 use Rattle.wire.specs.Little.{littleAt}
-use Rattle.table.specs.declared.FieldRow.{FieldRow}
-use Rattle.table.specs.Types.{sizeOf}
+use Rattle.rows.specs.declared.FieldRow.{FieldRow}
+use Rattle.rows.specs.Types.{sizeOf}
 use Rattle.value.specs.Said.{Said, unsigned, signed, single, double, doNotUse}
 
 -- half of the numbers that so many bytes make: with a sign, those from here on are negative

@@ -3,11 +3,10 @@ ghost use mathlib.Core.Path.{_≡_};
 ghost use Prim.Native.Nat.{_+_, _^_, _≤_, _<_};
 ghost use lib.ListN.{length};
 ghost use Rattle.wire.specs.Little.{littleAt};
-ghost use Rattle.table.specs.Types.{sizeOf};
-ghost use Rattle.table.specs.Rows.{ends};
+ghost use Rattle.rows.specs.Types.{sizeOf};
 ghost use Rattle.value.specs.Said.{single, double, Means};
 ghost use Rattle.value.specs.Bits.{withSign, readAs, isDoNotUse, fieldValue};
-use table::FieldRow;
+use rows::FieldRow;
 
 // What a field answers. A NaN is carried as its bits: no float can be made of them.
 pub enum Value {
@@ -104,7 +103,7 @@ const LEAST: [u64; 9] = [
 fn is_do_not_use(mark: u8, kind: u8, x: u64) -> bool
     ensures { λ r. ⌜ r ≡ isDoNotUse mark kind x ⌝ }
 {
-    let size = table::size(kind);
+    let size = rows::size(kind);
     match mark {
         1 => x == ONES[size],
         2 => x == 0,
@@ -132,7 +131,7 @@ fn bits_at(s: &[u8], at: usize, kind: u8) -> u64
     requires { ⌜ at + sizeOf kind ≤ length (now s) ⌝ }
     ensures { λ r. ⌜ (r ≡ littleAt (sizeOf kind) (now (s .entry)) at) × (r < 256 ^ sizeOf kind) ⌝ }
 {
-    match table::size(kind) {
+    match rows::size(kind) {
         1 => byte(s, at),
         2 => wire::u2(s, at) as u64,
         4 => wire::u4(s, at) as u64,
@@ -143,7 +142,7 @@ fn bits_at(s: &[u8], at: usize, kind: u8) -> u64
 
 // The field of a row that is carried: its offset counts from the start of these bytes.
 pub fn read(s: &[u8], f: FieldRow) -> Value
-    requires { ⌜ ends f ≤ length (now s) ⌝ }
+    requires { ⌜ f .offset + sizeOf (f .kind) ≤ length (now s) ⌝ }
     ensures { λ r. ⌜ Means r (fieldValue (now (s .entry)) f) ⌝ }
 {
     let at = f.offset;

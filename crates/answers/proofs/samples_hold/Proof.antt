@@ -5,7 +5,7 @@ use Rattle.crc.specs.Crc.{crcOf, crcFrom, crcByte, crcBits8, crcBit}
 use Rattle.wire.specs.Little.{littleAt}
 use Rattle.frame.specs.Frame.{syncAt, allowed, endsWithin, crcRight, frameAt, wholeFrame}
 use Rattle.table.specs.Lists.{every, first, pick}
-use Rattle.table.specs.Types.{sizeOf}
+use Rattle.rows.specs.Types.{sizeOf}
 use Rattle.table.specs.Lookup.{findRow}
 use Rattle.value.specs.Bits.{withSign, readAs, isDoNotUse, valueOf, fieldValue}
 use Rattle.record.specs.Block.{bodyFits, subsFit, seenRow, seen, seenSubRow, seenSub}

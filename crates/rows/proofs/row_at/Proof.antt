@@ -1,9 +1,9 @@
--- `table::read::row_at` meets its contract: eight bytes, by the definition.
+-- `rows::row_at` meets its contract: eight bytes, by the definition.
 -- Assumes nothing.
 use borrow.Author.Needs.{needs}
-use Rattle.table.specs.Decode.{rowFrom, rowAt}
-use Rattle.table.proofs.read.row_at.Statement.{statement}
-use Rattle.table.proofs.read.row_at.Tie as tie
+use Rattle.rows.specs.Places.{rowFrom, rowAt}
+use Rattle.rows.proofs.row_at.Statement.{statement}
+use Rattle.rows.proofs.row_at.Tie as tie
 
 mul-p : tie.Need-mul-p
 mul-p c = search needs

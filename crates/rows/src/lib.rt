@@ -1,10 +1,45 @@
-// Trailer and rows out of a table's bytes: with trailer.rt, the code that knows where in them a thing stands.
+// A table's trailer and rows by value: with the table's rules on its trailer, the code that knows where in a table's bytes a thing stands.
 ghost use mathlib.Core.Path.{_≡_};
 ghost use Prim.Native.Nat.{_+_, _*_, _≤_, _<_};
 ghost use lib.ListN.{length};
-ghost use Rattle.table.specs.Decode.{versionOf, blockCount, blocksAt, fieldCount, fieldAt, rowAt};
-use crate::FieldRow;
-use crate::Row;
+ghost use Rattle.rows.specs.Types.{sizeOf};
+ghost use Rattle.rows.specs.Places.{versionOf, blockCount, blocksAt, fieldCount, fieldAt, rowAt};
+
+// A field row: `kind` is its type, `first` its first revision.
+pub struct FieldRow {
+    pub offset: usize,
+    pub kind: u8,
+    pub first: u8,
+    pub mark: u8,
+}
+
+// A block row as it stands: `bodies` and `subs` are its counts of body fields and of sub-fields, `start` is the index of
+// its first field row, `zero` its last byte.
+pub struct Row {
+    pub number: u16,
+    pub highest: u8,
+    pub bodies: usize,
+    pub start: usize,
+    pub subs: usize,
+    pub zero: u8,
+}
+
+// Entry k is the size of type k + 1. Check and field reader look sizes up here.
+const SIZES: [u8; 10] = [1, 2, 4, 8, 1, 2, 4, 8, 4, 8];
+
+// The size of a type; 0 where it is not listed.
+pub fn size(kind: u8) -> usize
+    ensures { λ r. ⌜ (r ≡ sizeOf kind) × (r ≤ 8) ⌝ }
+{
+    if kind == 0 {
+        return 0;
+    }
+    if kind <= 10 {
+        let k = (kind - 1) as usize;
+        return wide(SIZES[k]);
+    }
+    0
+}
 
 pub fn wide(x: u8) -> usize
     ensures { λ r. ⌜ (r ≡ x) × (r < 256) ⌝ }

@@ -1,4 +1,4 @@
--- The sizes of the types, by their one table, and the marks by theirs.
+-- The sizes of the types, by their one table.
 -- Assumes nothing.
 use mathlib.Core.Bool.{Bool, true, false}
 use mathlib.Core.Path.{_≡_, refl, sym, ap, _∙_}
@@ -8,7 +8,7 @@ use lib.Dec.{ltb, leb, leb→le}
 use lib.ListN.{getD, List·getD-eq-default}
 use borrow.Author.Tests.{ltb-true, ltb-false}
 use Rattle.crc.proofs.Table.{at}
-use Rattle.table.specs.Types.{sizes, sizeOf, marks, markFits}
+use Rattle.rows.specs.Types.{sizes, sizeOf}
 
 pub size-in : (kind : ℕ) → (kind ≡ 0 → ⊥) → getD sizes (kind - 1) 0 ≡ sizeOf kind
 unfolding sizeOf
@@ -32,7 +32,3 @@ pub size-most : (kind : ℕ) → sizeOf kind ≤ 8
 unfolding sizeOf
 size-most zero = omega arith
 size-most (suc k) = table-most k (ltb k 10) refl
-
-pub mark-none : (kind mark : ℕ) → 4 < mark → false ≡ markFits kind mark
-unfolding markFits
-mark-none kind mark h = sym (ap (λ (p : ℕ → Bool). p kind) (List·getD-eq-default marks (λ (k : ℕ). false) {n = mark} (omega arith)))

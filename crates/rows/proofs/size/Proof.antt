@@ -1,12 +1,12 @@
--- `table::size` meets its contract: an entry of `sizes`, or 0.
+-- `rows::size` meets its contract: an entry of `sizes`, or 0.
 -- Assumes nothing.
 use mathlib.Core.Path.{_∙_}
 use native.Mathlib.Omega.{arith}
 use borrow.Author.Needs.{needs}
-use Rattle.table.specs.Types.{sizeOf}
-use Rattle.table.proofs.Types.{size-in, size-over, size-most}
-use Rattle.table.proofs.size.Statement.{statement}
-use Rattle.table.proofs.size.Tie as tie
+use Rattle.rows.specs.Types.{sizeOf}
+use Rattle.rows.proofs.Types.{size-in, size-over, size-most}
+use Rattle.rows.proofs.size.Statement.{statement}
+use Rattle.rows.proofs.size.Tie as tie
 
 returns : tie.Need-returns
 unfolding sizeOf

@@ -1,19 +1,10 @@
--- The ten types, their sizes, and the marks that each kind of type may bear (document 01, 'The block table').
+-- The kinds of type, and the marks that each may bear (document 01, 'The block table').
 -- Assumes nothing.
 use mathlib.Core.Bool.{Bool, true, false, _&&_}
 use mathlib.Core.List.{List, [], _∷_}
-use Prim.Native.Nat.{ℕ, zero, suc}
+use Prim.Native.Nat.{ℕ}
 use lib.Dec.{leb}
 use lib.ListN.{getD}
-
--- "Types and sizes: 1 u1 1; 2 u2 2; 3 u4 4; 4 u8 8; 5 i1 1; 6 i2 2; 7 i4 4; 8 i8 8; 9 f4 4; 10 f8 8"
-abbrev pub sizes : List ℕ
-sizes = 1 ∷ 2 ∷ 4 ∷ 8 ∷ 1 ∷ 2 ∷ 4 ∷ 8 ∷ 4 ∷ 8 ∷ []
-
--- the size of a type; 0 where it is not listed
-unfoldable pub sizeOf : ℕ → ℕ
-sizeOf zero = 0
-sizeOf (suc k) = getD sizes k 0
 
 abbrev pub listed : ℕ → Bool
 listed kind = leb 1 kind && leb kind 10

@@ -1,10 +1,10 @@
--- `table::read::field_at` meets its contract: four bytes, by the definition.
+-- `rows::field_at` meets its contract: four bytes, by the definition.
 -- Assumes nothing.
 use native.Mathlib.Omega.{arith}
 use borrow.Author.Needs.{needs}
-use Rattle.table.specs.Decode.{fieldAt}
-use Rattle.table.proofs.read.field_at.Statement.{statement}
-use Rattle.table.proofs.read.field_at.Tie as tie
+use Rattle.rows.specs.Places.{fieldAt}
+use Rattle.rows.proofs.field_at.Statement.{statement}
+use Rattle.rows.proofs.field_at.Tie as tie
 
 mul-p : tie.Need-mul-p
 mul-p c = search needs
