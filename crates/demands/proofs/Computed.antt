@@ -14,7 +14,7 @@ use Rattle.table.specs.Types.{sizeOf, markFits}
 use Rattle.table.specs.Decode.{fieldAt, rowFrom, rowAt, rowsOf, blockOf, decode}
 use Rattle.table.specs.Rules.{fileOk, risingOk, rowOk, counts, indexOk, rowsOk, fieldsOk, isPair, blockOk, tableOk}
 use Rattle.table.specs.Lookup.{findRow}
-use Rattle.record.specs.Bits.{withSign, readAs, isDoNotUse, valueOf, fieldValue}
+use Rattle.value.specs.Bits.{withSign, readAs, isDoNotUse, valueOf, fieldValue}
 use Rattle.record.specs.Block.{bodyFits, subsFit, seenRow, seen, seenSubRow, seenSub}
 use Rattle.record.specs.Calls.{fieldSaid, bodyField, subBytes, subField, subBlock, subBlockRefusal, stamp}
 use Rattle.reader.specs.State.{sound}

@@ -21,7 +21,8 @@ use Rattle.record.specs.declared.Answer.the-variants as answer
 use Rattle.record.specs.declared.Handed.the-variants as handed
 use Rattle.record.specs.declared.Looked.{Looked}
 use Rattle.record.specs.declared.Looked.the-variants as looked
-use Rattle.record.specs.Answer.{refused, Answers, handedSays}
+use Rattle.value.specs.Said.{refused}
+use Rattle.record.specs.Answer.{Answers, handedSays}
 use Rattle.record.specs.Block.{revisionIn, subLengthIn, endsBy, bodyFits, meant, Looking, SubFine, SubFineIfAny, SubLooking}
 use Rattle.record.specs.Calls.{fieldSaid, fieldOr9, bodyBy, bodyField, subBytes, subBy, subField, partBy, subBlock, numberBy, subBlockRefusal}
 use Rattle.record.proofs.Fields.{same}

@@ -3,7 +3,7 @@
 use mathlib.Core.Path.{refl}
 use Rattle.crc.specs.Crc.{crcBit, crcBits8, crcByte, crcFrom, crcOf}
 use Rattle.table.specs.Decode.{fieldAt, rowFrom, rowAt, rowsOf, blockOf, decode}
-use Rattle.table.specs.Encode.{two, fieldBytes, fieldsPart, rowsPart, unsealed, encode}
+use Rattle.encode.specs.Encode.{two, fieldBytes, fieldsPart, rowsPart, unsealed, encode}
 use Rattle.table.specs.Lists.{tabulate, every, chain, neighbours}
 use Rattle.table.specs.Rules.{fileOk, risingOk, rowOk, counts, indexOk, rowsOk, fieldsOk, isPair, blockOk, tableOk}
 use Rattle.table.specs.Types.{sizeOf, markFits}

@@ -6,5 +6,3 @@ pub mod Passed
 pub mod Loops
 pub mod Laws
 pub mod Told
-pub mod Parts
-pub mod Bytes

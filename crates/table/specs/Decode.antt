@@ -1,4 +1,4 @@
--- From bytes to meaning (document 01, 'The block table'): where in a table's bytes each thing stands. `Encode` goes the other way.
+-- From bytes to meaning (document 01, 'The block table'): where in a table's bytes each thing stands. The crate `encode` goes the other way.
 -- Assumes nothing.
 use mathlib.Core.List.{List, map}
 use Prim.Native.Nat.{ℕ, _+_, _-_, _*_, _/_}

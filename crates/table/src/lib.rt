@@ -7,8 +7,7 @@ ghost use Rattle.table.specs.Decode.{fieldCount, fieldAt};
 ghost use Rattle.table.specs.Rules.{tableOk};
 ghost use Rattle.table.specs.Answer.{toldBy, checkOf};
 ghost use Rattle.table.specs.Lookup.{Finding};
-ghost use Rattle.table.specs.Theorems.{OneRow, Decodes};
-ghost use Rattle.table.specs.Limits.{LimitsHold};
+ghost use Rattle.table.specs.Theorems.{OneRow};
 
 mod blocks; // blocks.rt: the rules on block rows, and the pass over all rows
 mod fields; // fields.rt: the rules on field rows
@@ -104,14 +103,4 @@ pub fn field(t: &[u8], i: usize) -> FieldRow
 // A number has one row.
 pub fn one_row()
     ensures { λ _. ⌜ OneRow ⌝ }
-{}
-
-// A table that passes decodes, and its meaning gives its bytes back.
-pub fn decodes()
-    ensures { λ _. ⌜ Decodes ⌝ }
-{}
-
-// The rules hold on both sides of their limits.
-pub fn limits_hold()
-    ensures { λ _. ⌜ LimitsHold ⌝ }
 {}

@@ -35,7 +35,9 @@ shared-slice-read-t15 c = search needs
 
 returns : tie.Need-returns
 unfolding fieldAt
-returns c = (cc, omega arith)
+returns c =
+    let w = c .before .before .before .wide .ensures in
+    (rw (w .0), omega (arith, w .1))
 
 pub field-at-spec : {M : Type 1} → statement M
 field-at-spec =

@@ -55,7 +55,17 @@ shared-slice-read-t22 c = search needs
 
 returns : tie.Need-returns
 unfolding rowFrom rowAt
-returns c = (cc, search needs, search needs, search needs)
+returns c =
+    let wide₂ = c .before in
+    let word = wide₂ .before .before in
+    let wide = word .before .before in
+    let number = wide .before .before .before in
+    let start = number .before .before in (
+      rw (number .u2 .ensures, wide .wide .ensures .0, word .word .ensures .0, word .before .u22 .ensures, wide₂ .wide2 .ensures .0, start .pre .0),
+      wide .wide .ensures .1,
+      word .word .ensures .1,
+      wide₂ .wide2 .ensures .1,
+    )
 
 pub row-at-spec : {M : Type 1} → statement M
 row-at-spec =
