@@ -9,8 +9,8 @@ use lib.IntN.{ℤ, pos}
 use Rattle.record.specs.Answer as field
 use Rattle.record.specs.declared.Answer.{Answer}
 use Rattle.record.specs.declared.Answer.the-variants as answer
-use Rattle.record.specs.declared.Value.{Value}
-use Rattle.record.specs.declared.Value.the-variants as value
+use Rattle.value.specs.declared.Value.{Value}
+use Rattle.value.specs.declared.Value.the-variants as value
 use Rattle.reader.specs.State.{noCounts}
 use Rattle.reader.specs.Said.{Report, Said, refused, version, took, found, ended, waited}
 use Rattle.cform.specs.declared.CBlock.{CBlock}

@@ -7,7 +7,7 @@ ghost use Rattle.record.specs.Answer.{refused, valueSays, answerSays};
 ghost use Rattle.cform.specs.Answer.{tell, fieldC, NoNan, NoNanIn};
 use crate::CField;
 use record::Answer;
-use record::Value;
+use value::Value;
 
 fn tell_c(refusal: u32, kind: u32, number: u64, signed: i64, bits: u64) -> CField
     ensures { λ r. ⌜ r ≡ tell refusal kind number signed bits ⌝ }

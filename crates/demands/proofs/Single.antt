@@ -4,7 +4,7 @@ use mathlib.Core.Path.{_≡_, sym, ap, _∙_}
 use mathlib.Core.List.{List}
 use Prim.Native.Nat.{ℕ}
 use Rattle.record.specs.Answer as record-answer
-use Rattle.record.proofs.Theorems.{one-answer}
+use Rattle.answers.proofs.Theorems.{one-answer}
 use Rattle.reader.specs.Said.{Said}
 use Rattle.tables.specs.Said.{saidOpened, saidStaged, saidWithdrawn}
 use Rattle.runs.specs.Said.{saidFed, saidFinished}

@@ -11,7 +11,7 @@ use mathlib.Core.Option.{some}
 use lib.ListN.{length, getD, take, drop}
 use Rattle.crc.specs.Crc.{crcOf}
 use Rattle.frame.specs.Frame.{crcAt, idAt, lengthAt, numberOf, revisionOf}
-use Rattle.table.specs.declared.FieldRow.{FieldRow}
+use Rattle.rows.specs.declared.FieldRow.{FieldRow}
 use Rattle.table.specs.Lists.{pick}
 use Rattle.table.specs.Rows.{BlockRow, Table, ends}
 use Rattle.table.specs.Decode.{decode}

@@ -10,10 +10,11 @@ use Rattle.refusal.specs.declared.Refusal.{Refusal}
 use Rattle.refusal.specs.declared.Refusal.the-variants.{NoSuchField}
 use Rattle.refusal.specs.Numbers.{numberFor}
 use Rattle.refusal.proofs.Numbers.{back}
-use Rattle.table.specs.declared.FieldRow.{FieldRow}
-use Rattle.table.specs.declared.Row.{Row}
+use Rattle.rows.specs.declared.FieldRow.{FieldRow}
+use Rattle.rows.specs.declared.Row.{Row}
 use Rattle.table.specs.Lists.{tabulate, pick}
-use Rattle.table.specs.Decode.{fieldAt, blockOf, decode}
+use Rattle.rows.specs.Places.{fieldAt}
+use Rattle.table.specs.Decode.{blockOf, decode}
 use Rattle.table.proofs.Bools.{both}
 use Rattle.table.proofs.Lists.{every-at, pick-in, pick-out}
 use Rattle.record.specs.declared.Answer.{Answer}
@@ -21,7 +22,8 @@ use Rattle.record.specs.declared.Answer.the-variants as answer
 use Rattle.record.specs.declared.Handed.the-variants as handed
 use Rattle.record.specs.declared.Looked.{Looked}
 use Rattle.record.specs.declared.Looked.the-variants as looked
-use Rattle.record.specs.Answer.{refused, Answers, handedSays}
+use Rattle.value.specs.Said.{refused}
+use Rattle.record.specs.Answer.{Answers, handedSays}
 use Rattle.record.specs.Block.{revisionIn, subLengthIn, endsBy, bodyFits, meant, Looking, SubFine, SubFineIfAny, SubLooking}
 use Rattle.record.specs.Calls.{fieldSaid, fieldOr9, bodyBy, bodyField, subBytes, subBy, subField, partBy, subBlock, numberBy, subBlockRefusal}
 use Rattle.record.proofs.Fields.{same}

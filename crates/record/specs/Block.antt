@@ -9,11 +9,12 @@ use lib.ListN.{length, getD}
 use lib.Dec.{ltb, leb, eqb}
 use Rattle.frame.specs.Frame.{idAt, numberOf, revisionOf, wholeFrame}
 use Rattle.refusal.specs.Numbers.{numberFor}
-use Rattle.table.specs.declared.FieldRow.{FieldRow}
-use Rattle.table.specs.declared.Row.{Row}
+use Rattle.rows.specs.declared.FieldRow.{FieldRow}
+use Rattle.rows.specs.declared.Row.{Row}
 use Rattle.table.specs.Lists.{every}
 use Rattle.table.specs.Rows.{BlockRow, Table, ends}
-use Rattle.table.specs.Decode.{fieldCount, blockOf, decode}
+use Rattle.rows.specs.Places.{fieldCount}
+use Rattle.table.specs.Decode.{blockOf, decode}
 use Rattle.table.specs.Lookup.{carried, findRow}
 use Rattle.record.specs.declared.Looked.{Looked}
 use Rattle.record.specs.declared.Looked.the-variants as looked

@@ -7,7 +7,7 @@ use mathlib.Core.Option.{Option, none, some}
 use lib.ListN.{take}
 use lib.Dec.{ltb}
 use Rattle.table.specs.Decode.{decode}
-use Rattle.table.specs.declared.FieldRow.{FieldRow}
+use Rattle.rows.specs.declared.FieldRow.{FieldRow}
 use Rattle.record.specs.Answer.{Said, refused}
 use Rattle.record.specs.Calls.{bodyField, subField, subBlock, subBlockRefusal, towRow, wncRow, stamp}
 use Rattle.reader.specs.State.{sound}

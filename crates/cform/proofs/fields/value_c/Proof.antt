@@ -5,7 +5,7 @@ use lib.IntN.{ℤ, pos}
 use mir.Syntax.{w64}
 use mir.ValLaws.{toZ-ofZ}
 use Rattle.record.specs.Answer.{valueSays}
-use Rattle.record.specs.declared.Value.{Value}
+use Rattle.value.specs.declared.Value.{Value}
 use Rattle.cform.specs.Answer.{tell, fieldC, NoNan}
 use borrow.Author.Needs.{needs}
 use Rattle.cform.proofs.fields.value_c.Statement.{statement}
