@@ -46,7 +46,7 @@ stopped h piece room e = subst (λ (o : Option ℕ). Stopped judged o (feedLit h
 
 pub more-decides-all : MoreDecidesAll
 more-decides-all h piece room e = (
-  subst (λ (o : Option ℕ). Took judged o (feedLit h piece room .taken) (min room (length piece))) e (fed-took judged piece room h),
+  subst (λ (o : Option ℕ). Took o (feedLit h piece room .taken) (min room (length piece))) e (fed-took judged piece room h),
   ⊎-elim (λ z. ap judged z ∙ judging .empty) (λ q. q) (stopped h piece room e),
 )
 

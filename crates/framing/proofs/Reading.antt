@@ -1,6 +1,7 @@
 -- Runs read, by what settling and feeding give: what a call skips, and the block that it leaves standing, are what the rule reads there.
 -- Assumes nothing.
-use mathlib.Core.Path.{_≡_, refl, sym, ap, ap₂, _∙_}
+use mathlib.Core.Path.{_≡_, refl, sym, ap, ap₂, _∙_, subst}
+use mathlib.Core.Logic.{⊎-elim}
 use mathlib.Core.List.{List, [], _∷_, _++_, append-nil, append-assoc}
 use mathlib.Core.Bool.{Bool, true, false}
 use mathlib.Core.Option.{Option, none, some}
@@ -20,7 +21,7 @@ use Rattle.frame.proofs.Standing.{front-judged, judged-front}
 use Rattle.scan.specs.Settle.{Settled, settleBy, settle, judgedLast}
 use Rattle.scan.specs.Feed.{Feeding, unlessBlock, feedBy, feedLit, size}
 use Rattle.scan.proofs.Judging.{There}
-use Rattle.scan.proofs.Stable.{judging, frame-last, last-frame}
+use Rattle.scan.proofs.Stable.{judging, frame-last, last-frame, last-decides}
 use Rattle.scan.proofs.Settling.{Stopped, settle-stopped}
 use Rattle.scan.proofs.Calls.{fed-stopped}
 use Rattle.framing.specs.ReadRun.{Block, blockAt, Reading, nothingRead, blockThen, skipThen, readBy, readFrom, readRun}
@@ -227,6 +228,12 @@ fed-stands piece room h =
 
 pub last-stands : (h : List ℕ) → Stands (settle judgedLast h .standing) (settle judgedLast h .rest)
 last-stands h = let s = settle judgedLast h in stands-if judgedLast last-frame (s .standing) (s .rest) (settle-stopped judgedLast h)
+
+-- with none standing nothing is left
+pub last-empty : (h : List ℕ) → settle judgedLast h .standing ≡ none → settle judgedLast h .rest ≡ []
+last-empty h e =
+    let s = settle judgedLast h in
+    ⊎-elim (λ z. z) (λ u. absurd (last-decides (s .rest) u)) (subst (λ (o : Option ℕ). Stopped judgedLast o (s .rest)) e (settle-stopped judgedLast h))
 
 block-is : (p n : ℕ) (v zs : List ℕ) → n ≤ length v → blockAt p n (v ++ zs) ≡ blockAt p n v
 unfolding blockAt

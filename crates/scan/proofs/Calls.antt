@@ -19,12 +19,13 @@ pub record Call (h piece : List ℕ) (room : ℕ) (f : Feeding) : Type 0 where
   pub taken : f .taken ≤ min room (length piece)
   pub front : size (f .standing) ≤ length (f .held)
 
-module _ (judge : List ℕ → Verdict) where
-  -- ---- all that there is to take is taken, unless a block came
+-- all that there is to take is taken, unless a block came
+abbrev pub Took : Option ℕ → ℕ → ℕ → Type 0
+Took none t m = t ≡ m
+Took (some n) t m = t ≤ m
 
-  abbrev pub Took : Option ℕ → ℕ → ℕ → Type 0
-  Took none t m = t ≡ m
-  Took (some n) t m = t ≤ m
+module _ (judge : List ℕ → Verdict) where
+  -- ---- what is taken
 
   took-more : (o : Option ℕ) (t room m : ℕ) → Took o t (min room m) → Took o (suc t) (min (suc room) (suc m))
   took-more none t room m h = omega arith

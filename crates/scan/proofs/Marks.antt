@@ -7,7 +7,7 @@ use native.Mathlib.Nat.{add-zero, zero-add}
 use native.Mathlib.Omega.{arith}
 use lib.ListN.{length}
 use Rattle.scan.specs.Settle.{Settled, settleBy, settle}
-use Rattle.scan.specs.Scan.{count, counts, counted, raised, marks}
+use Rattle.scan.specs.Scan.{count, countAll, counted, raised, marks}
 use Rattle.frame.specs.declared.Reason.{Reason}
 use Rattle.frame.specs.declared.Reason.the-variants.{NoSync, LengthNotAllowed, CrcWrong, FewLeft, PastEnd}
 use Rattle.frame.specs.declared.Verdict.{Verdict}
@@ -18,19 +18,19 @@ use denote.Enum.Declared.{tagOf}
 use Rattle.frame.proofs.Reason.{the-type}
 use Rattle.scan.proofs.Judging.{FitsFor, Fits}
 
-pub counts-append : (a : Passed) (xs ys : List Reason) → counts a (xs ++ ys) ≡ counts (counts a xs) ys
-unfolding counts
-counts-append a [] ys = refl
-counts-append a (r ∷ xs) ys = counts-append (count a r) xs ys
+pub countAll-append : (a : Passed) (xs ys : List Reason) → countAll a (xs ++ ys) ≡ countAll (countAll a xs) ys
+unfolding countAll
+countAll-append a [] ys = refl
+countAll-append a (r ∷ xs) ys = countAll-append (count a r) xs ys
 
-pub counts-skipped : (a : Passed) (xs : List Reason) → counts a xs .skipped ≡ a .skipped + length xs
-unfolding counts
-counts-skipped a [] = sym (add-zero (a .skipped))
-counts-skipped a (r ∷ xs) = omega (arith, counts-skipped (count a r) xs)
+pub countAll-skipped : (a : Passed) (xs : List Reason) → countAll a xs .skipped ≡ a .skipped + length xs
+unfolding countAll
+countAll-skipped a [] = sym (add-zero (a .skipped))
+countAll-skipped a (r ∷ xs) = omega (arith, countAll-skipped (count a r) xs)
 
 -- the skipped count is the length of the list
 pub counted-skipped : (xs : List Reason) → counted xs .skipped ≡ length xs
-counted-skipped xs = counts-skipped (record { skipped = 0 }) xs ∙ zero-add (length xs)
+counted-skipped xs = countAll-skipped (record { skipped = 0 }) xs ∙ zero-add (length xs)
 
 -- ---- marks
 

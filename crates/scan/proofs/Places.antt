@@ -13,7 +13,7 @@ use lib.Dec.{ltb}
 use Rattle.frame.specs.Judge.{judged}
 use Rattle.scan.specs.Settle.{Settled, stopAt, settleBy, settle, lastBy, judgedLast}
 use Rattle.scan.specs.Feed.{size}
-use Rattle.scan.specs.Scan.{counts, behind, raised, marks, partBy, partOf, NoStart}
+use Rattle.scan.specs.Scan.{countAll, behind, raised, marks, partBy, partOf, NoStart}
 use Rattle.frame.specs.declared.Reason.{Reason}
 use Rattle.frame.specs.declared.Reason.the-variants.{NoSync, FewLeft, PastEnd}
 use Rattle.frame.specs.declared.Verdict.{Verdict}
@@ -79,18 +79,18 @@ module _ (s rest : List ℕ) (from : ℕ) where
   waits-by (b ∷ bs) a m l = refl
 
   pub part-waits : (k m : ℕ) → k < length s → judged (drop k s ++ rest) ≡ Undecided → fromPlace k m ≡ Waits (record { skipped = from + k })
-  unfolding counts marks
+  unfolding countAll marks
   part-waits k m l e = part-stop k m l e ∙ waits-by (drop k s) (record { skipped = from + k }) m (omega (arith, length-drop k s))
 
   pub part-pass : (k m : ℕ) (r : Reason) → k < length s → judged (drop k s ++ rest) ≡ NoFrame r → fromPlace k m ≡ fromPlace (k + 1) (raised r (from + k) m)
-  unfolding counts marks
+  unfolding countAll marks
   part-pass k m r l e =
       let f : from + k + 1 ≡ from + (k + 1) = omega arith in
       part-stop k m l e
       ∙ ap (λ (i : ℕ). partOf (settle (behind judged rest) (drop (k + 1) s)) (record { skipped = i }) (raised r (from + k) m)) f
 
   pub part-end : (k m : ℕ) → length s ≤ k → fromPlace k m ≡ Through (record { skipped = from + k }) m
-  unfolding counts marks
+  unfolding countAll marks
   part-end k m h =
       ap (λ (y : Settled). partOf y (record { skipped = from + k }) m) (none-left (behind judged rest) (drop k s) (drop-of-length-le s h))
 
@@ -109,7 +109,7 @@ module _ (s rest : List ℕ) (from : ℕ) where
 
 -- what is settled with nothing to follow, where a was passed before
 abbrev pub endOf : Settled → Passed → Found
-endOf s a = record { taken = 0; passed = counts a (s .passed); block = size (s .standing) }
+endOf s a = record { taken = 0; passed = countAll a (s .passed); block = size (s .standing) }
 
 -- where no frame is judged, the end's judge has a reason
 skips-by : (x : Verdict) (v : List ℕ) → ((n : ℕ) → x ≡ Frame n → ⊥) → (r : Reason) × (lastBy x v ≡ NoFrame r)
@@ -123,18 +123,18 @@ module _ (s : List ℕ) where
   fromEnd k = endOf (settle judgedLast (drop k s)) (record { skipped = k })
 
   pub end-frame : (k n : ℕ) → k < length s → judged (drop k s) ≡ Frame n → fromEnd k ≡ record { taken = 0; passed = record { skipped = k }; block = n }
-  unfolding counts judgedLast
+  unfolding countAll judgedLast
   end-frame k n l e =
       ap (λ (y : Settled). endOf y (record { skipped = k })) (at-by judgedLast s k l (ap (λ (x : Verdict). lastBy x (drop k s)) e))
 
   pub end-pass : (k : ℕ) → k < length s → ((n : ℕ) → judged (drop k s) ≡ Frame n → ⊥) → fromEnd k ≡ fromEnd (k + 1)
-  unfolding counts judgedLast
+  unfolding countAll judgedLast
   end-pass k l h =
       let q = skips-by (judged (drop k s)) (drop k s) h in
       ap (λ (y : Settled). endOf y (record { skipped = k })) (at-by judgedLast s k l (q .1))
 
   pub end-end : (k : ℕ) → length s ≤ k → fromEnd k ≡ record { taken = 0; passed = record { skipped = k }; block = 0 }
-  unfolding counts
+  unfolding countAll
   end-end k h = ap (λ (y : Settled). endOf y (record { skipped = k })) (none-left judgedLast (drop k s) (drop-of-length-le s h))
 
   end-skip-by : (d k q : ℕ) → k + d ≡ q → q ≤ length s → ((i : ℕ) → k ≤ i → i < q → judged (drop i s) ≡ NoFrame NoSync) → fromEnd k ≡ fromEnd q

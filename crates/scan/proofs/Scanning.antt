@@ -9,7 +9,7 @@ use lib.ListN.{length, length-append}
 use lib.Seq.{take-all}
 use Rattle.scan.specs.Settle.{Settled, settle}
 use Rattle.scan.specs.Feed.{feedBy, size}
-use Rattle.scan.specs.Scan.{counts, counted, foundOf, behind, marks, partBy, partOf}
+use Rattle.scan.specs.Scan.{countAll, counted, foundOf, behind, marks, partBy, partOf}
 use Rattle.frame.specs.declared.Reason.{Reason}
 use Rattle.frame.specs.declared.Verdict.{Verdict}
 use Rattle.scan.specs.declared.Passed.{Passed}
@@ -18,7 +18,7 @@ use Rattle.scan.specs.declared.Part.{Part}
 use Rattle.scan.specs.declared.Part.the-variants.{Block, Waits, Through}
 use Rattle.scan.proofs.Judging.{Judging}
 use Rattle.scan.proofs.Settling.{joined, settle-rest, settle-joined}
-use Rattle.scan.proofs.Marks.{counts-append, counts-skipped, counted-skipped, marks-max, marks-append}
+use Rattle.scan.proofs.Marks.{countAll-append, countAll-skipped, counted-skipped, marks-max, marks-append}
 use Rattle.scan.proofs.Literal.{reach, toLit, literal}
 
 -- ---- a part, and then the rest
@@ -30,13 +30,13 @@ module _ (judge : List ℕ → Verdict) (rest : List ℕ) where
   thenPart (Through a m) = partOf (settle judge rest) a m
 
   then-by : (o : Option ℕ) (rs : List Reason) (v : List ℕ) (a : Passed) (m : ℕ)
-      → partOf (joined judge rest o rs v) a m ≡ thenPart (partBy o v (counts a rs) (marks (a .skipped) m rs))
+      → partOf (joined judge rest o rs v) a m ≡ thenPart (partBy o v (countAll a rs) (marks (a .skipped) m rs))
   then-by (some n) rs v a m = refl
   then-by none rs (b ∷ bs) a m = refl
   then-by none rs [] a m =
       let s = settle judge rest in
-      ap₂ (λ (x : Passed) (y : ℕ). partBy (s .standing) (s .rest) x y) (counts-append a rs (s .passed))
-      (marks-append rs (s .passed) (a .skipped) m ∙ ap (λ (i : ℕ). marks i (marks (a .skipped) m rs) (s .passed)) (sym (counts-skipped a rs)))
+      ap₂ (λ (x : Passed) (y : ℕ). partBy (s .standing) (s .rest) x y) (countAll-append a rs (s .passed))
+      (marks-append rs (s .passed) (a .skipped) m ∙ ap (λ (i : ℕ). marks i (marks (a .skipped) m rs) (s .passed)) (sym (countAll-skipped a rs)))
 
   pub part-then : (s : List ℕ) (a : Passed) (m : ℕ) → partOf (settle judge (s ++ rest)) a m ≡ thenPart (partOf (settle (behind judge rest) s) a m)
   part-then s a m =
@@ -55,10 +55,10 @@ Kept most m (Waits a) = Unit {0}
 Kept most m (Through a t) = (a .skipped ≤ most) × (m ≤ t)
 
 kept-by : (o : Option ℕ) (rs : List Reason) (v : List ℕ) (a : Passed) (m most : ℕ) → a .skipped + length rs ≤ most
-    → Kept most m (partBy o v (counts a rs) (marks (a .skipped) m rs))
+    → Kept most m (partBy o v (countAll a rs) (marks (a .skipped) m rs))
 kept-by (some n) rs v a m most l = omega (arith, marks-max rs (a .skipped) m)
 kept-by none rs (b ∷ bs) a m most l = tt
-kept-by none rs [] a m most l = (omega (arith, counts-skipped a rs), omega (arith, marks-max rs (a .skipped) m))
+kept-by none rs [] a m most l = (omega (arith, countAll-skipped a rs), omega (arith, marks-max rs (a .skipped) m))
 
 pub kept : (judge : List ℕ → Verdict) (s : List ℕ) (a : Passed) (m : ℕ) → Kept (a .skipped + length s) m (partOf (settle judge s) a m)
 kept judge s a m =

@@ -21,12 +21,12 @@ use Rattle.scan.specs.declared.Part.the-variants.{Block, Waits, Through}
 abbrev pub count : Passed → Reason → Passed
 count a r = record { skipped = a .skipped + 1 }
 
-unfoldable pub counts : Passed → List Reason → Passed
-counts a [] = a
-counts a (r ∷ rs) = counts (count a r) rs
+unfoldable pub countAll : Passed → List Reason → Passed
+countAll a [] = a
+countAll a (r ∷ rs) = countAll (count a r) rs
 
 abbrev pub counted : List Reason → Passed
-counted rs = counts (record { skipped = 0 }) rs
+counted rs = countAll (record { skipped = 0 }) rs
 
 abbrev pub foundOf : Feeding → Found
 foundOf f = record { taken = f .taken; passed = counted (f .passed); block = size (f .standing) }
@@ -57,7 +57,7 @@ partBy none [] a m = Through a m
 
 -- a part settled, where a was passed before and m bytes had to be taken
 abbrev pub partOf : Settled → Passed → ℕ → Part
-partOf s a m = partBy (s .standing) (s .rest) (counts a (s .passed)) (marks (a .skipped) m (s .passed))
+partOf s a m = partBy (s .standing) (s .rest) (countAll a (s .passed)) (marks (a .skipped) m (s .passed))
 
 -- ---- places where no frame can start
 

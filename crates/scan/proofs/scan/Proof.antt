@@ -8,7 +8,7 @@ use lib.ListN.{length}
 use Rattle.frame.specs.Judge.{judged}
 use Rattle.scan.specs.Settle.{settle}
 use Rattle.scan.specs.Feed.{feedLit}
-use Rattle.scan.specs.Scan.{counts, foundOf, behind, marks}
+use Rattle.scan.specs.Scan.{countAll, foundOf, behind, marks}
 use Rattle.scan.specs.declared.Found.{Found}
 use Rattle.scan.specs.declared.Part.{Part}
 use Rattle.scan.proofs.Stable.{judging}
@@ -112,7 +112,7 @@ returns-4 : tie.Need-returns-4
 returns-4 c = sym (second (c .before .before .before) (c .before .passed4 .given .1))
 
 returns-5 : tie.Need-returns-5
-unfolding settle counts marks
+unfolding settle countAll marks
 returns-5 c = sym (second (c .before .before .before) (c .before .passed5 .given .1))
 
 pub scan-spec : {M : Type 1} → statement M

@@ -10,7 +10,7 @@ use lib.Seq.{take-all}
 use borrow.Author.Needs.{needs}
 use Rattle.frame.specs.Judge.{judged}
 use Rattle.scan.specs.Settle.{settle}
-use Rattle.scan.specs.Scan.{counts, behind, marks, partOf}
+use Rattle.scan.specs.Scan.{countAll, behind, marks, partOf}
 use Rattle.frame.specs.declared.Reason.the-variants.{CrcWrong}
 use Rattle.frame.specs.declared.Verdict.{Verdict}
 use Rattle.frame.specs.declared.Verdict.the-variants.{NoFrame}
@@ -134,7 +134,7 @@ greater-requires : tie.Need-greater-requires Inv-loop μ-loop
 greater-requires c κs = search needs
 
 returns-2 : tie.Need-returns-2 Inv-loop μ-loop
-unfolding counts marks
+unfolding countAll marks
 returns-2 c =
     let j = c .before .before .before .before in
     let a = entry (begin j) .args in
