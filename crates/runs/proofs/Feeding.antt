@@ -5,14 +5,13 @@ use mathlib.Core.List.{List, _++_}
 use mathlib.Core.Option.{Option, none, some}
 use Prim.Native.Nat.{ℕ, _+_, _-_, _≤_}
 use native.Mathlib.Omega.{arith}
-use lib.ListN.{length, take, length-drop, List·getD-append}
+use lib.ListN.{length, take, List·getD-append}
 use lib.Seq.{getD-take}
 use Rattle.wire.specs.Little.{littleAt}
 use Rattle.wire.proofs.Laws.{agree}
 use Rattle.frame.specs.Frame.{idAt, numberOf, revisionOf}
 use Rattle.frame.specs.Judge.{judged}
 use Rattle.frame.specs.declared.Verdict.{Verdict}
-use Rattle.frame.specs.declared.Verdict.the-variants.{Frame}
 use Rattle.scan.specs.Settle.{settle, judgedLast}
 use Rattle.scan.specs.Feed.{Feeding, feedLit, stop, size}
 use Rattle.scan.proofs.Judging.{There, Fits}
@@ -22,11 +21,8 @@ use Rattle.scan.proofs.Marks.{counted-skipped}
 use Rattle.scan.proofs.Calls.{call, fed-stopped, settle-sum}
 use Rattle.feed.specs.Hold.{numbersOf}
 use Rattle.feed.specs.declared.Fed.{Fed}
-use Rattle.reader.specs.Said.{Said}
-use Rattle.reader.specs.Outcome.{outcome}
 use Rattle.runs.specs.Calls.{reported}
 use Rattle.runs.specs.Code.{reportAt}
-use Rattle.reader.specs.declared.State.{State}
 
 -- ---- a standing block is there whole
 
