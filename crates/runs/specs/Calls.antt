@@ -4,9 +4,9 @@ use Prim.Native.Nat.{ℕ, zero, suc, _+_, _-_}
 use mathlib.Core.List.{List}
 use mathlib.Core.Option.{Option, none, some}
 use lib.ListN.{take}
-use Rattle.frame.specs.Settle.{finishLit}
-use Rattle.frame.specs.Feed.{Feeding, feedLit, stop}
-use Rattle.frame.specs.ReadRun.{blockAt}
+use Rattle.frame.specs.Frame.{idAt, numberOf, revisionOf}
+use Rattle.scan.specs.Settle.{settle, judgedLast}
+use Rattle.scan.specs.Feed.{Feeding, feedLit, stop}
 use Rattle.feed.specs.Hold.{restOf, numbersOf, holdOf}
 use Rattle.feed.specs.declared.Fed.{Fed}
 use Rattle.reader.specs.State.{limit}
@@ -27,7 +27,7 @@ front r = r .counts .taken - r .held
 
 -- a block of n bytes at the front of v, at the place p
 abbrev pub reported : ℕ → ℕ → List ℕ → Report
-reported p n v = record { place = p; number = blockAt p n v .number; revision = blockAt p n v .revision; size = n }
+reported p n v = record { place = p; number = numberOf (idAt (take n v) 0); revision = revisionOf (idAt (take n v) 0); size = n }
 
 abbrev pub reportIf : Option ℕ → ℕ → List ℕ → Option Report
 reportIf none p v = none
@@ -41,7 +41,7 @@ one (suc n) = 1
 -- what a call did is counted
 abbrev pub counted : Counts → Fed → Counts
 counted c f =
-    record { taken = c .taken + f .taken; blocks = c .blocks + one (f .standing); skipped = c .skipped + f .skipped }
+    record { taken = c .taken + f .taken; blocks = c .blocks + one (f .standing); skipped = c .skipped + f .passed .skipped }
 
 -- the run goes on in a phase by the numbers of what a call did
 abbrev pub runBy : Phase → Run → Fed → Run
@@ -83,7 +83,7 @@ finishingBy f s hold =
     record { said = finishSaid (f .standing) r (f .held); state = withRun s r; lent = holdOf f hold }
 
 unfoldable pub finishingOf : State → List ℕ → Feeding
-finishingOf s hold = stop (finishLit (restOf hold (s .run .held) (s .run .standing)))
+finishingOf s hold = stop (settle judgedLast (restOf hold (s .run .held) (s .run .standing)))
 
 unfoldable pub finishOf : State → List ℕ → Outcome
 finishOf s hold = unless (finishRefusal s hold) s hold (finishingBy (finishingOf s hold) s hold)

@@ -20,7 +20,7 @@ fn one_if(standing: usize) -> usize
 
 // The counts after a call that did what `f` says.
 fn counted(c: Counts, f: feed::Fed) -> Counts
-    requires { ⌜ (c .taken + f .taken ≤ 4294967295) × (c .blocks ≤ 4294967295) × (c .skipped + f .skipped ≤ 18446744073709551615) ⌝ }
+    requires { ⌜ (c .taken + f .taken ≤ 4294967295) × (c .blocks ≤ 4294967295) × (c .skipped + f .passed .skipped ≤ 18446744073709551615) ⌝ }
     ensures { λ r. ⌜ r ≡ counted c f ⌝ }
 {
     let standing = f.standing;
@@ -28,13 +28,13 @@ fn counted(c: Counts, f: feed::Fed) -> Counts
     Counts {
         taken: c.taken + f.taken,
         blocks: c.blocks + more,
-        skipped: c.skipped + f.skipped,
+        skipped: c.skipped + f.passed.skipped,
     }
 }
 
 // The run after a call that did and kept what `f` says.
 pub fn went_on(r: Run, phase: Phase, f: feed::Fed) -> Run
-    requires { ⌜ (r .counts .taken + f .taken ≤ 4294967295) × (r .counts .blocks ≤ 4294967295) × (r .counts .skipped + f .skipped ≤ 18446744073709551615) ⌝ }
+    requires { ⌜ (r .counts .taken + f .taken ≤ 4294967295) × (r .counts .blocks ≤ 4294967295) × (r .counts .skipped + f .passed .skipped ≤ 18446744073709551615) ⌝ }
     ensures { λ x. ⌜ x ≡ runBy phase r f ⌝ }
 {
     let before = r.counts;

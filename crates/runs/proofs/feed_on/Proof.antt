@@ -7,7 +7,7 @@ use mathlib.Core.Option.{Option, none, some}
 use Prim.Native.Nat.{ℕ, _-_, _≤_, min}
 use native.Mathlib.Omega.{arith}
 use lib.ListN.{length, drop, length-append, length-drop}
-use Rattle.frame.specs.Feed.{Feeding}
+use Rattle.scan.specs.Feed.{Feeding}
 use Rattle.feed.specs.Hold.{restOf, numbersOf, holdOf, Good}
 use Rattle.feed.specs.declared.Fed.{Fed}
 use Rattle.feed.proofs.Literally.{rest-length}

@@ -7,7 +7,7 @@ use mathlib.Core.Option.{Option, none, some}
 use Prim.Native.Nat.{ℕ, _+_, _-_, _≤_}
 use native.Mathlib.Omega.{arith}
 use lib.ListN.{length, drop, length-append, length-drop}
-use Rattle.frame.specs.Feed.{Feeding}
+use Rattle.scan.specs.Feed.{Feeding}
 use Rattle.feed.specs.Hold.{restOf, numbersOf, holdOf}
 use Rattle.feed.specs.declared.Fed.{Fed}
 use Rattle.feed.proofs.Literally.{rest-length}
@@ -65,7 +65,7 @@ fewer d =
 -- the sums fit
 fits : (d : tie.After-finish)
     → (entry d .args .s .run .counts .taken + d .finish .result .taken ≤ 4294967295) × (entry d .args .s .run .counts .blocks ≤ 4294967295)
-    × (entry d .args .s .run .counts .skipped + d .finish .result .skipped ≤ 18446744073709551615)
+    × (entry d .args .s .run .counts .skipped + d .finish .result .passed .skipped ≤ 18446744073709551615)
 fits d =
     let f = room (entry d) in
     let g = d .finish .ensures .1 .1 .taken in

@@ -22,7 +22,7 @@ returns : tie.Need-returns
 returns c =
     let m = c .before .before .before .before .before in
     let a = m .before .args in
-    ap (λ (k : ℕ). record { taken = a .c .taken + a .f .taken; blocks = a .c .blocks + k; skipped = a .c .skipped + a .f .skipped })
+    ap (λ (k : ℕ). record { taken = a .c .taken + a .f .taken; blocks = a .c .blocks + k; skipped = a .c .skipped + a .f .passed .skipped })
     (m .one-if .ensures .0)
 
 pub counted-spec : {M : Type 1} → statement M
