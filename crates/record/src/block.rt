@@ -15,12 +15,6 @@ use rows::FieldRow;
 use rows::Row;
 use table::Found;
 
-pub fn wide(x: u8) -> usize
-    ensures { λ r. ⌜ (r ≡ x) × (r < 256) ⌝ }
-{
-    x as usize
-}
-
 fn number(block: &[u8]) -> u16
     requires { ⌜ 8 ≤ length (now block) ⌝ }
     ensures { λ r. ⌜ r ≡ numberIn (now (block .entry)) ⌝ }
@@ -83,8 +77,8 @@ fn subs_fit(t: &[u8], row: Row, block: &[u8]) -> bool
         return true;
     }
     let at = row.start + row.bodies;
-    let count = wide(block[14]);
-    let size = wide(block[15]);
+    let count = rows::wide(block[14]);
+    let size = rows::wide(block[15]);
     let all = all_end(t, at, m, revision(block), size);
     ((count == 0) | all) & (16 + count * size <= block.len())
 }
@@ -128,7 +122,7 @@ pub fn sub_row_of(t: &[u8], block: &[u8], k: usize) -> Looked
             if m == 0 {
                 return Looked::Refused(Refusal::NoSuchField);
             }
-            if wide(block[14]) <= k {
+            if rows::wide(block[14]) <= k {
                 return Looked::Refused(Refusal::NoSuchField);
             }
             Looked::At(row)

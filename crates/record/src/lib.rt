@@ -69,7 +69,7 @@ fn part(block: &[u8], k: usize) -> &[u8]
     ensures { λ r. ⌜ (now r ≡ subBytes (now (block .entry)) k) × (length (now r) ≡ subLengthIn (now (block .entry))) ⌝ }
 {
     let length = block[15];
-    let size = block::wide(length);
+    let size = rows::wide(length);
     let a = 16 + k * size;
     let e = a + size;
     &block[a..e]
