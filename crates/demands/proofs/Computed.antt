@@ -17,7 +17,7 @@ use Rattle.table.specs.Decode.{rowsOf, blockOf, decode}
 use Rattle.table.specs.Rules.{fileOk, risingOk, rowOk, counts, indexOk, rowsOk, fieldsOk, isPair, blockOk, tableOk}
 use Rattle.table.specs.Lookup.{findRow}
 use Rattle.value.specs.Bits.{withSign, readAs, isDoNotUse, valueOf, fieldValue}
-use Rattle.record.specs.Block.{bodyFits, subsFit, seenRow, seen, seenSubRow, seenSub}
+use Rattle.block.specs.Block.{bodyFits, subsFit, seenRow, seen, seenSubRow, seenSub}
 use Rattle.record.specs.Calls.{fieldSaid, bodyField, subBytes, subField, subBlock, subBlockRefusal, stamp}
 use Rattle.reader.specs.State.{sound}
 use Rattle.tables.specs.Calls.{openRefusal, stageRefusal, withdrawRefusal, openOf, stageOf, withdrawOf}

@@ -1,4 +1,4 @@
--- `record::block::all_end` meets its contract: what is left of the rows gives the whole.
+-- `block::all_end` meets its contract: what is left of the rows gives the whole.
 -- Assumes nothing.
 use mathlib.Core.Path.{_≡_, sym, _∙_}
 use Prim.Native.Nat.{_≤_, _+_, _-_}
@@ -9,9 +9,9 @@ use borrow.Author.Tests.{not-true, not-false}
 use Rattle.table.specs.Lists.{tabulate, every}
 use Rattle.rows.specs.Places.{fieldAt}
 use Rattle.table.proofs.Lists.{every-done, every-stop, every-go}
-use Rattle.record.specs.Block.{endsBy}
-use Rattle.record.proofs.block.all_end.Statement.{statement}
-use Rattle.record.proofs.block.all_end.Tie as tie
+use Rattle.block.specs.Block.{endsBy}
+use Rattle.block.proofs.all_end.Statement.{statement}
+use Rattle.block.proofs.all_end.Tie as tie
 
 abbrev Inv-loop : tie.InvT-loop
 Inv-loop t at count revision n i₀ i =

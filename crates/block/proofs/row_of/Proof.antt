@@ -1,13 +1,13 @@
--- `record::block::row_of` meets its contract: each return is one law of `seen`.
+-- `block::row_of` meets its contract: each return is one law of `seen`.
 -- Assumes nothing.
 use mathlib.Core.Path.{_≡_, sym, _∙_}
 use borrow.Author.Tests.{not-true, not-false}
 use mathlib.Core.Bool.{true}
 use Rattle.frame.specs.Frame.{wholeFrame}
-use Rattle.record.proofs.Blocks.{eight, look-10, look-6, look-at, stands-at}
+use Rattle.block.proofs.Blocks.{eight, look-10, look-6, look-at, stands-at}
 use borrow.Author.Needs.{needs}
-use Rattle.record.proofs.block.row_of.Statement.{statement}
-use Rattle.record.proofs.block.row_of.Tie as tie
+use Rattle.block.proofs.row_of.Statement.{statement}
+use Rattle.block.proofs.row_of.Tie as tie
 
 whole : (c : tie.Else1) → wholeFrame (c .before .before .before .before .args .block .now) ≡ true
 whole c = sym (c .before .is-frame .ensures) ∙ not-false _ (c .if1 .left)

@@ -1,11 +1,10 @@
--- `record::block::subs_fit` meets its contract: without sub-fields there is nothing to test.
+-- `block::subs_fit` meets its contract: without sub-fields there is nothing to test.
 -- Assumes nothing.
 use native.Mathlib.Omega.{arith}
-use Rattle.record.proofs.Parts.{small}
-use Rattle.record.proofs.Blocks.{subs-none, subs-some}
+use Rattle.block.proofs.Blocks.{small, subs-none, subs-some}
 use borrow.Author.Needs.{needs}
-use Rattle.record.proofs.block.subs_fit.Statement.{statement}
-use Rattle.record.proofs.block.subs_fit.Tie as tie
+use Rattle.block.proofs.subs_fit.Statement.{statement}
+use Rattle.block.proofs.subs_fit.Tie as tie
 
 returns : tie.Need-returns
 returns c = subs-none _ _ _ (c .if1 .taken)

@@ -1,8 +1,8 @@
--- `record::block::ends_by` meets its contract.
+-- `block::ends_by` meets its contract.
 -- Assumes nothing.
 use borrow.Author.Needs.{needs}
-use Rattle.record.proofs.block.ends_by.Statement.{statement}
-use Rattle.record.proofs.block.ends_by.Tie as tie
+use Rattle.block.proofs.ends_by.Statement.{statement}
+use Rattle.block.proofs.ends_by.Tie as tie
 
 size-requires : tie.Need-size-requires
 size-requires c κs = search needs

@@ -1,10 +1,10 @@
--- `record::block::sub_row_of` meets its contract: each return is one law of `seenSub`.
+-- `block::sub_row_of` meets its contract: each return is one law of `seenSub`.
 -- Assumes nothing.
 use native.Mathlib.Omega.{arith}
-use Rattle.record.proofs.Blocks.{fine-at, sub-refused, sub-none, sub-past, sub-at}
+use Rattle.block.proofs.Blocks.{fine-at, sub-refused, sub-none, sub-past, sub-at}
 use borrow.Author.Needs.{needs}
-use Rattle.record.proofs.block.sub_row_of.Statement.{statement}
-use Rattle.record.proofs.block.sub_row_of.Tie as tie
+use Rattle.block.proofs.sub_row_of.Statement.{statement}
+use Rattle.block.proofs.sub_row_of.Tie as tie
 
 row-of-requires : tie.Need-row-of-requires
 row-of-requires c κs = search needs

@@ -1,13 +1,13 @@
--- `record::block::judged` meets its contract: each return is one law of `seenRow`.
+-- `block::judged` meets its contract: each return is one law of `seenRow`.
 -- Assumes nothing.
 use mathlib.Core.Path.{_≡_, sym, _∙_}
 use borrow.Author.Tests.{not-true, not-false}
 use mathlib.Core.Bool.{true}
 use Rattle.table.specs.Decode.{blockOf}
-use Rattle.record.specs.Block.{bodyFits}
-use Rattle.record.proofs.Blocks.{eight, sixteen, long, judge-7, judge-8, judge-at}
-use Rattle.record.proofs.block.judged.Statement.{statement}
-use Rattle.record.proofs.block.judged.Tie as tie
+use Rattle.block.specs.Block.{bodyFits}
+use Rattle.block.proofs.Blocks.{eight, sixteen, long, judge-7, judge-8, judge-at}
+use Rattle.block.proofs.judged.Statement.{statement}
+use Rattle.block.proofs.judged.Tie as tie
 
 fits : (c : tie.Else1)
     → bodyFits (c .before .before .before .before .args .block .now) (blockOf (c .before .before .before .before .args .t .now) (c .before .before .before .before .args .row)) ≡ true

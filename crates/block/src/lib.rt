@@ -7,13 +7,18 @@ ghost use Rattle.table.specs.Lists.{tabulate, every};
 ghost use Rattle.rows.specs.Places.{fieldCount, fieldAt};
 ghost use Rattle.table.specs.Decode.{blockOf};
 ghost use Rattle.table.specs.Rules.{tableOk};
-ghost use Rattle.record.specs.Block.{numberIn, revisionIn, endsBy, bodyFits, subsFit, Judging, Looking, SubLooking};
+ghost use Rattle.block.specs.Block.{numberIn, revisionIn, endsBy, bodyFits, subsFit, Judging, Looking, SubLooking};
 ghost use Rattle.frame.specs.Frame.{wholeFrame};
-use crate::Looked;
 use refusal::Refusal;
 use rows::FieldRow;
 use rows::Row;
 use table::Found;
+
+// The row that a block is read by, or why it is refused.
+pub enum Looked {
+    At(Row),
+    Refused(Refusal),
+}
 
 fn number(block: &[u8]) -> u16
     requires { ⌜ 8 ≤ length (now block) ⌝ }

@@ -5,7 +5,7 @@ use mathlib.Core.List.{List}
 use mathlib.Core.Bool.{Bool, true, false, _&&_, _||_}
 use Prim.Native.Nat.{ℕ, suc, _+_, _-_, _*_, _%_, _<_, _≤_}
 use native.Mathlib.Omega.{arith}
-use native.Mathlib.Nat.{mul-le-mul-right, suc-mul}
+use native.Mathlib.Nat.{mul-le-mul, mul-le-mul-right, suc-mul}
 use lib.ListN.{length}
 use lib.Dec.{leb, eqb}
 use borrow.Author.Tests.{leb-true, eqb-true, lt-ltb, le-ltb, ne-eqb}
@@ -22,9 +22,13 @@ use Rattle.table.specs.Lookup.{Stands, StandsIfAny, Finding}
 use Rattle.table.specs.Lookup as lookup
 use Rattle.table.proofs.Bools.{both}
 use Rattle.table.proofs.Lists.{length-tab}
-use Rattle.record.specs.declared.Looked.{Looked}
-use Rattle.record.specs.declared.Looked.the-variants.{At, Refused}
-use Rattle.record.specs.Block.{numberIn, revisionIn, countIn, subLengthIn, endsBy, bodyFits, subsFit, row, seenRow, seen, seenSubRow, seenSub, meant, Fine, FineIfAny, Judging, Looking, SubLooking}
+use Rattle.block.specs.declared.Looked.{Looked}
+use Rattle.block.specs.declared.Looked.the-variants.{At, Refused}
+use Rattle.block.specs.Block.{numberIn, revisionIn, countIn, subLengthIn, endsBy, bodyFits, subsFit, row, seenRow, seen, seenSubRow, seenSub, meant, Fine, FineIfAny, Judging, Looking, SubLooking}
+
+-- the product of two bytes
+pub small : (k n : ℕ) → k < 256 → n < 256 → k * n ≤ 65025
+small k n a b = let u : k ≤ 255 = omega arith in let v : n ≤ 255 = omega arith in mul-le-mul u v
 
 -- a whole frame has an allowed length
 module _ (b : List ℕ) (e : wholeFrame b ≡ true) where

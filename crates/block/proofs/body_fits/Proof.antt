@@ -1,9 +1,9 @@
--- `record::block::body_fits` meets its contract.
+-- `block::body_fits` meets its contract.
 -- Assumes nothing.
-use Rattle.record.proofs.Blocks.{fits-by}
+use Rattle.block.proofs.Blocks.{fits-by}
 use borrow.Author.Needs.{needs}
-use Rattle.record.proofs.block.body_fits.Statement.{statement}
-use Rattle.record.proofs.block.body_fits.Tie as tie
+use Rattle.block.proofs.body_fits.Statement.{statement}
+use Rattle.block.proofs.body_fits.Tie as tie
 
 revision-requires : tie.Need-revision-requires
 revision-requires c κs = search needs

@@ -16,8 +16,8 @@ use Rattle.table.specs.Rows.{BlockRow, Table, ends}
 use Rattle.rows.specs.Places.{fieldCount}
 use Rattle.table.specs.Decode.{blockOf, decode}
 use Rattle.table.specs.Lookup.{carried, findRow}
-use Rattle.record.specs.declared.Looked.{Looked}
-use Rattle.record.specs.declared.Looked.the-variants as looked
+use Rattle.block.specs.declared.Looked.{Looked}
+use Rattle.block.specs.declared.Looked.the-variants as looked
 
 -- "The low thirteen bits of the ID are the block number, the top three its revision."
 abbrev pub numberIn : List ℕ → ℕ
