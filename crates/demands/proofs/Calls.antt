@@ -20,7 +20,8 @@ use Rattle.framing.proofs.Reading.{both, placesFrom, blocksOf, answer, both-bot
 use Rattle.reader.specs.State.{limit, sound}
 use Rattle.reader.specs.Refusals.{longHold}
 use Rattle.runs.specs.Refusals.{isFeeding, feedRefusal}
-use Rattle.runs.specs.Calls.{one, runOn, feedingOf, finishingOf, phaseAfter}
+use Rattle.reader.specs.Counting.{one}
+use Rattle.runs.specs.Calls.{runOn, feedingOf, finishingOf, phaseAfter}
 use Rattle.reader.specs.declared.Phase.{Phase}
 use Rattle.reader.specs.declared.Phase.the-variants as phase
 use Rattle.reader.proofs.Laws.{passes}

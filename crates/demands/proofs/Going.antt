@@ -15,7 +15,8 @@ use Rattle.feed.specs.Hold.{restOf, holdOf}
 use Rattle.feed.proofs.Literally.{goes-on, rest-length}
 use Rattle.reader.specs.State.{sound}
 use Rattle.runs.specs.Refusals.{bytesRefusal}
-use Rattle.runs.specs.Calls.{reported, reportIf, front, runOn, withRun, finishSaid, bytesOf}
+use Rattle.reader.specs.Counting.{withRun}
+use Rattle.runs.specs.Calls.{reported, reportIf, front, runOn, finishSaid, bytesOf}
 use Rattle.reader.specs.declared.Phase.{Phase}
 use Rattle.reader.specs.declared.Run.{Run}
 use Rattle.runs.proofs.Feeding.{WholeIf}

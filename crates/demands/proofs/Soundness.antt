@@ -27,7 +27,8 @@ use Rattle.runs.specs.Refusals.{feedRefusal, finishRefusal}
 use Rattle.reader.specs.Refusals as refusals
 use Rattle.reader.specs.Said.{took}
 use Rattle.reader.specs.Outcome.{Outcome, unless}
-use Rattle.runs.specs.Calls.{one, reportIf, front, finishSaid, phaseAfter, runOn, withRun, feedingBy, feedingOf, feedOf, finishingBy, finishingOf, finishOf}
+use Rattle.reader.specs.Counting.{one, withRun}
+use Rattle.runs.specs.Calls.{reportIf, front, finishSaid, phaseAfter, runOn, feedingBy, feedingOf, feedOf, finishingBy, finishingOf, finishOf}
 use Rattle.reader.specs.declared.Phase.{Phase}
 use Rattle.reader.specs.declared.Phase.the-variants as phase
 use Rattle.reader.specs.declared.Run.{Run}

@@ -1,6 +1,6 @@
 -- What Feed, Finish and Bytes answer and leave.
 -- Assumes nothing.
-use Prim.Native.Nat.{ℕ, zero, suc, _+_, _-_}
+use Prim.Native.Nat.{ℕ, _-_}
 use mathlib.Core.List.{List}
 use mathlib.Core.Option.{Option, none, some}
 use lib.ListN.{take}
@@ -8,13 +8,12 @@ use Rattle.frame.specs.Frame.{idAt, numberOf, revisionOf}
 use Rattle.scan.specs.Settle.{settle, judgedLast}
 use Rattle.scan.specs.Feed.{Feeding, feedLit, stop}
 use Rattle.feed.specs.Hold.{restOf, numbersOf, holdOf}
-use Rattle.feed.specs.declared.Fed.{Fed}
 use Rattle.reader.specs.State.{limit}
 use Rattle.reader.specs.Said.{Report, Said, took, found, ended}
+use Rattle.reader.specs.Counting.{runBy, withRun}
 use Rattle.reader.specs.Outcome.{Outcome, unless, partUnless}
 use Rattle.reader.specs.declared.Phase.{Phase}
 use Rattle.reader.specs.declared.Phase.the-variants as phase
-use Rattle.reader.specs.declared.Counts.{Counts}
 use Rattle.reader.specs.declared.Run.{Run}
 use Rattle.reader.specs.declared.State.{State}
 use Rattle.runs.specs.Refusals.{feedRefusal, finishRefusal, bytesRefusal}
@@ -33,25 +32,9 @@ abbrev pub reportIf : Option ℕ → ℕ → List ℕ → Option Report
 reportIf none p v = none
 reportIf (some n) p v = some (reported p n v)
 
--- 1 for a block of so many bytes, 0 for none
-abbrev pub one : ℕ → ℕ
-one zero = 0
-one (suc n) = 1
-
--- what a call did is counted
-abbrev pub counted : Counts → Fed → Counts
-counted c f =
-    record { taken = c .taken + f .taken; blocks = c .blocks + one (f .standing); skipped = c .skipped + f .passed .skipped }
-
 -- the run goes on in a phase by the numbers of what a call did
-abbrev pub runBy : Phase → Run → Fed → Run
-runBy x r f = record { phase = x; held = f .held; standing = f .standing; counts = counted (r .counts) f }
-
 abbrev pub runOn : Phase → Run → Feeding → Run
 runOn x r f = runBy x r (numbersOf f)
-
-abbrev pub withRun : State → Run → State
-withRun s r = record { run = r; «in_force» = s .«in_force»; waiting = s .waiting }
 
 -- "drops the block last reported. .. Answers the count taken, with Block (place, number, revision, length) or More."
 abbrev pub feedingBy : Feeding → State → List ℕ → Outcome

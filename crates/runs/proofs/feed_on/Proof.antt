@@ -15,7 +15,8 @@ use Rattle.reader.specs.State.{limit, sound}
 use Rattle.reader.specs.Said.{Report, took}
 use Rattle.reader.specs.Refusals.{longHold}
 use Rattle.runs.specs.Refusals.{feedRefusal}
-use Rattle.runs.specs.Calls.{reported, reportIf, front, runBy, runOn, withRun, feedingOf}
+use Rattle.reader.specs.Counting.{runBy, withRun}
+use Rattle.runs.specs.Calls.{reported, reportIf, front, runOn, feedingOf}
 use Rattle.runs.specs.Code.{reportAt}
 use Rattle.reader.specs.declared.Phase.the-variants as phase
 use Rattle.reader.specs.declared.Run.{Run}

@@ -15,7 +15,8 @@ use Rattle.reader.specs.State.{sound}
 use Rattle.reader.specs.Said.{ended, found}
 use Rattle.reader.specs.Refusals.{longHold}
 use Rattle.runs.specs.Refusals.{finishRefusal}
-use Rattle.runs.specs.Calls.{reported, front, finishSaid, phaseAfter, runBy, runOn, withRun, finishingOf}
+use Rattle.reader.specs.Counting.{runBy, withRun}
+use Rattle.runs.specs.Calls.{reported, front, finishSaid, phaseAfter, runOn, finishingOf}
 use Rattle.runs.specs.Code.{reportAt}
 use Rattle.reader.specs.declared.Phase.{Phase}
 use Rattle.reader.specs.declared.Phase.the-variants as phase

@@ -1,10 +1,10 @@
--- `runs::after::went_on` meets its contract.
+-- `reader::after::went_on` meets its contract.
 -- Assumes nothing.
 use mathlib.Core.Path.{ap}
 use Rattle.reader.specs.declared.Counts.{Counts}
 use borrow.Author.Needs.{needs}
-use Rattle.runs.proofs.after.went_on.Statement.{statement}
-use Rattle.runs.proofs.after.went_on.Tie as tie
+use Rattle.reader.proofs.after.went_on.Statement.{statement}
+use Rattle.reader.proofs.after.went_on.Tie as tie
 
 counted-requires : tie.Need-counted-requires
 counted-requires c κs = search needs

@@ -1,10 +1,10 @@
--- `runs::after::counted` meets its contract.
+-- `reader::after::counted` meets its contract.
 -- Assumes nothing.
 use mathlib.Core.Path.{ap}
 use Prim.Native.Nat.{ℕ, _+_}
 use borrow.Author.Needs.{needs}
-use Rattle.runs.proofs.after.counted.Statement.{statement}
-use Rattle.runs.proofs.after.counted.Tie as tie
+use Rattle.reader.proofs.after.counted.Statement.{statement}
+use Rattle.reader.proofs.after.counted.Tie as tie
 
 one-if-requires : tie.Need-one-if-requires
 one-if-requires c κs = search needs

@@ -1,12 +1,12 @@
--- `runs::after::one_if` meets its contract.
+-- `reader::after::one_if` meets its contract.
 -- Assumes nothing.
 use mathlib.Core.Path.{_≡_, refl}
 use Prim.Native.Nat.{ℕ, zero, suc}
 use native.Mathlib.Omega.{arith}
-use Rattle.runs.specs.Calls.{one}
+use Rattle.reader.specs.Counting.{one}
 use borrow.Author.Needs.{needs}
-use Rattle.runs.proofs.after.one_if.Statement.{statement}
-use Rattle.runs.proofs.after.one_if.Tie as tie
+use Rattle.reader.proofs.after.one_if.Statement.{statement}
+use Rattle.reader.proofs.after.one_if.Tie as tie
 
 some-one : (n : ℕ) → (n ≡ 0 → ⊥) → 1 ≡ one n
 some-one zero f = absurd (f refl)

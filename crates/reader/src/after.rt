@@ -1,15 +1,11 @@
-// After a call: the run, its counts, and the block that stands.
+// After a call: the run and its counts. Here alone what a call did is added to the counts.
 ghost use mathlib.Core.Path.{_≡_};
 ghost use Prim.Native.Nat.{_+_, _≤_};
-ghost use lib.ListN.{length};
-ghost use Rattle.runs.specs.Said.{reportOf};
-ghost use Rattle.runs.specs.Calls.{one, counted, runBy, withRun};
-ghost use Rattle.runs.specs.Code.{reportAt};
-use crate::Block;
-use reader::Counts;
-use reader::Phase;
-use reader::Run;
-use reader::State;
+ghost use Rattle.reader.specs.Counting.{one, counted, runBy, withRun};
+use crate::Counts;
+use crate::Phase;
+use crate::Run;
+use crate::State;
 
 // 1 where a block stands.
 fn one_if(standing: usize) -> usize
@@ -53,19 +49,5 @@ pub fn with_run(s: State, r: Run) -> State
         run: r,
         in_force: s.in_force,
         waiting: s.waiting,
-    }
-}
-
-// The block of n bytes that stands at the front of the hold, at the place p.
-pub fn block_at(hold: &[u8], p: usize, n: usize) -> Block
-    requires { ⌜ 6 ≤ length (now hold) ⌝ }
-    ensures { λ r. ⌜ reportOf r ≡ reportAt (now (hold .entry)) p n ⌝ }
-{
-    let id = wire::u2(hold, 4);
-    Block {
-        place: p,
-        number: wire::number(id),
-        revision: wire::revision(id),
-        length: n,
     }
 }
