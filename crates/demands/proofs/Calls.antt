@@ -14,7 +14,7 @@ use Rattle.framing.specs.ReadRun.{Block, readRun}
 use Rattle.frame.specs.Judge.{judged}
 use Rattle.scan.proofs.Stable.{judging, last-fits}
 use Rattle.scan.proofs.Settling.{settle-rest, settle-front}
-use Rattle.scan.proofs.Marks.{counted-skipped}
+use Rattle.scan.proofs.Marks.{passedOf-skipped}
 use Rattle.scan.proofs.Calls as calls
 use Rattle.framing.proofs.Reading.{both, placesFrom, blocksOf, answer, both-both, fed-answers, last-answers}
 use Rattle.reader.specs.State.{limit, sound}
@@ -91,7 +91,7 @@ module _ (x : Phase) (w : World) (bs : List ℕ) (f : Feeding) (blk : List Block
         count = omega (arith, r .count, length-append ts bs, n);
         sum = omega (arith, r .sum, length-append b blk, ap length a, length-blocks (f .standing) (place w + length (f .passed)) (f .held) (h .whole));
         places = r .places ++ placesFrom (place w) (length (f .passed));
-        skips = omega (arith, r .skips, length-append (r .places) (placesFrom (place w) (length (f .passed))), places-count (place w) (length (f .passed)), counted-skipped (f .passed));
+        skips = omega (arith, r .skips, length-append (r .places) (placesFrom (place w) (length (f .passed))), places-count (place w) (length (f .passed)), passedOf-skipped (f .passed));
         rest = rest-after ts (r .count) (r .rest);
         so = λ zs y.
             ap (readRun 0) (append-assoc ts bs zs)

@@ -16,7 +16,7 @@ use Rattle.frame.proofs.Tests.{both-true}
 use Rattle.feed.proofs.Bounds.{take-bytes, drop-bytes, fed-held}
 use Rattle.frame.specs.Judge.{judged}
 use Rattle.scan.proofs.Stable.{judging}
-use Rattle.scan.proofs.Marks.{counted-skipped}
+use Rattle.scan.proofs.Marks.{passedOf-skipped}
 use Rattle.scan.proofs.Calls.{call, settle-sum}
 use Rattle.feed.specs.Hold.{restOf}
 use Rattle.feed.proofs.Literally.{rest-length}
@@ -75,7 +75,7 @@ went-on x s b n F h e sum l t o =
       front = o;
       among = omega arith;
       count = omega (arith, h .count, one-le (size (F .standing)));
-      sum = omega (arith, h .sum, sum, o, counted-skipped (F .passed));
+      sum = omega (arith, h .sum, sum, o, passedOf-skipped (F .passed));
       most = omega (arith, h .most, t);
       force = h .force;
       wait = h .wait;

@@ -15,7 +15,7 @@ use Rattle.scan.specs.Scan.{foundOf}
 use Rattle.scan.specs.declared.Found.{Found}
 use Rattle.scan.proofs.Stable.{judging, last-fits}
 use Rattle.scan.proofs.Settling.{settle-rest, settle-front}
-use Rattle.scan.proofs.Marks.{counted-skipped}
+use Rattle.scan.proofs.Marks.{passedOf-skipped}
 use Rattle.scan.proofs.Calls.{Call, call, fed-holds}
 use Rattle.scan.proofs.Literal.{toLit, literal}
 use Rattle.feed.specs.declared.Fed.{Fed}
@@ -52,7 +52,7 @@ module _ (hold : List ℕ) (held block : ℕ) (piece : List ℕ) (room : ℕ) (f
   taken-is = ap (λ (x : Found). x .taken) came
 
   passed-is : f .passed .skipped ≡ length (fed .passed)
-  passed-is = ap (λ (x : Found). x .passed .skipped) came ∙ counted-skipped (fed .passed)
+  passed-is = ap (λ (x : Found). x .passed .skipped) came ∙ passedOf-skipped (fed .passed)
 
   block-is : f .block ≡ size (fed .standing)
   block-is = ap (λ (x : Found). x .block) came
@@ -98,7 +98,7 @@ module _ (h : List ℕ) (held block : ℕ) (front : block ≤ held) (fits : held
   last = settle judgedLast (restOf h held block)
 
   end-passed : f .passed .skipped ≡ length (last .passed)
-  end-passed = ap (λ (x : Found). x .passed .skipped) came ∙ counted-skipped (last .passed)
+  end-passed = ap (λ (x : Found). x .passed .skipped) came ∙ passedOf-skipped (last .passed)
 
   end-len : length (restOf h held block) ≡ held - block
   end-len = rest-length h held block front fits

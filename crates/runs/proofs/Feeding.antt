@@ -17,7 +17,7 @@ use Rattle.scan.specs.Feed.{Feeding, feedLit, stop, size}
 use Rattle.scan.proofs.Judging.{There, Fits}
 use Rattle.scan.proofs.Stable.{judging, last-fits}
 use Rattle.scan.proofs.Settling.{Stopped, settle-stopped}
-use Rattle.scan.proofs.Marks.{counted-skipped}
+use Rattle.scan.proofs.Marks.{passedOf-skipped}
 use Rattle.scan.proofs.Calls.{call, fed-stopped, settle-sum}
 use Rattle.feed.specs.Hold.{numbersOf}
 use Rattle.feed.specs.declared.Fed.{Fed}
@@ -83,7 +83,7 @@ few-by : (n : ℕ) (F : Feeding) (f : Fed) → n + F .taken ≡ length (F .passe
 few-by n F f k e =
     let a = ap (λ (x : Fed). x .taken) e in
     let b = ap (λ (x : Fed). x .held) e in
-    let c = ap (λ (x : Fed). x .passed .skipped) e ∙ counted-skipped (F .passed) in
+    let c = ap (λ (x : Fed). x .passed .skipped) e ∙ passedOf-skipped (F .passed) in
     record { held = omega arith; skipped = omega arith }
 
 pub fed-few : (h piece : List ℕ) (room : ℕ) (f : Fed) → f ≡ numbersOf (feedLit h piece room) → Few (length h) f

@@ -7,7 +7,7 @@ use native.Mathlib.Nat.{add-zero, zero-add}
 use native.Mathlib.Omega.{arith}
 use lib.ListN.{length}
 use Rattle.scan.specs.Settle.{Settled, settleBy, settle}
-use Rattle.scan.specs.Scan.{count, countAll, counted, raised, marks}
+use Rattle.scan.specs.Scan.{count, countAll, passedOf, raised, marks}
 use Rattle.frame.specs.declared.Reason.{Reason}
 use Rattle.frame.specs.declared.Reason.the-variants.{NoSync, LengthNotAllowed, CrcWrong, FewLeft, PastEnd}
 use Rattle.frame.specs.declared.Verdict.{Verdict}
@@ -29,8 +29,8 @@ countAll-skipped a [] = sym (add-zero (a .skipped))
 countAll-skipped a (r ∷ xs) = omega (arith, countAll-skipped (count a r) xs)
 
 -- the skipped count is the length of the list
-pub counted-skipped : (xs : List Reason) → counted xs .skipped ≡ length xs
-counted-skipped xs = countAll-skipped (record { skipped = 0 }) xs ∙ zero-add (length xs)
+pub passedOf-skipped : (xs : List Reason) → passedOf xs .skipped ≡ length xs
+passedOf-skipped xs = countAll-skipped (record { skipped = 0 }) xs ∙ zero-add (length xs)
 
 -- ---- marks
 

@@ -9,7 +9,7 @@ use lib.ListN.{length, length-append}
 use lib.Seq.{take-all}
 use Rattle.scan.specs.Settle.{Settled, settle}
 use Rattle.scan.specs.Feed.{feedBy, size}
-use Rattle.scan.specs.Scan.{countAll, counted, foundOf, behind, marks, partBy, partOf}
+use Rattle.scan.specs.Scan.{countAll, passedOf, foundOf, behind, marks, partBy, partOf}
 use Rattle.frame.specs.declared.Reason.{Reason}
 use Rattle.frame.specs.declared.Verdict.{Verdict}
 use Rattle.scan.specs.declared.Passed.{Passed}
@@ -18,7 +18,7 @@ use Rattle.scan.specs.declared.Part.{Part}
 use Rattle.scan.specs.declared.Part.the-variants.{Block, Waits, Through}
 use Rattle.scan.proofs.Judging.{Judging}
 use Rattle.scan.proofs.Settling.{joined, settle-rest, settle-joined}
-use Rattle.scan.proofs.Marks.{countAll-append, countAll-skipped, counted-skipped, marks-max, marks-append}
+use Rattle.scan.proofs.Marks.{countAll-append, countAll-skipped, passedOf-skipped, marks-max, marks-append}
 use Rattle.scan.proofs.Literal.{reach, toLit, literal}
 
 -- ---- a part, and then the rest
@@ -74,11 +74,11 @@ foundBy (Waits a) n t = record { taken = t; passed = a; block = 0 }
 foundBy (Through a m) n t = record { taken = t; passed = a; block = 0 }
 
 found-by : (o : Option ℕ) (rs : List Reason) (v : List ℕ) (w n t : ℕ) → w ≡ n + t
-    → _≡_ {A = Found} (record { taken = reach o rs n w - n; passed = counted rs; block = size o }) (foundBy (partBy o v (counted rs) (marks 0 n rs)) n t)
+    → _≡_ {A = Found} (record { taken = reach o rs n w - n; passed = passedOf rs; block = size o }) (foundBy (partBy o v (passedOf rs) (marks 0 n rs)) n t)
 found-by (some l) rs v w n t e =
-    ap (λ (i : ℕ). record { taken = max (marks 0 n rs) (i + l) - n; passed = counted rs; block = l }) (sym (counted-skipped rs))
-found-by none rs (b ∷ bs) w n t e = let f : w - n ≡ t = omega arith in ap (λ (i : ℕ). record { taken = i; passed = counted rs; block = 0 }) f
-found-by none rs [] w n t e = let f : w - n ≡ t = omega arith in ap (λ (i : ℕ). record { taken = i; passed = counted rs; block = 0 }) f
+    ap (λ (i : ℕ). record { taken = max (marks 0 n rs) (i + l) - n; passed = passedOf rs; block = l }) (sym (passedOf-skipped rs))
+found-by none rs (b ∷ bs) w n t e = let f : w - n ≡ t = omega arith in ap (λ (i : ℕ). record { taken = i; passed = passedOf rs; block = 0 }) f
+found-by none rs [] w n t e = let f : w - n ≡ t = omega arith in ap (λ (i : ℕ). record { taken = i; passed = passedOf rs; block = 0 }) f
 
 pub found : (judge : List ℕ → Verdict) → Judging judge → (h piece : List ℕ)
     → foundOf (feedBy judge h piece (length piece)) ≡ foundBy (partOf (settle judge (h ++ piece)) (record { skipped = 0 }) (length h)) (length h) (length piece)

@@ -25,11 +25,11 @@ unfoldable pub countAll : Passed → List Reason → Passed
 countAll a [] = a
 countAll a (r ∷ rs) = countAll (count a r) rs
 
-abbrev pub counted : List Reason → Passed
-counted rs = countAll (record { skipped = 0 }) rs
+abbrev pub passedOf : List Reason → Passed
+passedOf rs = countAll (record { skipped = 0 }) rs
 
 abbrev pub foundOf : Feeding → Found
-foundOf f = record { taken = f .taken; passed = counted (f .passed); block = size (f .standing) }
+foundOf f = record { taken = f .taken; passed = passedOf (f .passed); block = size (f .standing) }
 
 -- ---- a part of the run
 
