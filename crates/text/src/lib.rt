@@ -1,4 +1,4 @@
-// Text: words, numbers and the lister's lines, collected in a buffer for standard output; and words read.
+// Text: words, numbers and the lister's lines, collected in a buffer for standard output.
 ghost use Prim.Native.Nat.{_+_, _≤_};
 ghost use lib.ListN.{length, take};
 ghost use mathlib.Core.Path.{_≡_};
@@ -7,8 +7,6 @@ ghost use Rattle.reader.specs.Said.{reportOf};
 ghost use Rattle.text.specs.Lines.{decimal, spaced, fourHex, blockWords, blockLine, endLine};
 ghost use Rattle.text.specs.Samples.{Samples};
 use reader::Block;
-
-pub mod words; // words.rt: where a word ends, decimal numbers, bytes in hex
 
 // The lister's longest line: a word of at most five bytes, four numbers with a space before each, and the line's end.
 pub const ROOM: usize = 90;
