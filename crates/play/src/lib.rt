@@ -241,7 +241,41 @@ fn put(
     if fits { quiet(b) } else { bad(b) }
 }
 
-// Plays one call. After one that the reader answers, every buffer is lent whole again.
+// After a call that the reader answers, every buffer is lent whole again.
+fn ran(done: Done) -> Played
+    ensures { λ r. ⌜ T (plain (r .turn)) ⌝ }
+{
+    let state = done.state;
+    let reply = done.reply;
+    Played {
+        bench: bench::after(state),
+        turn: Turn::Ran(reply),
+    }
+}
+
+fn asked(state: State, reply: AskReply) -> Played
+    requires { ⌜ T (plainly reply) ⌝ }
+    ensures { λ r. ⌜ T (plain (r .turn)) ⌝ }
+{
+    Played {
+        bench: bench::after(state),
+        turn: Turn::Asked(reply),
+    }
+}
+
+// A line that asks the reader nothing and is lent no buffer.
+fn set(b: Bench, call: Call) -> Played
+    ensures { λ r. ⌜ T (plain (r .turn)) ⌝ }
+{
+    match call {
+        Call::Pass => quiet(b),
+        Call::Poke(part, v) => quiet(bench::poked(b, part, v as usize)),
+        Call::Size(buffer, n) => quiet(bench::sized(b, buffer, n as usize)),
+        _ => bad(b),
+    }
+}
+
+// Plays one call.
 pub fn call(
     b: Bench,
     call: Call,
@@ -253,27 +287,9 @@ pub fn call(
     ensures { λ r. ⌜ T (plain (r .turn)) ⌝ }
 {
     match call {
-        Call::Pass => quiet(b),
-        Call::Bad => bad(b),
-        Call::Run(run) => {
-            let done = run_call(b, run, given, hold, force, waiting);
-            let state = done.state;
-            let reply = done.reply;
-            Played {
-                bench: bench::after(state),
-                turn: Turn::Ran(reply),
-            }
-        }
-        Call::Ask(ask) => {
-            let reply = ask_call(b, ask, given, hold, force);
-            let state = b.state;
-            Played {
-                bench: bench::after(state),
-                turn: Turn::Asked(reply),
-            }
-        }
-        Call::Poke(part, v) => quiet(bench::poked(b, part, v as usize)),
+        Call::Run(run) => ran(run_call(b, run, given, hold, force, waiting)),
+        Call::Ask(ask) => asked(b.state, ask_call(b, ask, given, hold, force)),
         Call::Put(buffer, offset) => put(b, buffer, offset as usize, given, hold, force, waiting),
-        Call::Size(buffer, n) => quiet(bench::sized(b, buffer, n as usize)),
+        _ => set(b, call),
     }
 }
