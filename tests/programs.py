@@ -2,6 +2,7 @@
 to write."""
 import os
 import subprocess
+import threading
 from concurrent.futures import ThreadPoolExecutor
 
 TOP = os.path.dirname(os.path.dirname(os.path.abspath(__file__)))
@@ -21,13 +22,15 @@ class Cases:
 
     def __init__(self):
         self.passed = self.failed = 0
+        self.lock = threading.Lock()
 
     def expect(self, name, ok, found=""):
-        if ok:
-            self.passed += 1
-        else:
-            self.failed += 1
-            print(f"FAILED: {name}" + (f": {found}" if found else ""))
+        with self.lock:
+            if ok:
+                self.passed += 1
+            else:
+                self.failed += 1
+                print(f"FAILED: {name}" + (f": {found}" if found else ""), flush=True)
         return ok
 
     def tally(self):

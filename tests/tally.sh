@@ -10,12 +10,13 @@ fail() {
 # Runs a step, shows what it prints, and adds its counts. A step that prints no counts last, or that ends with an
 # error and counts no failure, is itself a failure.
 step() { # NAME COMMAND [WORDS ..]
-    local name=$1 log status counted
+    local name=$1 log status counted began=$SECONDS
     shift
     log=$(mktemp) || { fail "$name: no temporary file"; return; }
     echo "== $name"
     "$@" </dev/null 2>&1 | tee "$log"
     status=${PIPESTATUS[0]}
+    echo "== $name: $((SECONDS - began)) s"
     if [[ $(tail -n 1 "$log") =~ ^([0-9]+)' passed, '([0-9]+)' failed'$ ]]; then
         counted=$((10#${BASH_REMATCH[2]}))
         passed=$((passed + 10#${BASH_REMATCH[1]}))

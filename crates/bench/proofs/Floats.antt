@@ -7,7 +7,7 @@ use lib.Dec.{T}
 use lib.Ieee.{Format, binary32, binary64, nanBits, isNan, ofBits}
 use lib.Ieee.Bits.{nanBits-is}
 use Rattle.record.specs.Answer.{Said, unsigned, signed, single, double, doNotUse, notInRevision, refused, Answers, caseFor}
-use Rattle.record.specs.declared.Value.the-variants as value
+use Rattle.value.specs.declared.Value.the-variants as value
 use Rattle.record.specs.declared.Answer.{Answer}
 use Rattle.bench.specs.Plain.{noNan, noNanIn}
 

@@ -2,8 +2,8 @@
 -- Assumes nothing.
 use mathlib.Core.Bool.{Bool, true, not}
 use lib.Ieee.{isNan}
-use Rattle.record.specs.declared.Value.{Value}
-use Rattle.record.specs.declared.Value.the-variants as value
+use Rattle.value.specs.declared.Value.{Value}
+use Rattle.value.specs.declared.Value.the-variants as value
 use Rattle.record.specs.declared.Answer.{Answer}
 use Rattle.record.specs.declared.Answer.the-variants as answer
 use Rattle.bench.specs.declared.AskReply.{AskReply}

@@ -4,18 +4,18 @@ ghost use Prim.Native.Nat.{_+_, _≤_};
 ghost use mathlib.Core.Path.{_≡_};
 ghost use lib.ListN.{length};
 ghost use Rattle.io.specs.Counts.{Counts};
-use reader::Fed;
-use reader::Finished;
-use reader::Opened;
 use reader::Phase;
 use reader::Run;
-use reader::Staged;
 use reader::State;
-use reader::Withdrawn;
 use record::Answer;
-use record::Refusal;
+use refusal::Refusal;
+use runs::Fed;
+use runs::Finished;
 use script::Buffer;
 use script::Part;
+use tables::Opened;
+use tables::Staged;
+use tables::Withdrawn;
 
 // More than any buffer has: all of it is lent.
 const WHOLE: usize = 0xffff_ffff_ffff_ffff;
@@ -110,28 +110,51 @@ fn phase_of(v: usize) -> Phase {
 }
 
 fn with_phase(r: Run, v: usize) -> Run {
+    let counts = r.counts;
     Run {
         phase: phase_of(v),
         held: r.held,
         standing: r.standing,
-        taken: r.taken,
-        blocks: r.blocks,
-        skipped: r.skipped,
+        counts,
     }
 }
 
 // A count of the run is set.
-fn with_count(r: Run, part: Part, v: usize) -> Run {
-    let mut next = r;
+fn with_count(c: reader::Counts, part: Part, v: usize) -> reader::Counts {
+    let mut next = c;
     match part {
-        Part::Held => next.held = v,
-        Part::Standing => next.standing = v,
         Part::Taken => next.taken = v,
         Part::Blocks => next.blocks = v,
         Part::Skipped => next.skipped = v,
         _ => {}
     }
     next
+}
+
+// A number of the run is set.
+fn with_number(r: Run, part: Part, v: usize) -> Run {
+    let phase = r.phase;
+    let counts = r.counts;
+    match part {
+        Part::Held => Run {
+            phase,
+            held: v,
+            standing: r.standing,
+            counts,
+        },
+        Part::Standing => Run {
+            phase,
+            held: r.held,
+            standing: v,
+            counts,
+        },
+        _ => Run {
+            phase,
+            held: r.held,
+            standing: r.standing,
+            counts: with_count(counts, part, v),
+        },
+    }
 }
 
 fn with_run(s: State, run: Run) -> State {
@@ -156,7 +179,7 @@ fn poked_state(s: State, part: Part, v: usize) -> State {
             in_force: s.in_force,
             waiting: v,
         },
-        _ => with_run(s, with_count(run, part, v)),
+        _ => with_run(s, with_number(run, part, v)),
     }
 }
 

@@ -20,15 +20,16 @@ use Rattle.frame.specs.Frame.{wholeFrame}
 use Rattle.record.specs.Block.{countIn, subLengthIn, revisionIn, numberIn, endsBy, hasSubs, subCount, bodyFits, subsFit, Seen, refusedBy, row, seenRow, seen, seenSubRow, seenSub}
 use Rattle.record.specs.Calls.{subBytes, numberBy, partBy, subBlock, subBlockRefusal}
 use Rattle.reader.specs.declared.State.{State}
-use Rattle.reader.specs.Refusals.{bytesRefusal}
-use Rattle.reader.specs.Calls.{partUnless, bytesOf}
-use Rattle.reader.specs.Records.{tableInForce, askRefusal, firstOf, subBytesOf, subBytesRefusal}
+use Rattle.runs.specs.Refusals.{bytesRefusal}
+use Rattle.reader.specs.Outcome.{partUnless}
+use Rattle.runs.specs.Calls.{bytesOf}
+use Rattle.records.specs.Calls.{tableInForce, askRefusal, firstOf, subBytesOf, subBytesRefusal}
 use Rattle.reader.proofs.Laws.{passes, with-hold}
-use Rattle.capi.specs.State.{stateOf}
-use Rattle.capi.specs.Answer.{partC}
+use Rattle.cform.specs.State.{stateOf}
+use Rattle.cform.specs.Answer.{partC}
 use Rattle.capi.specs.Calls.{Handing, handing, hands}
-use Rattle.capi.specs.declared.CState.{CState}
-use Rattle.capi.specs.declared.CPart.{CPart}
+use Rattle.cform.specs.declared.CState.{CState}
+use Rattle.cform.specs.declared.CPart.{CPart}
 
 same-part : {p q : CPart} {a b : List ℕ} → p ≡ q → a ≡ b → _≡_ {A = Handing} (record { part = p; bytes = a }) (record { part = q; bytes = b })
 same-part {p} {q} {a} {b} e f = ap₂ (λ (x : CPart) (y : List ℕ). record { part = x; bytes = y }) e f

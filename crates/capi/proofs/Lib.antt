@@ -1,5 +1,3 @@
-pub mod Phases
 pub mod Going
 pub mod Telling
 pub mod Handing
-pub mod Back

@@ -1,47 +1,15 @@
--- A field's answer for C: by the state that C's stands for, or refused; and no float in it is a NaN.
+-- A field's answer for C: by the state that C's stands for, or refused.
 -- Assumes nothing.
-use mathlib.Core.Path.{_≡_, refl, sym, ap, _∙_, subst}
-use mathlib.Core.Bool.{Bool, true, false, not}
+use mathlib.Core.Path.{_≡_, sym, ap, _∙_}
 use mathlib.Core.Option.{none, some}
-use Prim.Native.Nat.{ℕ}
-use lib.Dec.{T}
-use lib.Ieee.{Format, binary32, binary64, nanBits, isNan, ofBits}
-use lib.Ieee.Bits.{nanBits-is}
-use Rattle.record.specs.Answer.{Said, unsigned, signed, single, double, doNotUse, notInRevision, refused, singleCase, doubleCase, caseFor, answerSays, Answers}
+use Rattle.record.specs.Answer.{Said, refused, answerSays, Answers}
 use Rattle.record.specs.declared.Answer.{Answer}
 use Rattle.reader.specs.declared.State.{State}
-use Rattle.capi.specs.State.{stateOf}
-use Rattle.capi.specs.Answer.{fieldC, NoNan, NoNanIn}
+use Rattle.cform.specs.State.{stateOf}
+use Rattle.cform.specs.Answer.{fieldC}
+use Rattle.cform.specs.declared.CState.{CState}
+use Rattle.cform.specs.declared.CField.{CField}
 use Rattle.capi.specs.Calls.{tells}
-use Rattle.capi.specs.declared.CState.{CState}
-use Rattle.capi.specs.declared.CField.{CField}
-
--- ---- the case for what is said carries no NaN as a float
-
-float : (f : Format) (b : ℕ) → nanBits f b ≡ false → T (not (isNan (ofBits f b)))
-float f b e = subst (λ (x : Bool). T (not x)) (nanBits-is f b) (subst (λ (x : Bool). T (not x)) (sym e) tt)
-
-single-by : (b : ℕ) (x : Bool) → nanBits binary32 b ≡ x → NoNan (singleCase b)
-single-by b true e = rw e tt
-single-by b false e = rw e (float binary32 b e)
-
-double-by : (b : ℕ) (x : Bool) → nanBits binary64 b ≡ x → NoNan (doubleCase b)
-double-by b true e = rw e tt
-double-by b false e = rw e (float binary64 b e)
-
-case-by : (a : Said) → NoNanIn (caseFor a)
-case-by (unsigned n) = tt
-case-by (signed z) = tt
-case-by (single b) = single-by b (nanBits binary32 b) refl
-case-by (double b) = double-by b (nanBits binary64 b) refl
-case-by doNotUse = tt
-case-by notInRevision = tt
-case-by (refused n) = tt
-
-pub no-nan : {r : Answer} {a : Said} → Answers r a → NoNanIn r
-no-nan {r} {a} h = subst NoNanIn (sym (h .case)) (case-by a)
-
--- ---- the calls
 
 module _ (call : State → Said) (s : CState) where
   pub tells-it : {t : State} {r : Answer} {x : CField} → stateOf s ≡ some t → Answers r (call t) → x ≡ fieldC (answerSays r) → x ≡ tells call (stateOf s)

@@ -8,15 +8,17 @@ use Rattle.record.specs.Answer as field
 use Rattle.record.specs.Block.{subLengthIn}
 use Rattle.reader.specs.declared.State.{State}
 use Rattle.reader.specs.Said.{Said, refused}
-use Rattle.reader.specs.Refusals.{bytesRefusal}
-use Rattle.reader.specs.Calls.{Outcome, openOf, feedOf, finishOf, bytesOf, stageOf, withdrawOf}
-use Rattle.reader.specs.Records.{bodyOf, subOf, subBytesOf, subBytesRefusal, towOf, wncOf}
-use Rattle.capi.specs.declared.CState.{CState}
-use Rattle.capi.specs.declared.CReply.{CReply}
-use Rattle.capi.specs.declared.CField.{CField}
-use Rattle.capi.specs.declared.CPart.{CPart}
-use Rattle.capi.specs.State.{stateOf, stateC}
-use Rattle.capi.specs.Answer.{answerC, fieldC, partC}
+use Rattle.runs.specs.Refusals.{bytesRefusal}
+use Rattle.reader.specs.Outcome.{Outcome}
+use Rattle.tables.specs.Calls.{openOf, stageOf, withdrawOf}
+use Rattle.runs.specs.Calls.{feedOf, finishOf, bytesOf}
+use Rattle.records.specs.Calls.{bodyOf, subOf, subBytesOf, subBytesRefusal, towOf, wncOf}
+use Rattle.cform.specs.declared.CState.{CState}
+use Rattle.cform.specs.declared.CReply.{CReply}
+use Rattle.cform.specs.declared.CField.{CField}
+use Rattle.cform.specs.declared.CPart.{CPart}
+use Rattle.cform.specs.State.{stateOf, stateC}
+use Rattle.cform.specs.Answer.{replyC, fieldC, partC}
 
 -- the reply, and the buffer that the call may write
 pub record Left : Type 0 where
@@ -25,9 +27,6 @@ pub record Left : Type 0 where
 
 abbrev pub left : CReply → List ℕ → Left
 left r l = record { reply = r; lent = l }
-
-abbrev pub replyC : Said → CState → CReply
-replyC a s = record { state = s; answer = answerC a }
 
 -- ---- the calls that go on with the state
 

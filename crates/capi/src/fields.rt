@@ -1,77 +1,56 @@
-// A field's answer as C has it, from the record reader's. Floats go over as their bits, so that a NaN keeps its own.
+// The calls that answer a field, for C: a body field, a sub-block's field, TOW and WNc.
 ghost use mathlib.Core.Path.{_≡_};
-ghost use mathlib.Core.Bool.{not};
-ghost use lib.Dec.{T};
-ghost use lib.Ieee.{binary32, binary64, isNan, toBits};
-ghost use Rattle.record.specs.Answer.{refused, valueSays, answerSays};
-ghost use Rattle.capi.specs.Answer.{tell, fieldC, NoNan, NoNanIn};
-use crate::CField;
-use crate::answers;
-use record::Answer;
-use record::Value;
+ghost use Rattle.capi.specs.Calls.{bodyC, subC, towC, wncC};
+use cform::CField;
+use cform::CState;
+use cform::Known;
 
-fn tell_c(refusal: u32, kind: u32, number: u64, signed: i64, bits: u64) -> CField
-    ensures { λ r. ⌜ r ≡ tell refusal kind number signed bits ⌝ }
+#[no_mangle]
+pub extern "C" fn alderflute_body(s: CState, in_force: &[u8], block: &[u8], i: usize) -> CField
+    ensures { λ r. ⌜ r ≡ bodyC s (now («in_force» .entry)) (now (block .entry)) i ⌝ }
 {
-    CField {
-        refusal,
-        kind,
-        number,
-        signed,
-        bits,
+    let k = cform::states::state_of(s);
+    match k {
+        Known::Unknown => cform::fields::refused_c(1),
+        Known::State(t) => cform::fields::field_c(records::body(t, in_force, block, i)),
     }
 }
 
-fn wide(x: u32) -> u64
-    ensures { λ r. ⌜ r ≡ x ⌝ }
+#[no_mangle]
+pub extern "C" fn alderflute_sub(
+    s: CState,
+    in_force: &[u8],
+    block: &[u8],
+    k: usize,
+    j: usize,
+) -> CField
+    ensures { λ r. ⌜ r ≡ subC s (now («in_force» .entry)) (now (block .entry)) k j ⌝ }
 {
-    x as u64
-}
-
-fn single_bits(f: f32) -> u64
-    requires { ⌜ T (not (isNan f)) ⌝ }
-    ensures { λ r. ⌜ r ≡ toBits binary32 f ⌝ }
-{
-    let b = f32::to_bits(f);
-    wide(b)
-}
-
-fn double_bits(f: f64) -> u64
-    requires { ⌜ T (not (isNan f)) ⌝ }
-    ensures { λ r. ⌜ r ≡ toBits binary64 f ⌝ }
-{
-    f64::to_bits(f)
-}
-
-fn value_c(v: Value) -> CField
-    requires { ⌜ NoNan v ⌝ }
-    ensures { λ r. ⌜ r ≡ fieldC (valueSays v) ⌝ }
-{
-    match v {
-        Value::Unsigned(n) => tell_c(0, 1, n, 0, 0),
-        Value::Signed(z) => tell_c(0, 2, 0, z, 0),
-        Value::Single(f) => tell_c(0, 3, 0, 0, single_bits(f)),
-        Value::Double(f) => tell_c(0, 4, 0, 0, double_bits(f)),
-        Value::SingleNan(b) => tell_c(0, 3, 0, 0, wide(b)),
-        Value::DoubleNan(b) => tell_c(0, 4, 0, 0, b),
-        Value::DoNotUse => tell_c(0, 5, 0, 0, 0),
-        Value::NotInRevision => tell_c(0, 6, 0, 0, 0),
+    let known = cform::states::state_of(s);
+    match known {
+        Known::Unknown => cform::fields::refused_c(1),
+        Known::State(t) => cform::fields::field_c(records::sub(t, in_force, block, k, j)),
     }
 }
 
-pub fn refused_c(n: u32) -> CField
-    ensures { λ r. ⌜ r ≡ fieldC (refused n) ⌝ }
+#[no_mangle]
+pub extern "C" fn alderflute_tow(s: CState, block: &[u8]) -> CField
+    ensures { λ r. ⌜ r ≡ towC s (now (block .entry)) ⌝ }
 {
-    tell_c(n, 0, 0, 0, 0)
+    let k = cform::states::state_of(s);
+    match k {
+        Known::Unknown => cform::fields::refused_c(1),
+        Known::State(t) => cform::fields::field_c(records::tow(t, block)),
+    }
 }
 
-// Of an answer that the record reader gave: a float in it is no NaN.
-pub fn field_c(a: Answer) -> CField
-    requires { ⌜ NoNanIn a ⌝ }
-    ensures { λ r. ⌜ r ≡ fieldC (answerSays a) ⌝ }
+#[no_mangle]
+pub extern "C" fn alderflute_wnc(s: CState, block: &[u8]) -> CField
+    ensures { λ r. ⌜ r ≡ wncC s (now (block .entry)) ⌝ }
 {
-    match a {
-        Answer::Field(v) => value_c(v),
-        Answer::Refused(x) => refused_c(answers::number_of(x)),
+    let k = cform::states::state_of(s);
+    match k {
+        Known::Unknown => cform::fields::refused_c(1),
+        Known::State(t) => cform::fields::field_c(records::wnc(t, block)),
     }
 }

@@ -3,22 +3,24 @@
 use Prim.Native.Nat.{ℕ}
 use native.Mathlib.Omega.{arith}
 use mathlib.Core.Path.{_≡_, refl, ap, ap₂, _∙_}
-use Rattle.record.specs.Answer.{numberFor}
-use Rattle.record.proofs.Calls.{same-refusal}
-use Rattle.reader.specs.Said.{Report, reportOf, refusalOf, saidOpened, saidFed, saidFinished, saidStaged, saidWithdrawn}
-use Rattle.reader.specs.declared.Block.{Block}
+use Rattle.refusal.specs.Numbers.{numberFor}
+use Rattle.refusal.proofs.Numbers.{same-refusal}
+use Rattle.reader.specs.Said.{Report, refusalOf}
+use Rattle.runs.specs.Said.{reportOf, saidFed, saidFinished}
+use Rattle.tables.specs.Said.{saidOpened, saidStaged, saidWithdrawn}
+use Rattle.runs.specs.declared.Block.{Block}
 use Rattle.reader.specs.declared.Check.{Check}
 use Rattle.reader.specs.declared.Check.the-variants as check
-use Rattle.reader.specs.declared.Opened.{Opened}
-use Rattle.reader.specs.declared.Opened.the-variants as opened
-use Rattle.reader.specs.declared.Fed.{Fed}
-use Rattle.reader.specs.declared.Fed.the-variants as fed
-use Rattle.reader.specs.declared.Finished.{Finished}
-use Rattle.reader.specs.declared.Finished.the-variants as finished
-use Rattle.reader.specs.declared.Staged.{Staged}
-use Rattle.reader.specs.declared.Staged.the-variants as staged
-use Rattle.reader.specs.declared.Withdrawn.{Withdrawn}
-use Rattle.reader.specs.declared.Withdrawn.the-variants as withdrawn
+use Rattle.tables.specs.declared.Opened.{Opened}
+use Rattle.tables.specs.declared.Opened.the-variants as opened
+use Rattle.runs.specs.declared.Fed.{Fed}
+use Rattle.runs.specs.declared.Fed.the-variants as fed
+use Rattle.runs.specs.declared.Finished.{Finished}
+use Rattle.runs.specs.declared.Finished.the-variants as finished
+use Rattle.tables.specs.declared.Staged.{Staged}
+use Rattle.tables.specs.declared.Staged.the-variants as staged
+use Rattle.tables.specs.declared.Withdrawn.{Withdrawn}
+use Rattle.tables.specs.declared.Withdrawn.the-variants as withdrawn
 
 same-block : (a b : Block) → reportOf a ≡ reportOf b → a ≡ b
 same-block a b e =
@@ -53,17 +55,13 @@ feeds (fed.Refused x) (fed.Refused y) e = let q : numberFor x ≡ numberFor y = 
 
 pub finishes : (a b : Finished) → saidFinished a ≡ saidFinished b → a ≡ b
 finishes (finished.Block a) (finished.Block b) e = let q : reportOf a ≡ reportOf b = cc in ap finished.Block (same-block a b q)
-finishes (finished.Block a) (finished.End n b s) e = let z : _≡_ {A = ℕ} 0 1 = cc in let f : ⊥ = omega arith in absurd f
+finishes (finished.Block a) (finished.End d) e = let z : _≡_ {A = ℕ} 0 1 = cc in let f : ⊥ = omega arith in absurd f
 finishes (finished.Block a) (finished.Refused y) e = let z : _≡_ {A = ℕ} 0 1 = cc in let f : ⊥ = omega arith in absurd f
-finishes (finished.End n k s) (finished.Block b) e = let z : _≡_ {A = ℕ} 0 1 = cc in let f : ⊥ = omega arith in absurd f
-finishes (finished.End n k s) (finished.End m l t) e =
-    let p : n ≡ m = cc in
-    let q : k ≡ l = cc in
-    let r : s ≡ t = cc in
-    ap₂ (λ (i j : ℕ). finished.End i j s) p q ∙ ap (finished.End m l) r
-finishes (finished.End n k s) (finished.Refused y) e = let z : _≡_ {A = ℕ} 0 1 = cc in let f : ⊥ = omega arith in absurd f
+finishes (finished.End c) (finished.Block b) e = let z : _≡_ {A = ℕ} 0 1 = cc in let f : ⊥ = omega arith in absurd f
+finishes (finished.End c) (finished.End d) e = let q : c ≡ d = cc in ap finished.End q
+finishes (finished.End c) (finished.Refused y) e = let z : _≡_ {A = ℕ} 0 1 = cc in let f : ⊥ = omega arith in absurd f
 finishes (finished.Refused x) (finished.Block b) e = let z : _≡_ {A = ℕ} 0 1 = cc in let f : ⊥ = omega arith in absurd f
-finishes (finished.Refused x) (finished.End m l t) e = let z : _≡_ {A = ℕ} 0 1 = cc in let f : ⊥ = omega arith in absurd f
+finishes (finished.Refused x) (finished.End d) e = let z : _≡_ {A = ℕ} 0 1 = cc in let f : ⊥ = omega arith in absurd f
 finishes (finished.Refused x) (finished.Refused y) e = let q : numberFor x ≡ numberFor y = cc in ap finished.Refused (same-refusal x y q)
 
 pub stages : (a b : Staged) → saidStaged a ≡ saidStaged b → a ≡ b

@@ -10,7 +10,7 @@ use lib.ListN.{length}
 use lib.Dec.{ltb}
 use Rattle.frame.specs.Frame.{wholeFrame}
 use Rattle.frame.proofs.Tests.{never}
-use Rattle.table.specs.declared.FieldRow.{FieldRow}
+use Rattle.rows.specs.declared.FieldRow.{FieldRow}
 use Rattle.table.specs.Rows.{BlockRow}
 use Rattle.table.specs.Decode.{decode}
 use Rattle.table.specs.Rules.{tableOk}
@@ -20,7 +20,7 @@ use Rattle.record.specs.Block.{bodyFits, subsFit, seenRow, seen, seenSub}
 use Rattle.record.specs.Calls.{bodyField, subField, subBlockRefusal, stamp, towRow, wncRow}
 use Rattle.reader.specs.State.{sound}
 use Rattle.reader.specs.Refusals.{need, longStore}
-use Rattle.reader.specs.Records.{tableInForce, askRefusal, firstOf, bodyOf, subOf, subBytesRefusal, stampOf}
+use Rattle.records.specs.Calls.{tableInForce, askRefusal, firstOf, bodyOf, subOf, subBytesRefusal, stampOf}
 use Rattle.reader.specs.declared.State.{State}
 use Rattle.demands.specs.Demand1.{refusalValue}
 use Rattle.demands.specs.Exactly.{Order, nothing, first, Exactly, BadState, ShortStore, Breaks}

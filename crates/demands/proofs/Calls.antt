@@ -1,6 +1,6 @@
 -- One call more of a run: what is reported so far, and then from the place on, is the reading of the bytes taken.
 -- Assumes nothing.
-use Prim.Native.Nat.{ℕ, zero, suc, _+_, _-_}
+use Prim.Native.Nat.{ℕ, zero, suc, _+_, _-_, _≤_}
 use native.Mathlib.Omega.{arith}
 use native.Mathlib.Nat.{add-zero}
 use mathlib.Core.Path.{_≡_, refl, sym, ap, ap₂, _∙_, subst, subst⁻¹}
@@ -16,11 +16,13 @@ use Rattle.frame.specs.Session.{size, placesFrom, blocksOf, answer}
 use Rattle.frame.proofs.Calls as calls
 use Rattle.frame.proofs.Runs.{skipMany, both-both, read-frame, Ends, finished, finish-rest, finish-front, feed-read, fed-stands, answered}
 use Rattle.reader.specs.State.{limit, sound}
-use Rattle.reader.specs.Refusals.{longHold, isFeeding, feedRefusal}
-use Rattle.reader.specs.Calls.{one, runOn, feedingOf, finishingOf, phaseAfter}
+use Rattle.reader.specs.Refusals.{longHold}
+use Rattle.runs.specs.Refusals.{isFeeding, feedRefusal}
+use Rattle.runs.specs.Calls.{one, runOn, feedingOf, finishingOf, phaseAfter}
 use Rattle.reader.specs.declared.Phase.{Phase}
 use Rattle.reader.specs.declared.Phase.the-variants as phase
 use Rattle.reader.proofs.Laws.{passes}
+use Rattle.runs.proofs.Feeding.{WholeIf, fed-whole, end-whole}
 use Rattle.demands.specs.World.{World, Call, feed, finish, Answer}
 use Rattle.demands.specs.Sequence.{tookOf, reportIn, inHold, taken, blocks}
 use Rattle.demands.specs.Demand2.{MayFollow}
@@ -30,10 +32,10 @@ use Rattle.demands.proofs.Going.{kept, place, going, within, kept-lengt
 
 -- the run so far took the bytes t and reported the blocks b; with what follows it reads as these, and then from the place on
 pub record Reads (t : List ℕ) (b : List Block) (w : World) : Type 0 where
-  pub count : w .state .run .taken ≡ length t
-  pub sum : w .state .run .blocks ≡ length b
+  pub count : w .state .run .counts .taken ≡ length t
+  pub sum : w .state .run .counts .blocks ≡ length b
   pub places : List ℕ
-  pub skips : w .state .run .skipped ≡ length places
+  pub skips : w .state .run .counts .skipped ≡ length places
   pub rest : kept w ≡ drop (place w) t
   pub so : (zs : List ℕ) → MayFollow (w .state .run .phase) zs → readRun 0 (t ++ zs) ≡ both (record { blocks = b; skipped = places }) (readRun (place w) (kept w ++ zs))
 
@@ -52,9 +54,14 @@ unfolding placesFrom
 places-count p zero = refl
 places-count p (suc n) = ap suc (places-count (p + 1) n)
 
-length-blocks : (o : Option ℕ) (p : ℕ) (v : List ℕ) → length (blocksOf o p v) ≡ one o
-length-blocks none p v = refl
-length-blocks (some n) p v = refl
+-- a block is of eight bytes at least, so the number of its bytes tells that it is one
+one-big : (n : ℕ) → 8 ≤ n → 1 ≡ one n
+one-big zero l = let f : ⊥ = omega arith in absurd f
+one-big (suc n) l = refl
+
+length-blocks : (o : Option ℕ) (p : ℕ) (v : List ℕ) → WholeIf o v → length (blocksOf o p v) ≡ one (size o)
+length-blocks none p v w = refl
+length-blocks (some n) p v w = one-big n (w .eight)
 
 -- ---- a call that goes on in the run
 
@@ -62,7 +69,7 @@ module _ (x : Phase) (w : World) (bs : List ℕ) (f : Feeding) (blk : List Block
     (g : Good w) (h : Fits w f) (n : f .taken ≡ length bs) (a : blk ≡ blocksOf (f .standing) (place w + f .skipped) (f .held))
     (d : f .held ≡ drop (f .skipped) (kept w ++ bs)) where
   -- what is left is what was left and is new, without what was skipped and the block
-  rest-after : (ts : List ℕ) → w .state .run .taken ≡ length ts → kept w ≡ drop (place w) ts → kept (going x w f) ≡ drop (place (going x w f)) (ts ++ bs)
+  rest-after : (ts : List ℕ) → w .state .run .counts .taken ≡ length ts → kept w ≡ drop (place w) ts → kept (going x w f) ≡ drop (place (going x w f)) (ts ++ bs)
   rest-after ts c r =
       let o = size (f .standing) in
       kept-after x w f g h
@@ -79,7 +86,7 @@ module _ (x : Phase) (w : World) (bs : List ℕ) (f : Feeding) (blk : List Block
   go {ts} {b} fol e r =
       record {
         count = omega (arith, r .count, length-append ts bs, n);
-        sum = omega (arith, r .sum, length-append b blk, ap length a, length-blocks (f .standing) (place w + f .skipped) (f .held));
+        sum = omega (arith, r .sum, length-append b blk, ap length a, length-blocks (f .standing) (place w + f .skipped) (f .held) (h .whole));
         places = r .places ++ placesFrom (place w) (f .skipped);
         skips = omega (arith, r .skips, length-append (r .places) (placesFrom (place w) (f .skipped)), places-count (place w) (f .skipped));
         rest = rest-after ts (r .count) (r .rest);
@@ -102,14 +109,14 @@ Next c ts b x = Reads (ts ++ tookOf c (x .0)) (b ++ inHold (reportIn (x .0)) (x 
 pub feed-fits : (w : World) (piece : List ℕ) → Good w → Fits w (feedingOf (w .state) (w .hold) piece)
 unfolding feedingOf
 feed-fits w piece g =
-    let c = calls.call (kept w) piece (limit - w .state .run .taken) in
-    record { front = c .front; sum = omega (arith, c .sum, kept-length w g) }
+    let c = calls.call (kept w) piece (limit - w .state .run .counts .taken) in
+    record { whole = fed-whole (kept w) piece (limit - w .state .run .counts .taken); front = c .front; sum = omega (arith, c .sum, kept-length w g) }
 
 pub reads-feed : (w : World) {ts : List ℕ} {b : List Block} (piece : List ℕ) → Good w → refusal (feed piece) w ≡ none → Reads ts b w → Next (feed piece) ts b (done (feed piece) w)
 unfolding feedingOf feedRefusal
 reads-feed w piece g e r =
-    let room = limit - w .state .run .taken in
-    let f = feedLit (kept w) piece (limit - w .state .run .taken) in
+    let room = limit - w .state .run .counts .taken in
+    let f = feedLit (kept w) piece (limit - w .state .run .counts .taken) in
     let h = feed-fits w piece g in
     let n : f .taken ≡ length (take (f .taken) piece) = sym (length-take-le (f .taken) piece (omega (arith, calls.call (kept w) piece room .taken))) in
     let fed : isFeeding (w .state .run .phase) ≡ true = passes (isFeeding (w .state .run .phase)) 2 _ (passes (sound (w .state) && longHold (w .hold)) 1 _ e .1) .0 in
@@ -140,6 +147,7 @@ unfolding finishingOf
 finish-fits w g =
     let q = finish-rest (kept w) in
     record {
+      whole = end-whole (kept w);
       front = finish-front (kept w);
       sum = omega (arith, kept-length w g, q .few, ap length (q .is), length-drop (finishLit (kept w) .skipped) (kept w));
     }

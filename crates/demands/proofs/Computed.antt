@@ -10,17 +10,20 @@ use Rattle.frame.specs.Feed.{feedLit}
 use Rattle.frame.specs.ReadRun.{blockAt}
 use Rattle.feed.specs.Hold.{restOf}
 use Rattle.table.specs.Lists.{tabulate, every, chain, neighbours, first, pick}
-use Rattle.table.specs.Types.{sizeOf, markFits}
-use Rattle.table.specs.Decode.{fieldAt, rowFrom, rowAt, rowsOf, blockOf, decode}
+use Rattle.rows.specs.Types.{sizeOf}
+use Rattle.table.specs.Marks.{markFits}
+use Rattle.rows.specs.Places.{fieldAt, rowFrom, rowAt}
+use Rattle.table.specs.Decode.{rowsOf, blockOf, decode}
 use Rattle.table.specs.Rules.{fileOk, risingOk, rowOk, counts, indexOk, rowsOk, fieldsOk, isPair, blockOk, tableOk}
 use Rattle.table.specs.Lookup.{findRow}
-use Rattle.record.specs.Bits.{withSign, readAs, isDoNotUse, valueOf, fieldValue}
+use Rattle.value.specs.Bits.{withSign, readAs, isDoNotUse, valueOf, fieldValue}
 use Rattle.record.specs.Block.{bodyFits, subsFit, seenRow, seen, seenSubRow, seenSub}
 use Rattle.record.specs.Calls.{fieldSaid, bodyField, subBytes, subField, subBlock, subBlockRefusal, stamp}
 use Rattle.reader.specs.State.{sound}
-use Rattle.reader.specs.Refusals.{openRefusal, feedRefusal, finishRefusal, bytesRefusal, stageRefusal, withdrawRefusal}
-use Rattle.reader.specs.Calls.{openOf, feedingOf, feedOf, finishingOf, finishOf, bytesOf, stageOf, withdrawOf}
-use Rattle.reader.specs.Records.{askRefusal, bodyOf, subOf, subBytesOf, subBytesRefusal, stampOf}
+use Rattle.tables.specs.Calls.{openRefusal, stageRefusal, withdrawRefusal, openOf, stageOf, withdrawOf}
+use Rattle.runs.specs.Refusals.{feedRefusal, finishRefusal, bytesRefusal}
+use Rattle.runs.specs.Calls.{feedingOf, feedOf, finishingOf, finishOf, bytesOf}
+use Rattle.records.specs.Calls.{askRefusal, bodyOf, subOf, subBytesOf, subBytesRefusal, stampOf}
 use Rattle.demands.specs.World.{step, trace}
 use Rattle.demands.specs.Transcript.{newWorld, replayed}
 use Rattle.demands.specs.Samples.{SamplesHold}

@@ -14,8 +14,8 @@ use Rattle.frame.proofs.Calls.{more-decides-all}
 use Rattle.table.specs.Decode.{decode}
 use Rattle.reader.specs.State.{limit}
 use Rattle.reader.specs.Said.{took}
-use Rattle.reader.specs.Refusals.{nextTable}
-use Rattle.reader.specs.Calls.{feedingOf, front}
+use Rattle.tables.specs.Calls.{nextTable}
+use Rattle.runs.specs.Calls.{feedingOf, front}
 use Rattle.reader.specs.declared.Phase.the-variants as phase
 use Rattle.demands.specs.World.{World, Call, feed, Answer, said, looked, step, end}
 use Rattle.demands.specs.Sequence.{opened, tookOf, taken}
@@ -47,8 +47,8 @@ left-undecided : (w : World) (piece : List ℕ) (n : ℕ) → Good w → {r : An
 unfolding feedingOf
 left-undecided w piece n g (isnt k e) f = let z : _≡_ {A = ℕ} 0 1 = cc in let x : ⊥ = omega arith in absurd x
 left-undecided w piece n g (is e) f =
-    let room = limit - w .state .run .taken in
-    let F = feedLit (kept w) piece (limit - w .state .run .taken) in
+    let room = limit - w .state .run .counts .taken in
+    let F = feedLit (kept w) piece (limit - w .state .run .counts .taken) in
     let q = none-if (F .standing) (F .taken) n (front (done (feed piece) w .1 .state .run)) (F .held) (said-is _ _ f) .0 in
     ap judged (kept-after phase.Feeding w F g (feed-fits w piece g) ∙ ap (λ (o : Option ℕ). drop (size o) (F .held)) q)
     ∙ more-decides-all (kept w) piece room q .1

@@ -17,10 +17,11 @@ use Rattle.frame.proofs.Runs.{finish-rest}
 use Rattle.frame.proofs.Tests.{lt?}
 use Rattle.reader.specs.State.{limit, sound}
 use Rattle.reader.specs.Said.{Said, took}
-use Rattle.reader.specs.Refusals.{longHold, feedRefusal, finishRefusal}
-use Rattle.reader.specs.Calls.{reportIf, feedingOf, finishingOf, finishSaid, phaseAfter, front}
+use Rattle.reader.specs.Refusals.{longHold}
+use Rattle.runs.specs.Refusals.{feedRefusal, finishRefusal}
+use Rattle.runs.specs.Calls.{reportIf, feedingOf, finishingOf, finishSaid, phaseAfter, front}
 use Rattle.reader.proofs.Laws.{passes, with-hold}
-use Rattle.reader.proofs.Feeding.{Whole, WholeIf, end-whole}
+use Rattle.runs.proofs.Feeding.{Whole, WholeIf, end-whole}
 use Rattle.demands.specs.World.{World, feed, finish, Answer, said, step, end}
 use Rattle.demands.specs.Sequence.{endSaid, isEnd, opened}
 use Rattle.demands.specs.Progress.{MoreTakesAll, finishes, foundSaid, isFound, AllFound, Reaches, FinishEnds, Progress}
@@ -39,16 +40,16 @@ none-if (some k) t n p v e = let z : _≡_ {A = ℕ} 0 1 = cc in let f : ⊥ = o
 pub said-is : (a b : Said) → said a ≡ said b → a ≡ b
 said-is a b e = cc
 
-more-by : (w : World) (piece : List ℕ) (n : ℕ) {r : Answer × World} → How (feed piece) w r → r .0 ≡ said (took n none) → (n ≡ length piece) ⊎ (r .1 .state .run .taken ≡ limit)
+more-by : (w : World) (piece : List ℕ) (n : ℕ) {r : Answer × World} → How (feed piece) w r → r .0 ≡ said (took n none) → (n ≡ length piece) ⊎ (r .1 .state .run .counts .taken ≡ limit)
 unfolding feedingOf feedRefusal
 more-by w piece n (isnt k e) f = let z : _≡_ {A = ℕ} 0 1 = cc in let x : ⊥ = omega arith in absurd x
 more-by w piece n (is e) f =
     let h = with-hold (w .state) (w .hold) (passes (sound (w .state) && longHold (w .hold)) 1 _ e .0) .0 in
-    let room = limit - w .state .run .taken in
-    let F = feedLit (kept w) piece (limit - w .state .run .taken) in
+    let room = limit - w .state .run .counts .taken in
+    let F = feedLit (kept w) piece (limit - w .state .run .counts .taken) in
     let q = none-if (F .standing) (F .taken) n (front (done (feed piece) w .1 .state .run)) (F .held) (said-is _ _ f) in
-    let t : F .taken ≡ min (limit - w .state .run .taken) (length piece) = subst (λ (o : Option ℕ). Took o (F .taken) (min room (length piece))) (q .0) (fed-took piece room (kept w)) in
-    lt? (limit - w .state .run .taken) (length piece) (λ l. inr (omega (arith, t, h .taken))) (λ l. inl (omega (arith, t, q .1)))
+    let t : F .taken ≡ min (limit - w .state .run .counts .taken) (length piece) = subst (λ (o : Option ℕ). Took o (F .taken) (min room (length piece))) (q .0) (fed-took piece room (kept w)) in
+    lt? (limit - w .state .run .counts .taken) (length piece) (λ l. inr (omega (arith, t, h .taken))) (λ l. inl (omega (arith, t, q .1)))
 
 more-takes-all : MoreTakesAll
 more-takes-all w piece n e = more-by w piece n (how (feed piece) w) e

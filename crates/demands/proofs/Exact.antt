@@ -15,8 +15,10 @@ use Rattle.feed.specs.Hold.{restOf}
 use Rattle.frame.proofs.Tests.{both-left, both-right, never}
 use Rattle.table.specs.Rules.{tableOk}
 use Rattle.reader.specs.State.{limit, sound}
-use Rattle.reader.specs.Refusals.{need, isClosed, isFeeding, isSome, longHold, longStore, nextTable, tableRefusal, openRefusal, feedRefusal, finishRefusal, bytesRefusal, stageRefusal, withdrawRefusal}
-use Rattle.reader.specs.Records.{tableInForce, askRefusal}
+use Rattle.reader.specs.Refusals.{need, isClosed, longHold, longStore, tableRefusal}
+use Rattle.runs.specs.Refusals.{isFeeding, isSome, feedRefusal, finishRefusal, bytesRefusal}
+use Rattle.tables.specs.Calls.{nextTable, openRefusal, stageRefusal, withdrawRefusal}
+use Rattle.records.specs.Calls.{tableInForce, askRefusal}
 use Rattle.reader.specs.declared.Phase.{Phase}
 use Rattle.reader.specs.declared.Phase.the-variants.{Closed, Feeding, Finishing}
 use Rattle.reader.specs.declared.State.{State}
@@ -69,12 +71,12 @@ bad-state s =
     (both
     (both
     (both
-    (both (both (within (s .run .held) 65532) (within (s .run .held) (s .run .taken))) (within (s .run .standing) (s .run .held)))
+    (both (both (within (s .run .held) 65532) (within (s .run .held) (s .run .counts .taken))) (within (s .run .standing) (s .run .held)))
     (within (s .«in_force») 8192))
     (within (s .waiting) 8192))
-    (within (s .run .taken) limit))
-    (within (s .run .blocks) (s .run .taken)))
-    (within (s .run .skipped) (s .run .taken))
+    (within (s .run .counts .taken) limit))
+    (within (s .run .counts .blocks) (s .run .counts .taken)))
+    (within (s .run .counts .skipped) (s .run .counts .taken))
 
 closed-tells : (p : Phase) → Tells (isClosed p) (p ≡ Closed → ⊥)
 closed-tells Closed = record { fine = λ e f. f refl; holds = λ e. never refl e }
@@ -152,7 +154,7 @@ feed-exact s hold piece =
     followed 1 (hold-tells s hold)
     (followed 2 (feeding-tells (s .run .phase))
     (followed 3
-    (orelse (full-tells (s .run .taken)) (orelse (empty-tells (length piece)) (gives-tells (settle (restOf hold (s .run .held) (s .run .standing)) .standing))))
+    (orelse (full-tells (s .run .counts .taken)) (orelse (empty-tells (length piece)) (gives-tells (settle (restOf hold (s .run .held) (s .run .standing)) .standing))))
     exactly-none))
 
 finish-exact : (s : State) (hold : List ℕ) → Exactly (finishRefusal s hold) (finishOrder s hold)

@@ -12,10 +12,9 @@ use lib.Dec.{ltb}
 use borrow.Author.Tests.{le-leb, lt-ltb, ltb-true}
 use Rattle.table.specs.Rules.{tableOk}
 use Rattle.table.specs.Decode.{decode}
-use Rattle.reader.specs.Refusals.{nextTable}
+use Rattle.tables.specs.Calls.{nextTable, opening}
 use Rattle.feed.specs.Hold.{over}
-use Rattle.reader.specs.Calls.{opening}
-use Rattle.reader.specs.Records.{tableInForce, askRefusal, bodyOf, subOf, subBytesOf, subBytesRefusal, stampOf}
+use Rattle.records.specs.Calls.{tableInForce, askRefusal, bodyOf, subOf, subBytesOf, subBytesRefusal, stampOf}
 use Rattle.demands.specs.World.{World, TableCall, stage, withdraw, Look, bytes, body, sub, subBytes, tow, wnc, Call, openRun, feed, finish, table, look, Answer, leftForce, looked, step, end, trace}
 use Rattle.demands.specs.Sequence.{AllFed, NoEnd, Within, opened}
 use Rattle.demands.specs.Demand3.{LooksBy, ReadsBy, AllBy, OneTable}

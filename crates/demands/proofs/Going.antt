@@ -14,10 +14,11 @@ use Rattle.frame.specs.Session.{size, blocksOf}
 use Rattle.feed.specs.Hold.{restOf, holdOf}
 use Rattle.feed.proofs.Literally.{goes-on, rest-length}
 use Rattle.reader.specs.State.{sound}
-use Rattle.reader.specs.Refusals.{bytesRefusal}
-use Rattle.reader.specs.Calls.{reported, reportIf, front, runOn, withRun, finishSaid, bytesOf}
+use Rattle.runs.specs.Refusals.{bytesRefusal}
+use Rattle.runs.specs.Calls.{reported, reportIf, front, runOn, withRun, finishSaid, bytesOf}
 use Rattle.reader.specs.declared.Phase.{Phase}
 use Rattle.reader.specs.declared.Run.{Run}
+use Rattle.runs.proofs.Feeding.{WholeIf}
 use Rattle.demands.specs.World.{World, bytes, look, step}
 use Rattle.demands.specs.Sequence.{blockOf, inHold, partOf, shown, reportSaid}
 use Rattle.demands.proofs.Reached.{Good, good-sound}
@@ -27,12 +28,12 @@ abbrev pub kept : World → List ℕ
 kept w = restOf (w .hold) (w .state .run .held) (w .state .run .standing)
 
 abbrev pub place : World → ℕ
-place w = w .state .run .taken - w .state .run .held + w .state .run .standing
+place w = w .state .run .counts .taken - w .state .run .held + w .state .run .standing
 
 abbrev pub going : Phase → World → Feeding → World
 going x w f = record { state = withRun (w .state) (runOn x (w .state .run) f); hold = holdOf f (w .hold); force = w .force; wait = w .wait }
 
-pub within : (w : World) → Good w → w .state .run .held ≤ w .state .run .taken
+pub within : (w : World) → Good w → w .state .run .held ≤ w .state .run .counts .taken
 within w g = let s = g .sound in omega (arith, s .sum, s .among, s .front)
 
 pub kept-length : (w : World) → Good w → length (kept w) ≡ w .state .run .held - w .state .run .standing
@@ -40,6 +41,7 @@ kept-length w g = rest-length (w .hold) (w .state .run .held) (w .state .run .st
 
 -- the numbers of a call fit together: the block is whole, and no byte is lost
 pub record Fits (w : World) (f : Feeding) : Type 0 where
+  pub whole : WholeIf (f .standing) (f .held)
   pub front : size (f .standing) ≤ length (f .held)
   pub sum : w .state .run .held - w .state .run .standing + f .taken ≡ f .skipped + length (f .held)
 

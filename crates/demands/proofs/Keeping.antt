@@ -6,8 +6,10 @@ use mathlib.Core.Path.{_≡_, refl}
 use mathlib.Core.List.{List, []}
 use mathlib.Core.Option.{Option, none, some}
 use Rattle.reader.specs.Said.{refused}
-use Rattle.reader.specs.Refusals.{openRefusal, feedRefusal, finishRefusal, stageRefusal, withdrawRefusal}
-use Rattle.reader.specs.Calls.{Outcome, unless, opening, openOf, feedingBy, feedingOf, feedOf, finishSaid, finishingBy, finishingOf, finishOf, staging, stageOf, withdrawing, withdrawOf}
+use Rattle.tables.specs.Calls.{openRefusal, stageRefusal, withdrawRefusal, opening, openOf, staging, stageOf, withdrawing, withdrawOf}
+use Rattle.runs.specs.Refusals.{feedRefusal, finishRefusal}
+use Rattle.reader.specs.Outcome.{Outcome, unless}
+use Rattle.runs.specs.Calls.{feedingBy, feedingOf, feedOf, finishSaid, finishingBy, finishingOf, finishOf}
 use Rattle.reader.specs.declared.Run.{Run}
 use Rattle.reader.specs.declared.State.{State}
 use Rattle.demands.specs.Refused.{KeepsIfRefused, RefusedKeeps}

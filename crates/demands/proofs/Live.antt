@@ -10,11 +10,12 @@ use lib.Dec.{ltb}
 use Rattle.table.specs.Rules.{tableOk}
 use Rattle.reader.specs.State.{sound}
 use Rattle.reader.specs.Said.{version}
-use Rattle.reader.specs.Refusals.{isClosed, longStore, nextTable, openRefusal}
-use Rattle.reader.specs.Calls.{opening, finishingOf, finishingBy, finishSaid, phaseAfter}
+use Rattle.reader.specs.Refusals.{isClosed, longStore}
+use Rattle.tables.specs.Calls.{nextTable, openRefusal, opening}
+use Rattle.runs.specs.Calls.{finishingOf, finishingBy, finishSaid, phaseAfter}
 use Rattle.reader.specs.declared.Run.{Run}
 use Rattle.reader.proofs.Laws.{passes}
-use Rattle.reader.proofs.Accepted.{OpenPassed, open-passed}
+use Rattle.tables.proofs.Accepted.{OpenPassed, open-passed}
 use Rattle.demands.specs.World.{World, TableCall, stage, withdraw, Call, openRun, feed, finish, table, look, Answer, said, leftForce, step, end}
 use Rattle.demands.specs.Sequence.{endSaid, isEnd, NoEnd, Within, opened}
 use Rattle.demands.proofs.Steps.{How, isnt, is, how, refusal, done, clash}

@@ -13,7 +13,7 @@ use lib.Dec.{ltb}
 use Rattle.reader.specs.State.{sound}
 use Rattle.reader.specs.Said.{Said, refused, version, took, found, ended, waited}
 use Rattle.feed.specs.Hold.{over}
-use Rattle.reader.specs.Calls.{feedingOf, finishingOf}
+use Rattle.runs.specs.Calls.{feedingOf, finishingOf}
 use Rattle.demands.specs.World.{World, TableCall, stage, withdraw, Look, bytes, body, sub, subBytes, tow, wnc, Call, openRun, feed, finish, table, look, Answer, looked, step, end}
 use Rattle.demands.specs.Sequence.{New, Fed, AllFed}
 use Rattle.demands.specs.Demand1.{refusalSaid, refusalIn, Long}
@@ -104,7 +104,7 @@ back-said (refused m) e = let q : m ≡ 1 = cc in ap refused q
 back-said (version v) e = nothing-there e
 back-said (took n r) e = nothing-there e
 back-said (found r) e = nothing-there e
-back-said (ended n b s) e = nothing-there e
+back-said (ended c) e = nothing-there e
 back-said (waited b) e = nothing-there e
 
 module _ (w : World) (g : Good w) (l : Long w) where

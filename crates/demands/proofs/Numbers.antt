@@ -9,16 +9,16 @@ use lib.ListN.{length}
 use lib.Dec.{leb, ltb}
 use borrow.Author.Tests.{lt-ltb, le-ltb}
 use Rattle.frame.specs.Frame.{wholeFrame}
-use Rattle.table.specs.declared.FieldRow.{FieldRow}
+use Rattle.rows.specs.declared.FieldRow.{FieldRow}
 use Rattle.table.specs.Lists.{pick}
 use Rattle.table.specs.Lookup.{carried, findRow}
 use Rattle.table.specs.Rows.{BlockRow, Table}
 use Rattle.record.specs.Answer.{Said, unsigned, signed, single, double, doNotUse, notInRevision, refused}
-use Rattle.record.specs.Bits.{readAs, isDoNotUse, valueOf, fieldValue}
+use Rattle.value.specs.Bits.{readAs, isDoNotUse, valueOf, fieldValue}
 use Rattle.record.specs.Block.{revisionIn, subCount, bodyFits, subsFit, Seen, refusedBy, row, seenRow, seen, seenSubRow}
 use Rattle.record.specs.Calls.{fieldSaid, fieldOr9, bodyBy, subBytes, subBy, numberBy, stamp}
 use Rattle.reader.specs.Refusals.{need}
-use Rattle.reader.specs.Records.{saidUnless, firstOf}
+use Rattle.records.specs.Calls.{saidUnless, firstOf}
 use Rattle.demands.specs.Exactly.{Order, Exactly}
 use Rattle.demands.specs.Demand1.{refusalValue}
 use Rattle.demands.specs.Asked.{Says, number}

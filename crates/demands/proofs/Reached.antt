@@ -13,7 +13,7 @@ use Rattle.frame.proofs.Calls.{fed-holds}
 use Rattle.frame.proofs.Runs.{finish-rest}
 use Rattle.feed.specs.Hold.{restOf, holdOf}
 use Rattle.reader.specs.State.{limit, sound}
-use Rattle.reader.specs.Calls.{feedingOf, finishingOf}
+use Rattle.runs.specs.Calls.{feedingOf, finishingOf}
 use Rattle.reader.specs.declared.State.{State}
 use Rattle.demands.specs.Sound.{Sound, Bytes}
 use Rattle.demands.specs.World.{World, TableCall, stage, withdraw, Call, openRun, feed, finish, table, look, Answer, step, end}
@@ -45,8 +45,8 @@ fed-clean : (s : State) (hold piece : List ℕ) → Bytes hold → Bytes piece �
 unfolding feedingOf
 fed-clean s hold piece b p =
     let rest = restOf hold (s .run .held) (s .run .standing) in
-    let room = limit - s .run .taken in
-    let f = feedLit (restOf hold (s .run .held) (s .run .standing)) piece (limit - s .run .taken) in
+    let room = limit - s .run .counts .taken in
+    let f = feedLit (restOf hold (s .run .held) (s .run .standing)) piece (limit - s .run .counts .taken) in
     subst⁻¹ Bytes (fed-holds piece room rest)
     (drop-bytes (rest ++ take (f .taken) piece) (f .skipped)
     (append-bytes rest (take (f .taken) piece) (rest-bytes hold (s .run .held) (s .run .standing) b) (take-bytes piece (f .taken) p)))

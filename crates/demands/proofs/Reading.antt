@@ -13,8 +13,10 @@ use Rattle.frame.specs.Session.{size}
 use Rattle.frame.proofs.Runs.{read-end, Ends, finished}
 use Rattle.reader.specs.State.{sound}
 use Rattle.reader.specs.Said.{Report, ended, refused}
-use Rattle.reader.specs.Refusals.{longHold, feedRefusal, finishRefusal}
-use Rattle.reader.specs.Calls.{front, runOn, feedingOf, finishingOf, finishSaid, phaseAfter, opening}
+use Rattle.reader.specs.Refusals.{longHold}
+use Rattle.runs.specs.Refusals.{feedRefusal, finishRefusal}
+use Rattle.runs.specs.Calls.{front, runOn, feedingOf, finishingOf, finishSaid, phaseAfter}
+use Rattle.tables.specs.Calls.{opening}
 use Rattle.reader.specs.declared.Phase.the-variants as phase
 use Rattle.reader.specs.declared.Phase.{Phase}
 use Rattle.reader.proofs.Laws.{passes, with-hold}
@@ -22,7 +24,7 @@ use Rattle.feed.specs.Hold.{restOf}
 use Rattle.demands.specs.World.{World, TableCall, stage, withdraw, Look, bytes, body, sub, subBytes, tow, wnc, Call, openRun, feed, finish, table, look, Answer, said, leftForce, looked, step, end}
 use Rattle.demands.specs.Sequence.{Fed, AllFed, endSaid, isEnd, NoEnd, Within, opened, tookOf, reportIn, inHold, shown, taken, blocks, shownBlocks}
 use Rattle.demands.specs.Demand2.{MayFollow, FirstOnes}
-use Rattle.demands.specs.Demand3.{BlocksOfTheWhole, HoweverCut}
+use Rattle.demands.specs.Demand3.{countsOf, BlocksOfTheWhole, HoweverCut}
 use Rattle.demands.proofs.Steps.{How, isnt, is, how, refusal, done, tableDone, clash}
 use Rattle.demands.proofs.Reached.{Good, good-step, good-end}
 use Rattle.demands.proofs.Live.{Live, not-open, live-step, stands}
@@ -110,13 +112,12 @@ un-nil {ts} {b} {w} r = subst (λ (x : List ℕ). Reads x b w) (append-nil ts) (
 
 record Whole (ts : List ℕ) (b : List Block) (a : Answer) : Type 0 where
   pub all : b ≡ readRun 0 ts .blocks
-  pub counts : a ≡ said (ended (length ts) (length (readRun 0 ts .blocks)) (length (readRun 0 ts .skipped)))
+  pub counts : a ≡ said (ended (countsOf ts))
 
 -- a closed run holds nothing, so all is read
 closed-reads : (w : World) {ts : List ℕ} {b : List Block} → w .state .run .phase ≡ phase.Closed → kept w ≡ [] → Reads ts b w
-    → Whole ts b (said (ended (w .state .run .taken) (w .state .run .blocks) (w .state .run .skipped)))
+    → Whole ts b (said (ended (w .state .run .counts)))
 closed-reads w {ts} {b} c k r =
-    let n = w .state .run .skipped in
     let so : readRun 0 ts ≡ record { blocks = b; skipped = r .places } =
     ap (readRun 0) (sym (append-nil ts)) ∙ r .so [] (subst⁻¹ (λ (x : Phase). MayFollow x []) c refl)
     ∙ ap (λ (j : List ℕ). both (record { blocks = b; skipped = r .places }) (readRun (place w) (j ++ []))) k
@@ -125,8 +126,9 @@ closed-reads w {ts} {b} c k r =
     let all : b ≡ readRun 0 ts .blocks = ap (λ (x : Reading). x .blocks) (sym so) in
     record {
       all = all;
-      counts = ap₂ (λ (i j : ℕ). said (ended i j (w .state .run .skipped))) (r .count) (r .sum ∙ ap length all)
-          ∙ ap (λ (i : ℕ). said (ended (length ts) (length (readRun 0 ts .blocks)) i)) (r .skips ∙ ap (λ (x : Reading). length (x .skipped)) (sym so));
+      counts = ap₂ (λ (i j : ℕ). said (ended (record { taken = i; blocks = j; skipped = w .state .run .counts .skipped }))) (r .count) (r .sum ∙ ap length all)
+          ∙ ap (λ (i : ℕ). said (ended (record { taken = length ts; blocks = length (readRun 0 ts .blocks); skipped = i })))
+          (r .skips ∙ ap (λ (x : Reading). length (x .skipped)) (sym so));
     }
 
 ended-reads : (w : World) {ts : List ℕ} {b : List Block} (o : Option ℕ) (f : Feeding) → f .standing ≡ o → Good w → Fits w f → Ends o (f .held)
@@ -212,5 +214,5 @@ however-cut w u before mid first other h k e f t =
     record {
       all = a .all ∙ ap (λ (x : List ℕ). readRun 0 x .blocks) t ∙ sym (b .all);
       shown = a .shown ∙ ap (λ (x : List ℕ). readRun 0 x .blocks) t ∙ sym (b .shown);
-      counts = a .counts ∙ ap (λ (x : List ℕ). said (ended (length x) (length (readRun 0 x .blocks)) (length (readRun 0 x .skipped)))) t ∙ sym (b .counts);
+      counts = a .counts ∙ ap (λ (x : List ℕ). said (ended (countsOf x))) t ∙ sym (b .counts);
     }

@@ -4,7 +4,7 @@ use Prim.Native.Nat.{ℕ}
 use mathlib.Core.Path.{_≡_, refl}
 use mathlib.Core.List.{List, []}
 use mathlib.Core.Option.{Option, none, some}
-use Rattle.reader.specs.Calls.{finishingOf, finishingBy, finishSaid}
+use Rattle.runs.specs.Calls.{finishingOf, finishingBy, finishSaid}
 use Rattle.reader.specs.declared.Run.{Run}
 use Rattle.demands.specs.World.{World, TableCall, stage, withdraw, Look, bytes, body, sub, subBytes, tow, wnc, Call, openRun, feed, finish, table, look, Answer, looked}
 use Rattle.demands.specs.Sequence.{partOf}

@@ -4,10 +4,14 @@ use mathlib.Core.Path.{_≡_, sym, ap, _∙_}
 use mathlib.Core.List.{List}
 use Prim.Native.Nat.{ℕ}
 use Rattle.record.specs.Answer as record-answer
-use Rattle.record.proofs.Theorems.{one-answer}
-use Rattle.reader.specs.Said.{Said, saidOpened, saidFed, saidFinished, saidStaged, saidWithdrawn}
-use Rattle.reader.specs.Calls.{Outcome, outcome, openOf, feedOf, finishOf, bytesOf, stageOf, withdrawOf}
-use Rattle.reader.specs.Records.{bodyOf, subOf, subBytesOf, towOf, wncOf}
+use Rattle.answers.proofs.Theorems.{one-answer}
+use Rattle.reader.specs.Said.{Said}
+use Rattle.tables.specs.Said.{saidOpened, saidStaged, saidWithdrawn}
+use Rattle.runs.specs.Said.{saidFed, saidFinished}
+use Rattle.reader.specs.Outcome.{Outcome, outcome}
+use Rattle.tables.specs.Calls.{openOf, stageOf, withdrawOf}
+use Rattle.runs.specs.Calls.{feedOf, finishOf, bytesOf}
+use Rattle.records.specs.Calls.{bodyOf, subOf, subBytesOf, towOf, wncOf}
 use Rattle.demands.specs.One.{One, OnePart, OneField, OneOutcome}
 use Rattle.demands.proofs.Apart.{checks, opens, feeds, finishes, stages, withdraws}
 

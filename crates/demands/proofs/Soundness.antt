@@ -1,6 +1,6 @@
 -- The invariant of states is kept by every call.
 -- Assumes nothing.
-use Prim.Native.Nat.{ℕ, _+_, _-_, _≤_}
+use Prim.Native.Nat.{ℕ, zero, suc, _+_, _-_, _≤_}
 use native.Mathlib.Omega.{arith}
 use native.Mathlib.Nat.{add-zero}
 use mathlib.Core.Path.{_≡_, refl, ap, _∙_, subst, subst⁻¹}
@@ -25,17 +25,19 @@ use Rattle.feed.specs.Hold.{restOf}
 use Rattle.feed.proofs.Literally.{rest-length}
 use Rattle.table.proofs.Passed as table
 use Rattle.reader.specs.State.{limit, sound}
-use Rattle.reader.specs.Refusals.{openRefusal, feedRefusal, finishRefusal, stageRefusal, withdrawRefusal}
+use Rattle.tables.specs.Calls.{openRefusal, stageRefusal, withdrawRefusal, opening, openOf, staging, stageOf, withdrawing, withdrawOf}
+use Rattle.runs.specs.Refusals.{feedRefusal, finishRefusal}
 use Rattle.reader.specs.Refusals as refusals
 use Rattle.reader.specs.Said.{took}
-use Rattle.reader.specs.Calls.{Outcome, unless, one, reportIf, front, finishSaid, phaseAfter, runOn, withRun, opening, openOf, feedingBy, feedingOf, feedOf, finishingBy, finishingOf, finishOf, staging, stageOf, withdrawing, withdrawOf}
+use Rattle.reader.specs.Outcome.{Outcome, unless}
+use Rattle.runs.specs.Calls.{one, reportIf, front, finishSaid, phaseAfter, runOn, withRun, feedingBy, feedingOf, feedOf, finishingBy, finishingOf, finishOf}
 use Rattle.reader.specs.declared.Phase.{Phase}
 use Rattle.reader.specs.declared.Phase.the-variants as phase
 use Rattle.reader.specs.declared.Run.{Run}
 use Rattle.reader.specs.declared.State.{State}
 use Rattle.reader.proofs.Laws.{passes, with-hold}
-use Rattle.reader.proofs.Accepted.{stage-passed}
-use Rattle.reader.proofs.Feeding.{WholeIf, fed-whole, end-whole}
+use Rattle.tables.proofs.Accepted.{stage-passed}
+use Rattle.runs.proofs.Feeding.{WholeIf, fed-whole, end-whole}
 use Rattle.demands.specs.Sound.{Sound, Bytes, sizeIn, sinceOpen, SoundKept}
 
 -- a refused call keeps the state, and reports nothing; else what is done has to
@@ -69,21 +71,25 @@ fed-held h piece room bh bp l =
     (held-by (scanFrom (h ++ take room piece) 0 (length h)) (h ++ take room piece) (length h) l
     (scan-bound (h ++ take room piece) 0 (length h) (append-bytes h (take room piece) bh (take-bytes piece room bp))))
 
-one-by : (o : Option ℕ) (v : List ℕ) → WholeIf o v → (one o ≤ size o) × (size o ≤ length v)
-one-by none v w = (omega arith, omega arith)
-one-by (some n) v w = (omega (arith, w .eight), w .there)
+one-le : (n : ℕ) → one n ≤ n
+one-le zero = omega arith
+one-le (suc n) = omega arith
+
+whole-le : (o : Option ℕ) (v : List ℕ) → WholeIf o v → size o ≤ length v
+whole-le none v w = omega arith
+whole-le (some n) v w = w .there
 
 -- the run goes on by what was taken, skipped and kept
 went-on : (x : Phase) (s : State) (b n : ℕ) (F : Feeding) → Sound s b → n ≡ s .run .held - s .run .standing → n + F .taken ≡ F .skipped + length (F .held)
-    → length (F .held) ≤ 65532 → F .taken ≤ limit - s .run .taken → (one (F .standing) ≤ size (F .standing)) × (size (F .standing) ≤ length (F .held))
+    → length (F .held) ≤ 65532 → F .taken ≤ limit - s .run .counts .taken → size (F .standing) ≤ length (F .held)
     → Sound (withRun s (runOn x (s .run) F)) (b + size (F .standing))
 went-on x s b n F h e sum l t o =
     record {
       few = l;
-      front = o .1;
+      front = o;
       among = omega arith;
-      count = omega (arith, h .count, o .0);
-      sum = omega (arith, h .sum, sum, o .1);
+      count = omega (arith, h .count, one-le (size (F .standing)));
+      sum = omega (arith, h .sum, sum, o);
       most = omega (arith, h .most, t);
       force = h .force;
       wait = h .wait;
@@ -99,14 +105,14 @@ unfolding feedRefusal feedingOf
 feed-done s b hold piece bh bp h e =
     let f = with-hold s hold (passes (sound s && refusals.longHold hold) 1 _ e .0) in
     let rest = restOf hold (s .run .held) (s .run .standing) in
-    let room = limit - s .run .taken in
+    let room = limit - s .run .counts .taken in
     let lr : length (restOf hold (s .run .held) (s .run .standing)) ≡ s .run .held - s .run .standing = rest-length hold (s .run .held) (s .run .standing) (h .front) (omega (arith, h .few, f .1)) in
     let k = call rest piece room in
     subst (λ (c : ℕ). Sound (feedingBy (feedLit rest piece room) s hold .state) (b + c))
     (fed-size (feedLit rest piece room .standing) (feedLit rest piece room .taken) (front (runOn phase.Feeding (s .run) (feedLit rest piece room))) (feedLit rest piece room .held))
     (went-on _ s b (length rest) (feedLit rest piece room) h lr (k .sum)
     (fed-held rest piece room (rest-bytes hold (s .run .held) (s .run .standing) bh) bp (omega (arith, lr, h .few))) (omega (arith, k .taken))
-    (one-by (feedLit rest piece room .standing) (feedLit rest piece room .held) (fed-whole rest piece room)))
+    (whole-le (feedLit rest piece room .standing) (feedLit rest piece room .held) (fed-whole rest piece room)))
 
 finish-done : (s : State) (b : ℕ) (hold : List ℕ) → Sound s b → finishRefusal s hold ≡ none
     → Sound (finishingBy (finishingOf s hold) s hold .state) (b + sizeIn (finishingBy (finishingOf s hold) s hold .said))
@@ -121,7 +127,7 @@ finish-done s b hold h e =
     subst (λ (c : ℕ). Sound (finishingBy (stop (finishLit rest)) s hold .state) (b + c))
     (end-size (finishLit rest .standing) (runOn x (s .run) (stop (finishLit rest))) (finishLit rest .rest))
     (went-on _ s b (length rest) (stop (finishLit rest)) h lr (omega (arith, r .few, l)) (omega (arith, l, lr, h .few)) (omega arith)
-    (one-by (finishLit rest .standing) (finishLit rest .rest) (end-whole rest)))
+    (whole-le (finishLit rest .standing) (finishLit rest .rest) (end-whole rest)))
 
 length-by : (b : Bool) (m n : ℕ) → m ≤ 8192 → n ≤ 8192 → cond b m n ≤ 8192
 length-by true m n h k = h
@@ -177,20 +183,20 @@ withdraws s b h = same (withdrawRefusal s) s b [] (withdrawing s) h (λ e. waits
 passes-one : (s : State) (b : ℕ) → Sound s b → sound s ≡ true
 unfolding sound
 passes-one s b h =
-    let within : s .run .held ≤ s .run .taken = omega (arith, h .sum, h .among, h .front) in
-    let blocks : s .run .blocks ≤ s .run .taken = omega (arith, h .sum, h .count) in
-    let skipped : s .run .skipped ≤ s .run .taken = omega (arith, h .sum) in
+    let within : s .run .held ≤ s .run .counts .taken = omega (arith, h .sum, h .among, h .front) in
+    let blocks : s .run .counts .blocks ≤ s .run .counts .taken = omega (arith, h .sum, h .count) in
+    let skipped : s .run .counts .skipped ≤ s .run .counts .taken = omega (arith, h .sum) in
     both-true
     (both-true
     (both-true
     (both-true
     (both-true
-    (both-true (both-true (le-leb (s .run .held) 65532 (h .few)) (le-leb (s .run .held) (s .run .taken) within)) (le-leb (s .run .standing) (s .run .held) (h .front)))
+    (both-true (both-true (le-leb (s .run .held) 65532 (h .few)) (le-leb (s .run .held) (s .run .counts .taken) within)) (le-leb (s .run .standing) (s .run .held) (h .front)))
     (le-leb (s .«in_force») 8192 (h .force)))
     (le-leb (s .waiting) 8192 (h .wait)))
-    (le-leb (s .run .taken) limit (h .most)))
-    (le-leb (s .run .blocks) (s .run .taken) blocks))
-    (le-leb (s .run .skipped) (s .run .taken) skipped)
+    (le-leb (s .run .counts .taken) limit (h .most)))
+    (le-leb (s .run .counts .blocks) (s .run .counts .taken) blocks))
+    (le-leb (s .run .counts .skipped) (s .run .counts .taken) skipped)
 
 pub sound-kept : SoundKept
 sound-kept =

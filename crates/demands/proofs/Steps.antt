@@ -7,8 +7,10 @@ use mathlib.Core.List.{List}
 use mathlib.Core.Option.{Option, none, some}
 use Rattle.frame.proofs.Tests.{never}
 use Rattle.reader.specs.Said.{refused}
-use Rattle.reader.specs.Refusals.{openRefusal, feedRefusal, finishRefusal, stageRefusal, withdrawRefusal}
-use Rattle.reader.specs.Calls.{unless, opening, openOf, feedingBy, feedingOf, feedOf, finishingBy, finishingOf, finishOf, staging, stageOf, withdrawing, withdrawOf}
+use Rattle.tables.specs.Calls.{openRefusal, stageRefusal, withdrawRefusal, opening, openOf, staging, stageOf, withdrawing, withdrawOf}
+use Rattle.runs.specs.Refusals.{feedRefusal, finishRefusal}
+use Rattle.reader.specs.Outcome.{unless}
+use Rattle.runs.specs.Calls.{feedingBy, feedingOf, feedOf, finishingBy, finishingOf, finishOf}
 use Rattle.demands.specs.World.{World, TableCall, stage, withdraw, Call, openRun, feed, finish, table, look, Answer, said, leftForce, leftHold, leftWait, leftNone, looked, step}
 
 abbrev pub tableRefusals : TableCall → World → Option ℕ

@@ -11,7 +11,7 @@ use Rattle.reader.specs.Said.{Said, refused, version, took, found, ended, waite
 use Rattle.demands.specs.World.{openRun, feed, finish, table, look, Answer, said, part, value, step}
 use Rattle.demands.specs.Sequence.{tookSaid, tookBy, taken, opened}
 use Rattle.demands.proofs.Reading.{of-the-whole}
-use Rattle.demands.specs.Demand3.{Offers, TakesTheStream, BlocksOfTheStream}
+use Rattle.demands.specs.Demand3.{countsOf, Offers, TakesTheStream, BlocksOfTheStream}
 
 cut : (n : ℕ) (p : List ℕ) → take n p ≡ take (length (take n p)) p
 cut zero p = refl
@@ -28,7 +28,7 @@ front-said (refused n) piece s e = refl
 front-said (version v) piece s e = refl
 front-said (took n r) piece s e = front-of n piece s e
 front-said (found r) piece s e = refl
-front-said (ended n b k) piece s e = refl
+front-said (ended c) piece s e = refl
 front-said (waited b) piece s e = refl
 
 front-by : (a : Answer) (piece s : List ℕ) → piece ≡ take (length piece) s → tookBy piece a ≡ take (length (tookBy piece a)) s
@@ -60,5 +60,5 @@ of-the-stream s w before mid h e o n =
     record {
       all = a .all ∙ ap (λ (x : List ℕ). readRun 0 x .blocks) t;
       shown = a .shown ∙ ap (λ (x : List ℕ). readRun 0 x .blocks) t;
-      counts = a .counts ∙ ap (λ (x : List ℕ). said (ended (length x) (length (readRun 0 x .blocks)) (length (readRun 0 x .skipped)))) t;
+      counts = a .counts ∙ ap (λ (x : List ℕ). said (ended (countsOf x))) t;
     }

@@ -18,14 +18,17 @@ use Rattle.table.specs.Rules.{tableOk}
 use Rattle.table.proofs.Passed as passed
 use Rattle.reader.specs.State.{sound}
 use Rattle.reader.specs.Said.{refused, version, waited}
-use Rattle.reader.specs.Refusals.{isFeeding, longHold, nextTable, openRefusal, feedRefusal, bytesRefusal}
-use Rattle.reader.specs.Calls.{reportIf, front, runOn, feedingOf, finishingOf, finishSaid, phaseAfter, partUnless, bytesOf}
+use Rattle.runs.specs.Refusals.{isFeeding, feedRefusal, bytesRefusal}
+use Rattle.reader.specs.Refusals.{longHold}
+use Rattle.tables.specs.Calls.{nextTable, openRefusal}
+use Rattle.runs.specs.Calls.{reportIf, front, runOn, feedingOf, finishingOf, finishSaid, phaseAfter, bytesOf}
+use Rattle.reader.specs.Outcome.{partUnless}
 use Rattle.reader.specs.declared.Phase.{Phase}
 use Rattle.reader.specs.declared.Phase.the-variants as phase
 use Rattle.reader.specs.declared.Run.{Run}
 use Rattle.reader.specs.declared.State.{State}
 use Rattle.reader.proofs.Laws.{passes}
-use Rattle.reader.proofs.Accepted.{stage-passed}
+use Rattle.tables.proofs.Accepted.{stage-passed}
 use Rattle.demands.specs.World.{World, TableCall, stage, withdraw, Look, bytes, Call, openRun, feed, finish, table, look, Answer, said, part, step, end}
 use Rattle.demands.specs.Sequence.{New}
 use Rattle.demands.specs.Demand3.{LooksBy}

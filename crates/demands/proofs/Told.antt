@@ -8,9 +8,11 @@ use mathlib.Core.Option.{Option, none, some}
 use Rattle.record.specs.Block.{Seen, refusedBy, row, seenSub}
 use Rattle.record.specs.Calls.{partBy, numberBy, subBlock, subBlockRefusal}
 use Rattle.reader.specs.Said.{refused}
-use Rattle.reader.specs.Refusals.{openRefusal, feedRefusal, finishRefusal, bytesRefusal, stageRefusal, withdrawRefusal}
-use Rattle.reader.specs.Calls.{Outcome, unless, partUnless, opening, openOf, feedingBy, feedingOf, feedOf, finishingBy, finishingOf, finishOf, bytesOf, staging, stageOf, withdrawing, withdrawOf}
-use Rattle.reader.specs.Records.{tableInForce, askRefusal, firstOf, subBytesOf, subBytesRefusal}
+use Rattle.tables.specs.Calls.{openRefusal, stageRefusal, withdrawRefusal, opening, openOf, staging, stageOf, withdrawing, withdrawOf}
+use Rattle.runs.specs.Refusals.{feedRefusal, finishRefusal, bytesRefusal}
+use Rattle.reader.specs.Outcome.{Outcome, unless, partUnless}
+use Rattle.runs.specs.Calls.{feedingBy, feedingOf, feedOf, finishingBy, finishingOf, finishOf, bytesOf}
+use Rattle.records.specs.Calls.{tableInForce, askRefusal, firstOf, subBytesOf, subBytesRefusal}
 use Rattle.table.specs.Decode.{decode}
 use Rattle.reader.specs.declared.State.{State}
 use Rattle.demands.specs.Exactly.{Order, Exactly, openOrder, feedOrder, finishOrder, stageOrder, withdrawOrder}

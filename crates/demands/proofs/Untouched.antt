@@ -9,10 +9,11 @@ use mathlib.Core.Option.{Option, none, some}
 use lib.ListN.{length}
 use Rattle.table.proofs.Passed as passed
 use Rattle.reader.specs.State.{sound}
-use Rattle.reader.specs.Refusals.{openRefusal, feedRefusal, finishRefusal, bytesRefusal, stageRefusal, withdrawRefusal}
-use Rattle.reader.specs.Calls.{feedingOf, finishingOf, bytesOf}
-use Rattle.reader.specs.Records.{askRefusal, bodyOf, subOf, subBytesOf, subBytesRefusal, stampOf}
-use Rattle.reader.proofs.Accepted.{stage-passed}
+use Rattle.tables.specs.Calls.{openRefusal, stageRefusal, withdrawRefusal}
+use Rattle.runs.specs.Refusals.{feedRefusal, finishRefusal, bytesRefusal}
+use Rattle.runs.specs.Calls.{feedingOf, finishingOf, bytesOf}
+use Rattle.records.specs.Calls.{askRefusal, bodyOf, subOf, subBytesOf, subBytesRefusal, stampOf}
+use Rattle.tables.proofs.Accepted.{stage-passed}
 use Rattle.demands.specs.World.{World, TableCall, stage, withdraw, Look, bytes, body, sub, subBytes, tow, wnc, Call, openRun, feed, finish, table, look, Answer, looked, step, end}
 use Rattle.demands.specs.Demand3.{isTable}
 use Rattle.demands.proofs.Steps.{How, isnt, is, how, refusal, tableRefusals, done, tableDone, unlessRefused, by-refusal, clash}

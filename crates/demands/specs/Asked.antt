@@ -11,15 +11,16 @@ use mathlib.Core.Option.{some}
 use lib.ListN.{length, getD, take, drop}
 use Rattle.crc.specs.Crc.{crcOf}
 use Rattle.frame.specs.Frame.{crcAt, idAt, lengthAt, numberOf, revisionOf}
-use Rattle.table.specs.declared.FieldRow.{FieldRow}
+use Rattle.rows.specs.declared.FieldRow.{FieldRow}
 use Rattle.table.specs.Lists.{pick}
 use Rattle.table.specs.Rows.{BlockRow, Table, ends}
 use Rattle.table.specs.Decode.{decode}
 use Rattle.record.specs.Answer as record-answer
 use Rattle.reader.specs.Said.{refused}
-use Rattle.reader.specs.Refusals.{bytesRefusal}
-use Rattle.reader.specs.Calls.{openOf, feedOf, finishOf, bytesOf, stageOf, withdrawOf}
-use Rattle.reader.specs.Records.{tableInForce, bodyOf, subOf, subBytesOf, subBytesRefusal, towOf, wncOf}
+use Rattle.runs.specs.Refusals.{bytesRefusal}
+use Rattle.tables.specs.Calls.{openOf, stageOf, withdrawOf}
+use Rattle.runs.specs.Calls.{feedOf, finishOf, bytesOf}
+use Rattle.records.specs.Calls.{tableInForce, bodyOf, subOf, subBytesOf, subBytesRefusal, towOf, wncOf}
 use Rattle.reader.specs.declared.State.{State}
 use Rattle.demands.specs.Exactly.{Order, nothing, first, Given, Exactly, BadState, ShortStore, Breaks, openOrder, feedOrder, finishOrder, stageOrder, withdrawOrder}
 

@@ -20,7 +20,7 @@ refusalSaid (refused n) = some n
 refusalSaid (version v) = none
 refusalSaid (took n r) = none
 refusalSaid (found r) = none
-refusalSaid (ended n b s) = none
+refusalSaid (ended c) = none
 refusalSaid (waited b) = none
 
 abbrev pub refusalValue : fields.Said → Option ℕ

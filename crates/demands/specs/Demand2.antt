@@ -11,7 +11,7 @@ use Rattle.frame.specs.ReadRun.{readRun}
 use Rattle.frame.specs.declared.Verdict.the-variants.{Undecided}
 use Rattle.table.specs.Decode.{decode}
 use Rattle.reader.specs.Said.{took}
-use Rattle.reader.specs.Records.{tableInForce}
+use Rattle.records.specs.Calls.{tableInForce}
 use Rattle.reader.specs.declared.Phase.{Phase}
 use Rattle.reader.specs.declared.Phase.the-variants.{Closed, Feeding, Finishing}
 use Rattle.demands.specs.World.{World, Look, Call, feed, look, said, step, end}
@@ -26,7 +26,7 @@ MayFollow Finishing more = more ≡ []
 
 -- the place where reading goes on: that of the first held byte behind the standing block
 abbrev pub placeNow : World → ℕ
-placeNow w = w .state .run .taken - w .state .run .held + w .state .run .standing
+placeNow w = w .state .run .counts .taken - w .state .run .held + w .state .run .standing
 
 -- at a moment of a run: whatever follows, the whole run reads as the blocks reported so far and as many
 -- skipped bytes as are counted, and then as it reads from the place on
@@ -36,9 +36,9 @@ pub record ReadSoFar (w : World) (mid : List Call) : Type 0 where
       ≡ blocks mid w ++ readRun (placeNow (end mid w)) (drop (placeNow (end mid w)) (taken mid w) ++ more) .blocks
   pub skips : (more : List ℕ) → MayFollow (end mid w .state .run .phase) more
       → length (readRun 0 (taken mid w ++ more) .skipped)
-      ≡ end mid w .state .run .skipped + length (readRun (placeNow (end mid w)) (drop (placeNow (end mid w)) (taken mid w) ++ more) .skipped)
-  pub took : end mid w .state .run .taken ≡ length (taken mid w)
-  pub counted : end mid w .state .run .blocks ≡ length (blocks mid w)
+      ≡ end mid w .state .run .counts .skipped + length (readRun (placeNow (end mid w)) (drop (placeNow (end mid w)) (taken mid w) ++ more) .skipped)
+  pub took : end mid w .state .run .counts .taken ≡ length (taken mid w)
+  pub counted : end mid w .state .run .counts .blocks ≡ length (blocks mid w)
 
 abbrev pub FirstOnes : Type 0
 FirstOnes = (w : World) (before mid : List Call) → Within w before mid → ReadSoFar (opened w before) mid

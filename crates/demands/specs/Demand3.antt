@@ -9,18 +9,23 @@ use Rattle.frame.specs.ReadRun.{readRun}
 use Rattle.table.specs.Decode.{decode}
 use Rattle.table.specs.Rows.{Table}
 use Rattle.record.specs.Calls.{bodyField, subField, subBlock, subBlockRefusal, towRow, wncRow, stamp}
+use Rattle.reader.specs.declared.Counts.{Counts}
 use Rattle.reader.specs.Said.{ended}
-use Rattle.reader.specs.Refusals.{nextTable}
+use Rattle.tables.specs.Calls.{nextTable}
 use Rattle.demands.specs.World.{World, Look, bytes, body, sub, subBytes, tow, wnc, Call, openRun, feed, finish, table, look, Answer, said, part, value, step, end, trace}
 use Rattle.demands.specs.Sequence.{Within, Closes, opened, tookOf, taken, blocks, shownBlocks}
 
 -- ---- "the blocks, their bytes and the counts are those of its whole bytes"
 
+-- the counts of a run's whole bytes
+abbrev pub countsOf : List ℕ → Counts
+countsOf run =
+    record { taken = length run; blocks = length (readRun 0 run .blocks); skipped = length (readRun 0 run .skipped) }
+
 pub record OfTheWhole (w : World) (mid : List Call) : Type 0 where
   pub all : blocks mid w ≡ readRun 0 (taken mid w) .blocks
   pub shown : shownBlocks mid w ≡ readRun 0 (taken mid w) .blocks
-  pub counts : step finish (end mid w) .0
-      ≡ said (ended (length (taken mid w)) (length (readRun 0 (taken mid w) .blocks)) (length (readRun 0 (taken mid w) .skipped)))
+  pub counts : step finish (end mid w) .0 ≡ said (ended (countsOf (taken mid w)))
 
 -- "For each run that was closed by End": "however its bytes were cut between calls, and wherever table calls .. stood among them"
 abbrev pub BlocksOfTheWhole : Type 0
@@ -57,7 +62,7 @@ TakesTheStream = (s : List ℕ) (cs : List Call) (w : World) → Offers s cs w �
 pub record OfTheStream (s : List ℕ) (w : World) (mid : List Call) : Type 0 where
   pub all : blocks mid w ≡ readRun 0 s .blocks
   pub shown : shownBlocks mid w ≡ readRun 0 s .blocks
-  pub counts : step finish (end mid w) .0 ≡ said (ended (length s) (length (readRun 0 s .blocks)) (length (readRun 0 s .skipped)))
+  pub counts : step finish (end mid w) .0 ≡ said (ended (countsOf s))
 
 abbrev pub BlocksOfTheStream : Type 0
 BlocksOfTheStream =

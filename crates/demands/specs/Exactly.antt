@@ -12,8 +12,9 @@ use lib.ListN.{length}
 use Rattle.frame.specs.Settle.{settle}
 use Rattle.feed.specs.Hold.{restOf}
 use Rattle.table.specs.Rules.{tableOk}
-use Rattle.reader.specs.Refusals.{nextTable, openRefusal, feedRefusal, finishRefusal, bytesRefusal, stageRefusal, withdrawRefusal}
-use Rattle.reader.specs.Records.{tableInForce, askRefusal}
+use Rattle.tables.specs.Calls.{nextTable, openRefusal, stageRefusal, withdrawRefusal}
+use Rattle.runs.specs.Refusals.{feedRefusal, finishRefusal, bytesRefusal}
+use Rattle.records.specs.Calls.{tableInForce, askRefusal}
 use Rattle.reader.specs.declared.Phase.the-variants.{Closed, Feeding}
 use Rattle.reader.specs.declared.State.{State}
 
@@ -36,10 +37,10 @@ pub record Exactly (o : Option ℕ) (order : Order) : Type 0 where
 -- 8,192, over 4,294,967,295 taken, or blocks or skipped above taken"
 abbrev pub BadState : State → Type 0
 BadState s =
-    (((((((65532 < s .run .held) ⊎ (s .run .taken < s .run .held)) ⊎ (s .run .held < s .run .standing)) ⊎ (8192 < s .«in_force»)) ⊎ (8192 < s .waiting))
-    ⊎ (4294967295 < s .run .taken))
-    ⊎ (s .run .taken < s .run .blocks))
-    ⊎ (s .run .taken < s .run .skipped)
+    (((((((65532 < s .run .held) ⊎ (s .run .counts .taken < s .run .held)) ⊎ (s .run .held < s .run .standing)) ⊎ (8192 < s .«in_force»)) ⊎ (8192 < s .waiting))
+    ⊎ (4294967295 < s .run .counts .taken))
+    ⊎ (s .run .counts .taken < s .run .counts .blocks))
+    ⊎ (s .run .counts .taken < s .run .counts .skipped)
 
 -- 1: "a lent buffer is too short"
 abbrev pub ShortHold : List ℕ → Type 0
@@ -64,7 +65,7 @@ abbrev pub feedOrder : State → List ℕ → List ℕ → Order
 feedOrder s hold piece =
     first 1 (BadState s ⊎ ShortHold hold)
     (first 2 (s .run .phase ≡ Feeding → ⊥)
-    (first 3 ((4294967295 ≤ s .run .taken) × ((0 < length piece) × (settle (restOf hold (s .run .held) (s .run .standing)) .standing ≡ none))) nothing))
+    (first 3 ((4294967295 ≤ s .run .counts .taken) × ((0 < length piece) × (settle (restOf hold (s .run .held) (s .run .standing)) .standing ≡ none))) nothing))
 
 -- "Finish 1, 2"
 abbrev pub finishOrder : State → List ℕ → Order

@@ -10,7 +10,7 @@ use lib.ListN.{length, take}
 use Rattle.table.specs.Decode.{decode}
 use Rattle.table.specs.Rules.{tableOk}
 use Rattle.reader.specs.Said.{Report, Said, refused, version, took, found, ended, waited}
-use Rattle.reader.specs.Refusals.{nextTable}
+use Rattle.tables.specs.Calls.{nextTable}
 use Rattle.reader.specs.declared.Phase.{Phase}
 use Rattle.reader.specs.declared.Phase.the-variants.{Closed, Feeding, Finishing}
 use Rattle.demands.specs.World.{World, TableCall, stage, withdraw, Look, bytes, Call, openRun, feed, finish, table, look, Answer, said, part, value, step, end}
@@ -40,7 +40,7 @@ afterOpen (refused n) p = p
 afterOpen (version v) p = record { phase = Feeding; waiting = none; force = orElse (p .waiting) (p .force); stands = [] }
 afterOpen (took n r) p = p
 afterOpen (found r) p = p
-afterOpen (ended n b s) p = p
+afterOpen (ended c) p = p
 afterOpen (waited b) p = p
 
 -- the first L bytes of the hold
@@ -54,7 +54,7 @@ afterFeed (refused n) hold p = p
 afterFeed (version v) hold p = p
 afterFeed (took n r) hold p = record { phase = p .phase; waiting = p .waiting; force = p .force; stands = reportedBytes r hold }
 afterFeed (found r) hold p = p
-afterFeed (ended n b s) hold p = p
+afterFeed (ended c) hold p = p
 afterFeed (waited b) hold p = p
 
 -- "answers Block, or End (..), which closes the run. After the first Finish no bytes are fed."
@@ -63,7 +63,7 @@ afterFinish (refused n) hold p = p
 afterFinish (version v) hold p = p
 afterFinish (took n r) hold p = p
 afterFinish (found r) hold p = record { phase = Finishing; waiting = p .waiting; force = p .force; stands = reportedBytes (some r) hold }
-afterFinish (ended n b s) hold p = record { phase = Closed; waiting = p .waiting; force = p .force; stands = [] }
+afterFinish (ended c) hold p = record { phase = Closed; waiting = p .waiting; force = p .force; stands = [] }
 afterFinish (waited b) hold p = p
 
 -- "replacing any that waits"
@@ -72,7 +72,7 @@ afterStage t (refused n) p = p
 afterStage t (version v) p = record { phase = p .phase; waiting = some t; force = p .force; stands = p .stands }
 afterStage t (took n r) p = p
 afterStage t (found r) p = p
-afterStage t (ended n b s) p = p
+afterStage t (ended c) p = p
 afterStage t (waited b) p = p
 
 -- "nothing waits any more"
@@ -81,7 +81,7 @@ afterWithdraw (refused n) p = p
 afterWithdraw (version v) p = p
 afterWithdraw (took n r) p = p
 afterWithdraw (found r) p = p
-afterWithdraw (ended n b s) p = p
+afterWithdraw (ended c) p = p
 afterWithdraw (waited b) p = record { phase = p .phase; waiting = none; force = p .force; stands = p .stands }
 
 abbrev pub onSaid : Answer → Past → (Said → Past) → Past

@@ -8,10 +8,14 @@ use Rattle.record.specs.Answer.{Answers, handedSays}
 use Rattle.record.specs.Answer as record-answer
 use Rattle.record.specs.declared.Answer.{Answer}
 use Rattle.record.specs.declared.Handed.{Handed}
-use Rattle.reader.specs.Said.{Said, refusalOf, saidOpened, saidFed, saidFinished, saidStaged, saidWithdrawn}
-use Rattle.reader.specs.Refusals.{bytesRefusal}
-use Rattle.reader.specs.Calls.{Outcome, outcome, openOf, feedOf, finishOf, bytesOf, stageOf, withdrawOf}
-use Rattle.reader.specs.Records.{bodyOf, subOf, subBytesOf, subBytesRefusal, towOf, wncOf}
+use Rattle.reader.specs.Said.{Said, refusalOf}
+use Rattle.tables.specs.Said.{saidOpened, saidStaged, saidWithdrawn}
+use Rattle.runs.specs.Said.{saidFed, saidFinished}
+use Rattle.runs.specs.Refusals.{bytesRefusal}
+use Rattle.reader.specs.Outcome.{Outcome, outcome}
+use Rattle.tables.specs.Calls.{openOf, stageOf, withdrawOf}
+use Rattle.runs.specs.Calls.{feedOf, finishOf, bytesOf}
+use Rattle.records.specs.Calls.{bodyOf, subOf, subBytesOf, subBytesRefusal, towOf, wncOf}
 use Rattle.reader.specs.declared.Check.{Check}
 use Rattle.reader.specs.declared.State.{State}
 

@@ -17,7 +17,7 @@ use Rattle.demands.specs.Sequence.{isEnd, Within, opened}
 abbrev pub MoreTakesAll : Type 0
 MoreTakesAll =
     (w : World) (piece : List ℕ) (n : ℕ) → step (feed piece) w .0 ≡ said (took n none)
-    → (n ≡ length piece) ⊎ (step (feed piece) w .1 .state .run .taken ≡ limit)
+    → (n ≡ length piece) ⊎ (step (feed piece) w .1 .state .run .counts .taken ≡ limit)
 
 -- so many calls of Finish
 unfoldable pub finishes : ℕ → List Call
@@ -30,7 +30,7 @@ foundSaid (refused n) = false
 foundSaid (version v) = false
 foundSaid (took n r) = false
 foundSaid (found r) = true
-foundSaid (ended n b s) = false
+foundSaid (ended c) = false
 foundSaid (waited b) = false
 
 abbrev pub isFound : Answer → Bool

@@ -4,7 +4,9 @@ use Prim.Native.Nat.{ℕ}
 use mathlib.Core.Path.{_≡_}
 use mathlib.Core.List.{List}
 use Rattle.reader.specs.Said.{refused}
-use Rattle.reader.specs.Calls.{Outcome, openOf, feedOf, finishOf, stageOf, withdrawOf}
+use Rattle.reader.specs.Outcome.{Outcome}
+use Rattle.tables.specs.Calls.{openOf, stageOf, withdrawOf}
+use Rattle.runs.specs.Calls.{feedOf, finishOf}
 use Rattle.reader.specs.declared.State.{State}
 
 -- an outcome that is a refusal keeps this state and this buffer

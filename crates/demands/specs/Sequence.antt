@@ -34,7 +34,7 @@ endSaid (refused n) = false
 endSaid (version v) = false
 endSaid (took n r) = false
 endSaid (found r) = false
-endSaid (ended n b s) = true
+endSaid (ended c) = true
 endSaid (waited b) = false
 
 abbrev pub isEnd : Answer → Bool
@@ -71,7 +71,7 @@ tookSaid piece (refused n) = []
 tookSaid piece (version v) = []
 tookSaid piece (took n r) = take n piece
 tookSaid piece (found r) = []
-tookSaid piece (ended n b s) = []
+tookSaid piece (ended c) = []
 tookSaid piece (waited b) = []
 
 abbrev pub tookBy : List ℕ → Answer → List ℕ
@@ -98,7 +98,7 @@ reportSaid (refused n) = none
 reportSaid (version v) = none
 reportSaid (took n r) = r
 reportSaid (found r) = some r
-reportSaid (ended n b s) = none
+reportSaid (ended c) = none
 reportSaid (waited b) = none
 
 abbrev pub reportIn : Answer → Option Report

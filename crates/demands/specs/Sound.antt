@@ -8,7 +8,8 @@ use mathlib.Core.Option.{Option, none, some}
 use lib.ListN.{getD}
 use Rattle.reader.specs.State.{limit, newState, sound}
 use Rattle.reader.specs.Said.{Report, Said, refused, version, took, found, ended, waited}
-use Rattle.reader.specs.Calls.{openOf, feedOf, finishOf, stageOf, withdrawOf}
+use Rattle.tables.specs.Calls.{openOf, stageOf, withdrawOf}
+use Rattle.runs.specs.Calls.{feedOf, finishOf}
 use Rattle.reader.specs.declared.State.{State}
 
 -- `reported` is the number of bytes in the blocks reported since Open, the standing one among them: these, the skipped ones and those held
@@ -17,9 +18,9 @@ pub record Sound (s : State) (reported : ℕ) : Type 0 where
   pub few : s .run .held ≤ 65532
   pub front : s .run .standing ≤ s .run .held
   pub among : s .run .standing ≤ reported
-  pub count : s .run .blocks ≤ reported
-  pub sum : reported + s .run .skipped + (s .run .held - s .run .standing) ≡ s .run .taken
-  pub most : s .run .taken ≤ limit
+  pub count : s .run .counts .blocks ≤ reported
+  pub sum : reported + s .run .counts .skipped + (s .run .held - s .run .standing) ≡ s .run .counts .taken
+  pub most : s .run .counts .taken ≤ limit
   pub force : s .«in_force» ≤ 8192
   pub wait : s .waiting ≤ 8192
 
@@ -37,7 +38,7 @@ sizeIn (refused n) = 0
 sizeIn (version v) = 0
 sizeIn (took n r) = reportBytes r
 sizeIn (found r) = r .size
-sizeIn (ended n b s) = 0
+sizeIn (ended c) = 0
 sizeIn (waited b) = 0
 
 -- a run that opens has reported none
@@ -46,7 +47,7 @@ sinceOpen (refused n) b = b
 sinceOpen (version v) b = 0
 sinceOpen (took n r) b = b
 sinceOpen (found r) b = b
-sinceOpen (ended n k s) b = b
+sinceOpen (ended c) b = b
 sinceOpen (waited x) b = b
 
 pub record SoundKept : Type 0 where

@@ -44,7 +44,7 @@ gives b = said (found b)
 
 -- Finish: End (bytes, blocks, skipped bytes)
 abbrev pub ends : ℕ → ℕ → ℕ → Answer
-ends bytes blocks skipped = said (ended bytes blocks skipped)
+ends bytes blocks skipped = said (ended (record { taken = bytes; blocks = blocks; skipped = skipped }))
 
 -- a record call: a refusal
 abbrev pub refusal : ℕ → Answer

@@ -5,9 +5,11 @@ use mathlib.Core.List.{List, [], _∷_}
 use mathlib.Core.Option.{Option}
 use Rattle.record.specs.Answer as fields
 use Rattle.reader.specs.Said.{Said}
-use Rattle.reader.specs.Refusals.{bytesRefusal}
-use Rattle.reader.specs.Calls.{Outcome, openOf, feedOf, finishOf, bytesOf, stageOf, withdrawOf}
-use Rattle.reader.specs.Records.{bodyOf, subOf, subBytesOf, subBytesRefusal, towOf, wncOf}
+use Rattle.runs.specs.Refusals.{bytesRefusal}
+use Rattle.reader.specs.Outcome.{Outcome}
+use Rattle.tables.specs.Calls.{openOf, stageOf, withdrawOf}
+use Rattle.runs.specs.Calls.{feedOf, finishOf, bytesOf}
+use Rattle.records.specs.Calls.{bodyOf, subOf, subBytesOf, subBytesRefusal, towOf, wncOf}
 use Rattle.reader.specs.declared.State.{State}
 
 -- the state, and the three lent buffers: "each given the state and lent the buffers as the last call left them"

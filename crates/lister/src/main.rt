@@ -3,11 +3,12 @@ ghost use Prim.Native.Nat.{_+_, _≤_};
 ghost use lib.ListN.{length};
 ghost use mathlib.Core.Path.{_≡_};
 use console::Course;
-use reader::Block;
-use reader::Fed;
-use reader::Finished;
-use reader::Opened;
+use reader::Counts;
 use reader::State;
+use runs::Block;
+use runs::Fed;
+use runs::Finished;
+use tables::Opened;
 
 // Between two calls: the reader's state, how many bytes of the output buffer wait to be written, and whether to go on.
 pub struct Listing {
@@ -60,7 +61,7 @@ fn offer(state: State, hold: &mut [u8], piece: &[u8], out: &mut [u8; 8192], fill
     requires { ⌜ filled ≤ 8192 ⌝ }
     ensures { λ r. ⌜ (r .listing .filled ≤ 8192) × (r .taken ≤ length (now (piece .entry))) ⌝ }
 {
-    let fed = reader::runs::feed(state, hold, piece);
+    let fed = runs::feed(state, hold, piece);
     let answer = fed.answer;
     let next = fed.state;
     match answer {
@@ -140,14 +141,7 @@ fn read_all(state: State, hold: &mut [u8], out: &mut [u8; 8192]) -> Listing
 }
 
 // The run's end: its line is the last.
-fn list_end(
-    state: State,
-    out: &mut [u8; 8192],
-    filled: usize,
-    bytes: usize,
-    blocks: usize,
-    skipped: usize,
-) -> Called
+fn list_end(state: State, out: &mut [u8; 8192], filled: usize, c: Counts) -> Called
     requires { ⌜ filled ≤ 8192 ⌝ }
     ensures { λ r. ⌜ r .listing .filled ≤ 8192 ⌝ }
 {
@@ -159,7 +153,7 @@ fn list_end(
             listing: so_far(state, 0, Course::WriteFailed),
         };
     }
-    let n = text::end_line(out, room.filled, bytes, blocks, skipped);
+    let n = text::end_line(out, room.filled, c);
     Called {
         taken: 0,
         done: true,
@@ -171,19 +165,12 @@ fn close(state: State, hold: &mut [u8], out: &mut [u8; 8192], filled: usize) -> 
     requires { ⌜ filled ≤ 8192 ⌝ }
     ensures { λ r. ⌜ r .listing .filled ≤ 8192 ⌝ }
 {
-    let closed = reader::runs::finish(state, hold);
+    let closed = runs::finish(state, hold);
     let answer = closed.answer;
     let next = closed.state;
     match answer {
         Finished::Block(b) => list_block(next, 0, b, out, filled),
-        Finished::End(bytes, blocks, skipped) => list_end(
-            next,
-            out,
-            filled,
-            bytes,
-            blocks,
-            skipped,
-        ),
+        Finished::End(c) => list_end(next, out, filled, c),
         Finished::Refused(_) => Called {
             taken: 0,
             done: true,
@@ -239,8 +226,8 @@ fn main() {
     let mut in_force = [0u8; 8192];
     let mut waiting = [0u8; 8192];
     let rows = shipped::table();
-    let staged = reader::tables::stage(reader::new(), &mut waiting, &rows);
-    let opened = reader::runs::open(staged.state, &mut in_force, &waiting);
+    let staged = tables::stage(reader::new(), &mut waiting, &rows);
+    let opened = tables::open(staged.state, &mut in_force, &waiting);
     let answer = opened.answer;
     match answer {
         Opened::Version(_) => list(opened.state),

@@ -42,7 +42,7 @@ struct Done {
 fn open(b: Bench, force: &mut [u8], waiting: &[u8]) -> Done {
     let f = bench::lent(b.in_force, force);
     let w = bench::lent(b.waiting, waiting);
-    let opened = reader::runs::open(b.state, &mut force[..f], &waiting[..w]);
+    let opened = tables::open(b.state, &mut force[..f], &waiting[..w]);
     let answer = opened.answer;
     let state = opened.state;
     Done {
@@ -53,7 +53,7 @@ fn open(b: Bench, force: &mut [u8], waiting: &[u8]) -> Done {
 
 fn feed(b: Bench, given: &[u8], hold: &mut [u8]) -> Done {
     let n = bench::lent(b.hold, hold);
-    let fed = reader::runs::feed(b.state, &mut hold[..n], given);
+    let fed = runs::feed(b.state, &mut hold[..n], given);
     let answer = fed.answer;
     let state = fed.state;
     Done {
@@ -64,7 +64,7 @@ fn feed(b: Bench, given: &[u8], hold: &mut [u8]) -> Done {
 
 fn finish(b: Bench, hold: &mut [u8]) -> Done {
     let n = bench::lent(b.hold, hold);
-    let finished = reader::runs::finish(b.state, &mut hold[..n]);
+    let finished = runs::finish(b.state, &mut hold[..n]);
     let answer = finished.answer;
     let state = finished.state;
     Done {
@@ -75,7 +75,7 @@ fn finish(b: Bench, hold: &mut [u8]) -> Done {
 
 fn stage(b: Bench, given: &[u8], waiting: &mut [u8]) -> Done {
     let w = bench::lent(b.waiting, waiting);
-    let staged = reader::tables::stage(b.state, &mut waiting[..w], given);
+    let staged = tables::stage(b.state, &mut waiting[..w], given);
     let answer = staged.answer;
     let state = staged.state;
     Done {
@@ -85,7 +85,7 @@ fn stage(b: Bench, given: &[u8], waiting: &mut [u8]) -> Done {
 }
 
 fn withdraw(b: Bench) -> Done {
-    let withdrawn = reader::tables::withdraw(b.state);
+    let withdrawn = tables::withdraw(b.state);
     let answer = withdrawn.answer;
     let state = withdrawn.state;
     Done {
@@ -138,10 +138,10 @@ fn bytes(b: Bench, hold: &[u8]) -> AskReply
 {
     let n = bench::lent(b.hold, hold);
     let lent = &hold[..n];
-    let check = reader::runs::bytes_refused(b.state, lent);
+    let check = runs::bytes_refused(b.state, lent);
     match check {
         Check::Refused(why) => AskReply::Refused(why),
-        Check::Passed => AskReply::Bytes(handed(reader::runs::bytes(b.state, lent))),
+        Check::Passed => AskReply::Bytes(handed(runs::bytes(b.state, lent))),
     }
 }
 
@@ -149,14 +149,14 @@ fn body(b: Bench, i: u64, given: &[u8], force: &[u8]) -> AskReply
     ensures { λ r. ⌜ T (plainly r) ⌝ }
 {
     let f = bench::lent(b.in_force, force);
-    AskReply::Field(reader::records::body(b.state, &force[..f], given, i as usize))
+    AskReply::Field(records::body(b.state, &force[..f], given, i as usize))
 }
 
 fn sub(b: Bench, k: u64, j: u64, given: &[u8], force: &[u8]) -> AskReply
     ensures { λ r. ⌜ T (plainly r) ⌝ }
 {
     let f = bench::lent(b.in_force, force);
-    AskReply::Field(reader::records::sub(b.state, &force[..f], given, k as usize, j as usize))
+    AskReply::Field(records::sub(b.state, &force[..f], given, k as usize, j as usize))
 }
 
 fn sub_bytes(b: Bench, k: u64, given: &[u8], force: &[u8]) -> AskReply
@@ -164,10 +164,10 @@ fn sub_bytes(b: Bench, k: u64, given: &[u8], force: &[u8]) -> AskReply
 {
     let f = bench::lent(b.in_force, force);
     let lent = &force[..f];
-    let refused = reader::records::sub_bytes_refused(b.state, lent, given, k as usize);
+    let refused = records::sub_bytes_refused(b.state, lent, given, k as usize);
     match refused {
         Handed::Refused(why) => AskReply::Refused(why),
-        Handed::Given => AskReply::Bytes(handed(reader::records::sub_bytes(
+        Handed::Given => AskReply::Bytes(handed(records::sub_bytes(
             b.state,
             lent,
             given,
@@ -179,13 +179,13 @@ fn sub_bytes(b: Bench, k: u64, given: &[u8], force: &[u8]) -> AskReply
 fn tow(b: Bench, given: &[u8]) -> AskReply
     ensures { λ r. ⌜ T (plainly r) ⌝ }
 {
-    AskReply::Field(reader::records::tow(b.state, given))
+    AskReply::Field(records::tow(b.state, given))
 }
 
 fn wnc(b: Bench, given: &[u8]) -> AskReply
     ensures { λ r. ⌜ T (plainly r) ⌝ }
 {
-    AskReply::Field(reader::records::wnc(b.state, given))
+    AskReply::Field(records::wnc(b.state, given))
 }
 
 // A call that is lent nothing to write.

@@ -1,22 +1,13 @@
 -- A call that is refused, and one that is not: what its outcome is.
 -- Assumes nothing.
-use mathlib.Core.Path.{_≡_, refl, sym, ap, ap₂, _∙_}
-use mathlib.Core.Bool.{true, _&&_}
-use mathlib.Core.List.{List, _++_}
+use mathlib.Core.Path.{_≡_, refl, sym, ap, _∙_}
+use mathlib.Core.List.{List}
 use mathlib.Core.Option.{Option, none, some}
-use Prim.Native.Nat.{ℕ, _+_, _≤_}
-use native.Mathlib.Nat.{zero-add}
+use Prim.Native.Nat.{ℕ}
 use native.Mathlib.Omega.{arith}
-use lib.ListN.{length, take, drop}
-use lib.Seq.{paste, length-take-le}
-use Rattle.table.specs.Rules.{tableOk}
-use Rattle.reader.specs.State.{sound}
-use Rattle.reader.specs.Said.{refused, version}
-use Rattle.reader.specs.Refusals.{longStore, tableRefusal, openRefusal, stageRefusal}
-use Rattle.reader.specs.Calls.{Outcome, outcome, unless, over}
+use Rattle.reader.specs.Said.{Said, refused, version}
+use Rattle.reader.specs.Outcome.{Outcome, outcome, unless}
 use Rattle.reader.specs.declared.State.{State}
-use Rattle.reader.specs.declared.Run.{Run}
-use Rattle.reader.proofs.Laws.{passes, Facts, with-store, with-stores}
 
 module _ (s : State) (l : List ℕ) (d : Outcome) where
   pub refused-by : (o : Option ℕ) (n : ℕ) {v : ℕ} → d .said ≡ version v → unless o s l d .said ≡ refused n → unless o s l d ≡ outcome (refused n) s l
@@ -33,34 +24,8 @@ module _ (s : State) (l : List ℕ) (d : Outcome) where
   pub is-done : (o : Option ℕ) → o ≡ none → d ≡ unless o s l d
   is-done o e = sym (ap (λ (x : Option ℕ). unless x s l d) e)
 
--- ---- Open
+-- ---- outcomes that are equal part by part
 
-pub record OpenPassed (s : State) (force wait : List ℕ) : Type 0 where
-  pub facts : Facts s
-  pub long-force : 8192 ≤ length force
-  pub long-wait : 8192 ≤ length wait
-
-pub open-passed : (s : State) (force wait : List ℕ) → openRefusal s force wait ≡ none → OpenPassed s force wait
-unfolding openRefusal
-open-passed s force wait e =
-    let f = with-stores s force wait (passes (sound s && longStore force && longStore wait) 1 _ e .0) in
-    record { facts = f .0; long-force = f .1; long-wait = f .2 }
-
-pub stage-passed : (s : State) (wait t : List ℕ) → stageRefusal s wait t ≡ none → (8192 ≤ length wait) × (tableOk t ≡ true)
-unfolding stageRefusal
-stage-passed s wait t e =
-    let p = passes (sound s && longStore wait) 1 (tableRefusal t) e in
-    (with-store s wait (p .0) .1, passes (tableOk t) 4 none (p .1) .0)
-
--- ---- states and copies
-
-pub same-state : (x : State) {r : Run} {n m : ℕ} → x .run ≡ r → x .«in_force» ≡ n → x .waiting ≡ m → x ≡ record { run = r; «in_force» = n; waiting = m }
-same-state x {r} {n} {m} e f g =
-    ap (λ (y : Run). record { run = y; «in_force» = x .«in_force»; waiting = x .waiting }) e
-    ∙ ap₂ (λ (i k : ℕ). record { run = r; «in_force» = i; waiting = k }) f g
-
--- a copy to the start of a buffer
-pub copied : (buffer t : List ℕ) (n : ℕ) → n ≤ length t → paste buffer 0 (drop 0 t) n ≡ over (take n t) buffer
-copied buffer t n l =
-    let e : 0 + n ≡ length (take n t) = zero-add n ∙ sym (length-take-le n t l) in
-    ap (λ (k : ℕ). take n t ++ drop k buffer) e
+pub same-outcome : {a b : Said} {s t : State} {l m : List ℕ} → a ≡ b → s ≡ t → l ≡ m → outcome a s l ≡ outcome b t m
+same-outcome {a} {b} {s} {t} {l} {m} e f g =
+    ap (λ (x : Said). outcome x s l) e ∙ ap (λ (x : State). outcome b x l) f ∙ ap (λ (x : List ℕ). outcome b t x) g

@@ -1,5 +1,2 @@
 pub mod Laws
-pub mod Opening
-pub mod Feeding
 pub mod Accepted
-pub mod Asking

@@ -4,6 +4,7 @@ use Prim.Native.Nat.{ℕ}
 use mathlib.Core.Bool.{Bool, _&&_}
 use lib.Dec.{leb}
 use Rattle.reader.specs.declared.Phase.the-variants.{Closed}
+use Rattle.reader.specs.declared.Counts.{Counts}
 use Rattle.reader.specs.declared.Run.{Run}
 use Rattle.reader.specs.declared.State.{State}
 
@@ -11,8 +12,12 @@ use Rattle.reader.specs.declared.State.{State}
 abbrev pub limit : ℕ
 limit = 4294967295
 
+-- "Counts become zero"
+abbrev pub noCounts : Counts
+noCounts = record { taken = 0; blocks = 0; skipped = 0 }
+
 abbrev pub noRun : Run
-noRun = record { phase = Closed; held = 0; standing = 0; taken = 0; blocks = 0; skipped = 0 }
+noRun = record { phase = Closed; held = 0; standing = 0; counts = noCounts }
 
 abbrev pub newState : State
 newState = record { run = noRun; «in_force» = 0; waiting = 0 }
@@ -22,10 +27,10 @@ newState = record { run = noRun; «in_force» = 0; waiting = 0 }
 unfoldable pub sound : State → Bool
 sound s =
     leb (s .run .held) 65532
-    && leb (s .run .held) (s .run .taken)
+    && leb (s .run .held) (s .run .counts .taken)
     && leb (s .run .standing) (s .run .held)
     && leb (s .«in_force») 8192
     && leb (s .waiting) 8192
-    && leb (s .run .taken) limit
-    && leb (s .run .blocks) (s .run .taken)
-    && leb (s .run .skipped) (s .run .taken)
+    && leb (s .run .counts .taken) limit
+    && leb (s .run .counts .blocks) (s .run .counts .taken)
+    && leb (s .run .counts .skipped) (s .run .counts .taken)

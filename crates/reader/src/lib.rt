@@ -1,13 +1,10 @@
-// The reader: its state, and the public calls.
+// A reader's state, what refusal 1 asks of it, and whether a call is refused. The calls are those of `tables`, `runs` and `records`.
 ghost use mathlib.Core.Path.{_≡_};
-ghost use Rattle.reader.specs.State.{newState};
-
-mod refusals; // refusals.rt: the refusals of each call, in their order
-pub mod runs; // runs.rt: Open, Feed, Finish, Bytes
-pub mod tables; // tables.rt: Stage, Withdraw
-pub mod records; // records.rt: a body field, a sub-block's field and bytes, TOW, WNc
-
-use record::Refusal;
+ghost use mathlib.Core.Option.{none};
+ghost use Rattle.reader.specs.State.{noCounts, newState, sound};
+ghost use Rattle.reader.specs.Said.{refusalOf};
+ghost use Rattle.reader.specs.Refusals.{isClosed, need};
+use refusal::Refusal;
 
 pub enum Phase {
     Closed,
@@ -15,15 +12,19 @@ pub enum Phase {
     Finishing,
 }
 
-// What an open run reads by, with the table in force: how many bytes of the hold count, the standing block among them; the
-// counts of the run.
+// What a run counts: the bytes taken, the blocks reported, the bytes skipped.
+pub struct Counts {
+    pub taken: usize,
+    pub blocks: usize,
+    pub skipped: usize,
+}
+
+// What an open run reads by, with the table in force: how many bytes of the hold count, the standing block among them.
 pub struct Run {
     pub phase: Phase,
     pub held: usize,
     pub standing: usize,
-    pub taken: usize,
-    pub blocks: usize,
-    pub skipped: usize,
+    pub counts: Counts,
 }
 
 // A length of 0 means that no table is in force, or that none waits.
@@ -33,73 +34,21 @@ pub struct State {
     pub waiting: usize,
 }
 
-// What is reported of a block.
-pub struct Block {
-    pub place: usize,
-    pub number: u16,
-    pub revision: u16,
-    pub length: usize,
-}
-
 // Whether a call is refused.
 pub enum Check {
     Passed,
     Refused(Refusal),
 }
 
-pub enum Opened {
-    Version(u16),
-    Refused(Refusal),
-}
-
-// How many bytes were taken, with a block or with none.
-pub enum Fed {
-    Block(usize, Block),
-    More(usize),
-    Refused(Refusal),
-}
-
-// A block, or the run's end: bytes, blocks, skipped bytes.
-pub enum Finished {
-    Block(Block),
-    End(usize, usize, usize),
-    Refused(Refusal),
-}
-
-pub enum Staged {
-    Version(u16),
-    Refused(Refusal),
-}
-
-// Whether a table waited.
-pub enum Withdrawn {
-    Waited(bool),
-    Refused(Refusal),
-}
-
-pub struct OpenAnswer {
-    pub answer: Opened,
-    pub state: State,
-}
-
-pub struct FeedAnswer {
-    pub answer: Fed,
-    pub state: State,
-}
-
-pub struct FinishAnswer {
-    pub answer: Finished,
-    pub state: State,
-}
-
-pub struct StageAnswer {
-    pub answer: Staged,
-    pub state: State,
-}
-
-pub struct WithdrawAnswer {
-    pub answer: Withdrawn,
-    pub state: State,
+// The counts of a run that has taken nothing.
+pub fn no_counts() -> Counts
+    ensures { λ r. ⌜ r ≡ noCounts ⌝ }
+{
+    Counts {
+        taken: 0,
+        blocks: 0,
+        skipped: 0,
+    }
 }
 
 // A new reader.
@@ -111,11 +60,47 @@ pub fn new() -> State
             phase: Phase::Closed,
             held: 0,
             standing: 0,
-            taken: 0,
-            blocks: 0,
-            skipped: 0,
+            counts: no_counts(),
         },
         in_force: 0,
         waiting: 0,
+    }
+}
+
+// 1, the state's half: every call applies it.
+pub fn is_sound(s: State) -> bool
+    ensures { λ r. ⌜ r ≡ sound s ⌝ }
+{
+    let r = s.run;
+    let c = r.counts;
+    (r.held <= 65532)
+        & (r.held <= c.taken)
+        & (r.standing <= r.held)
+        & (s.in_force <= 8192)
+        & (s.waiting <= 8192)
+        & (c.taken <= 4294967295)
+        & (c.blocks <= c.taken)
+        & (c.skipped <= c.taken)
+}
+
+// 1 of a call that is lent nothing.
+pub fn of_state(s: State) -> Check
+    ensures { λ r. ⌜ refusalOf r ≡ need (sound s) 1 none ⌝ }
+{
+    if is_sound(s) {
+        Check::Passed
+    } else {
+        Check::Refused(Refusal::BadBuffer)
+    }
+}
+
+// Whether no run is open.
+pub fn is_closed(p: Phase) -> bool
+    ensures { λ r. ⌜ r ≡ isClosed p ⌝ }
+{
+    match p {
+        Phase::Closed => true,
+        Phase::Feeding => false,
+        Phase::Finishing => false,
     }
 }

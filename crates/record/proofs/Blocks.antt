@@ -10,17 +10,18 @@ use lib.ListN.{length}
 use lib.Dec.{leb, eqb}
 use borrow.Author.Tests.{leb-true, eqb-true, lt-ltb, le-ltb, ne-eqb}
 use Rattle.frame.specs.Frame.{lengthAt, syncAt, allowed, endsWithin, frameAt, wholeFrame}
-use Rattle.table.specs.declared.Row.{Row}
+use Rattle.refusal.specs.declared.Refusal.{Refusal}
+use Rattle.refusal.specs.declared.Refusal.the-variants.{NoRow, TooShort, BadSubBlocks, NoSuchField, NotOneFrame}
+use Rattle.rows.specs.declared.Row.{Row}
 use Rattle.table.specs.declared.Found.{Found}
 use Rattle.table.specs.declared.Found.the-variants as found
 use Rattle.table.specs.Lists.{tabulate, every}
-use Rattle.table.specs.Decode.{fieldCount, fieldAt, blockOf, decode}
+use Rattle.rows.specs.Places.{fieldCount, fieldAt}
+use Rattle.table.specs.Decode.{blockOf, decode}
 use Rattle.table.specs.Lookup.{Stands, StandsIfAny, Finding}
 use Rattle.table.specs.Lookup as lookup
 use Rattle.table.proofs.Bools.{both}
 use Rattle.table.proofs.Lists.{length-tab}
-use Rattle.record.specs.declared.Refusal.{Refusal}
-use Rattle.record.specs.declared.Refusal.the-variants.{NoRow, TooShort, BadSubBlocks, NoSuchField, NotOneFrame}
 use Rattle.record.specs.declared.Looked.{Looked}
 use Rattle.record.specs.declared.Looked.the-variants.{At, Refused}
 use Rattle.record.specs.Block.{numberIn, revisionIn, countIn, subLengthIn, endsBy, bodyFits, subsFit, row, seenRow, seen, seenSubRow, seenSub, meant, Fine, FineIfAny, Judging, Looking, SubLooking}

@@ -6,41 +6,28 @@ use mathlib.Core.Bool.{true}
 use Prim.Native.Nat.{ℕ, _+_, _-_, _<_, _≤_}
 use lib.ListN.{length}
 use lib.Dec.{leb}
-use Rattle.table.specs.declared.FieldRow.{FieldRow}
-use Rattle.table.specs.declared.Row.{Row}
+use Rattle.refusal.specs.declared.Refusal.{Refusal}
+use Rattle.refusal.specs.declared.Refusal.the-variants.{NoSuchField}
+use Rattle.refusal.specs.Numbers.{numberFor}
+use Rattle.refusal.proofs.Numbers.{back}
+use Rattle.rows.specs.declared.FieldRow.{FieldRow}
+use Rattle.rows.specs.declared.Row.{Row}
 use Rattle.table.specs.Lists.{tabulate, pick}
-use Rattle.table.specs.Decode.{fieldAt, blockOf, decode}
+use Rattle.rows.specs.Places.{fieldAt}
+use Rattle.table.specs.Decode.{blockOf, decode}
 use Rattle.table.proofs.Bools.{both}
 use Rattle.table.proofs.Lists.{every-at, pick-in, pick-out}
-use Rattle.record.specs.declared.Refusal.{Refusal}
-use Rattle.record.specs.declared.Refusal.the-variants.{BadBuffer, OutOfTurn, RunFull, BadTable, NoTable, NoRow, TooShort, BadSubBlocks, NoSuchField, NotOneFrame}
 use Rattle.record.specs.declared.Answer.{Answer}
 use Rattle.record.specs.declared.Answer.the-variants as answer
 use Rattle.record.specs.declared.Handed.the-variants as handed
 use Rattle.record.specs.declared.Looked.{Looked}
 use Rattle.record.specs.declared.Looked.the-variants as looked
-use Rattle.record.specs.Answer.{refused, numberFor, refusalNumbered, Answers, handedSays}
+use Rattle.value.specs.Said.{refused}
+use Rattle.record.specs.Answer.{Answers, handedSays}
 use Rattle.record.specs.Block.{revisionIn, subLengthIn, endsBy, bodyFits, meant, Looking, SubFine, SubFineIfAny, SubLooking}
 use Rattle.record.specs.Calls.{fieldSaid, fieldOr9, bodyBy, bodyField, subBytes, subBy, subField, partBy, subBlock, numberBy, subBlockRefusal}
 use Rattle.record.proofs.Fields.{same}
 use Rattle.record.proofs.Blocks.{fine-at}
-
--- a refusal is the one of its number
-back : (x : Refusal) → x ≡ refusalNumbered (numberFor x)
-back BadBuffer = refl
-back OutOfTurn = refl
-back RunFull = refl
-back BadTable = refl
-back NoTable = refl
-back NoRow = refl
-back TooShort = refl
-back BadSubBlocks = refl
-back NoSuchField = refl
-back NotOneFrame = refl
-
--- no two refusals have one number
-pub same-refusal : (x y : Refusal) → numberFor x ≡ numberFor y → x ≡ y
-same-refusal x y e = back x ∙ ap refusalNumbered e ∙ sym (back y)
 
 pub refuses : (x : Refusal) → Answers (answer.Refused x) (refused (numberFor x))
 refuses x = record { says = refl; case = ap answer.Refused (back x) }

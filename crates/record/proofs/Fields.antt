@@ -1,21 +1,22 @@
 -- What a field says, case by case, and where it ends.
 -- Assumes nothing.
-use mathlib.Core.Path.{_≡_, refl, subst}
+use mathlib.Core.Path.{_≡_, refl, ap, _∙_, subst}
 use mathlib.Core.List.{List}
 use mathlib.Core.Bool.{true, false}
 use Prim.Native.Nat.{ℕ, _<_, _≤_}
 use lib.ListN.{length}
 use borrow.Author.Tests.{leb-true, le-leb, lt-leb}
 use Rattle.frame.specs.Frame.{wholeFrame}
-use Rattle.table.specs.declared.FieldRow.{FieldRow}
+use Rattle.refusal.specs.declared.Refusal.the-variants.{TooShort, NotOneFrame}
+use Rattle.rows.specs.declared.FieldRow.{FieldRow}
 use Rattle.table.specs.Rows.{ends}
-use Rattle.record.specs.declared.Value.{Value}
-use Rattle.record.specs.declared.Value.the-variants.{DoNotUse, NotInRevision}
-use Rattle.record.specs.declared.Refusal.the-variants.{TooShort, NotOneFrame}
+use Rattle.value.specs.declared.Value.{Value}
+use Rattle.value.specs.declared.Value.the-variants.{Unsigned, Signed, Single, Double, SingleNan, DoubleNan, DoNotUse, NotInRevision}
+use Rattle.value.specs.Said.{Said, valueSays, inCase, Means}
+use Rattle.value.specs.Bits.{fieldValue}
 use Rattle.record.specs.declared.Answer.{Answer}
 use Rattle.record.specs.declared.Answer.the-variants.{Field, Refused}
-use Rattle.record.specs.Answer.{Said, Answers, Means}
-use Rattle.record.specs.Bits.{readAs, isDoNotUse, valueOf, fieldValue}
+use Rattle.record.specs.Answer.{caseFor, Answers}
 use Rattle.record.specs.Block.{endsBy}
 use Rattle.record.specs.Calls.{fieldSaid, stamp}
 
@@ -23,14 +24,19 @@ use Rattle.record.specs.Calls.{fieldSaid, stamp}
 pub same : {r : Answer} {a b : Said} → a ≡ b → Answers r a → Answers r b
 same {r} e h = subst (Answers r) e h
 
-module _ (kind mark : ℕ) {x y : ℕ} (e : x ≡ y) where
-  pub marked : isDoNotUse mark kind x ≡ true → Means DoNotUse (valueOf kind mark y)
-  unfolding valueOf
-  marked h = rw (← e, h) (record { says = refl; case = refl })
+-- a value in the case for what it says is the answer's case
+in-case : (v : Value) → Field (inCase v) ≡ caseFor (valueSays v)
+in-case (Unsigned n) = refl
+in-case (Signed z) = refl
+in-case (Single f) = refl
+in-case (Double f) = refl
+in-case (SingleNan b) = refl
+in-case (DoubleNan b) = refl
+in-case DoNotUse = refl
+in-case NotInRevision = refl
 
-  pub not-marked : isDoNotUse mark kind x ≡ false → {v : Value} → Means v (readAs kind x) → Means v (valueOf kind mark y)
-  unfolding valueOf
-  not-marked h u = rw (← e, h) u
+pub answers : {v : Value} {said : Said} → Means v said → Answers (Field v) said
+answers {v} m = record { says = m .says; case = ap Field (m .case) ∙ in-case v ∙ ap caseFor (m .says) }
 
 -- a carried field ends where the test says
 pub ends-in : (revision n : ℕ) (f : FieldRow) → endsBy revision n f ≡ true → f .first ≤ revision → ends f ≤ n
@@ -43,7 +49,7 @@ module _ (revision : ℕ) (s : List ℕ) (f : FieldRow) where
 
   pub carried-says : f .first ≤ revision → {v : Value} → Means v (fieldValue s f) → Answers (Field v) (fieldSaid revision s f)
   unfolding fieldSaid
-  carried-says h u = rw (le-leb (f .first) revision h) u
+  carried-says h u = rw (le-leb (f .first) revision h) (answers u)
 
 -- TOW and WNc
 module _ (f : FieldRow) (b : List ℕ) where
@@ -57,4 +63,4 @@ module _ (f : FieldRow) (b : List ℕ) where
 
   pub stamp-says : wholeFrame b ≡ true → 14 ≤ length b → {v : Value} → Means v (fieldValue b f) → Answers (Field v) (stamp f b)
   unfolding stamp
-  stamp-says e h u = rw (e, le-leb 14 (length b) h) u
+  stamp-says e h u = rw (e, le-leb 14 (length b) h) (answers u)

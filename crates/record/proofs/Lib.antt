@@ -1,8 +1,4 @@
-pub mod Sign
-pub mod Floats
-pub mod Types
 pub mod Fields
 pub mod Parts
 pub mod Blocks
 pub mod Calls
-pub mod Theorems

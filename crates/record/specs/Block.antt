@@ -8,15 +8,16 @@ use mathlib.Core.Option.{Option, none, some}
 use lib.ListN.{length, getD}
 use lib.Dec.{ltb, leb, eqb}
 use Rattle.frame.specs.Frame.{idAt, numberOf, revisionOf, wholeFrame}
-use Rattle.table.specs.declared.FieldRow.{FieldRow}
-use Rattle.table.specs.declared.Row.{Row}
+use Rattle.refusal.specs.Numbers.{numberFor}
+use Rattle.rows.specs.declared.FieldRow.{FieldRow}
+use Rattle.rows.specs.declared.Row.{Row}
 use Rattle.table.specs.Lists.{every}
 use Rattle.table.specs.Rows.{BlockRow, Table, ends}
-use Rattle.table.specs.Decode.{fieldCount, blockOf, decode}
+use Rattle.rows.specs.Places.{fieldCount}
+use Rattle.table.specs.Decode.{blockOf, decode}
 use Rattle.table.specs.Lookup.{carried, findRow}
 use Rattle.record.specs.declared.Looked.{Looked}
 use Rattle.record.specs.declared.Looked.the-variants as looked
-use Rattle.record.specs.Answer.{numberFor}
 
 -- "The low thirteen bits of the ID are the block number, the top three its revision."
 abbrev pub numberIn : List ℕ → ℕ

@@ -7,12 +7,12 @@ use mathlib.Core.Option.{Option, none, some}
 use lib.ListN.{take, drop}
 use lib.Dec.{leb}
 use Rattle.frame.specs.Frame.{wholeFrame}
-use Rattle.table.specs.declared.FieldRow.{FieldRow}
+use Rattle.rows.specs.declared.FieldRow.{FieldRow}
 use Rattle.table.specs.Lists.{pick}
 use Rattle.table.specs.Rows.{Table}
 use Rattle.table.specs.Lookup.{carried}
-use Rattle.record.specs.Answer.{Said, notInRevision, refused}
-use Rattle.record.specs.Bits.{fieldValue}
+use Rattle.value.specs.Said.{Said, notInRevision, refused}
+use Rattle.value.specs.Bits.{fieldValue}
 use Rattle.record.specs.Block.{revisionIn, lengthIn, subLengthIn, Seen, refusedBy, row, seen, seenSub}
 
 -- a field in these bytes: "not in this revision", or what it says

@@ -4,15 +4,16 @@ ghost use mathlib.Core.Bool.{true};
 ghost use Prim.Native.Nat.{_+_, _≤_, _<_};
 ghost use lib.ListN.{length};
 ghost use Rattle.table.specs.Lists.{tabulate, every};
-ghost use Rattle.table.specs.Decode.{fieldCount, fieldAt, blockOf};
+ghost use Rattle.rows.specs.Places.{fieldCount, fieldAt};
+ghost use Rattle.table.specs.Decode.{blockOf};
 ghost use Rattle.table.specs.Rules.{tableOk};
 ghost use Rattle.record.specs.Block.{numberIn, revisionIn, endsBy, bodyFits, subsFit, Judging, Looking, SubLooking};
 ghost use Rattle.frame.specs.Frame.{wholeFrame};
 use crate::Looked;
-use crate::Refusal;
-use table::FieldRow;
+use refusal::Refusal;
+use rows::FieldRow;
+use rows::Row;
 use table::Found;
-use table::Row;
 
 pub fn wide(x: u8) -> usize
     ensures { λ r. ⌜ (r ≡ x) × (r < 256) ⌝ }
@@ -40,7 +41,7 @@ fn ends_by(f: FieldRow, revision: u8, n: usize) -> bool
     requires { ⌜ f .offset < 65536 ⌝ }
     ensures { λ r. ⌜ r ≡ endsBy revision n f ⌝ }
 {
-    let end = f.offset + table::size(f.kind);
+    let end = f.offset + rows::size(f.kind);
     !(f.first <= revision) | (end <= n)
 }
 
@@ -51,7 +52,7 @@ fn all_end(t: &[u8], at: usize, count: usize, revision: u8, n: usize) -> bool
 {
     let mut i: usize = 0;
     while i < count {
-        let f = table::field(t, at + i);
+        let f = rows::field_at(t, at + i);
         if !ends_by(f, revision, n) {
             return false;
         }

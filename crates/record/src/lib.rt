@@ -9,39 +9,12 @@ ghost use Rattle.table.specs.Rules.{tableOk};
 ghost use Rattle.record.specs.Answer.{Answers, handedSays};
 ghost use Rattle.record.specs.Block.{endsBy, subLengthIn};
 ghost use Rattle.record.specs.Calls.{fieldSaid, bodyField, subBytes, subField, subBlock, subBlockRefusal, towRow, wncRow, stamp};
-ghost use Rattle.record.specs.Samples.{SamplesHold};
-ghost use Rattle.record.specs.Theorems.{OneAnswer, AllByMeaning, FloatsKept};
-use table::FieldRow;
-use table::Row;
+use refusal::Refusal;
+use rows::FieldRow;
+use rows::Row;
+use value::Value;
 
 mod block; // block.rt: a block against a table: its row, or why it is refused
-mod bits; // bits.rt: what the bits of a field mean
-
-// Why a call is refused.
-pub enum Refusal {
-    BadBuffer,
-    OutOfTurn,
-    RunFull,
-    BadTable,
-    NoTable,
-    NoRow,
-    TooShort,
-    BadSubBlocks,
-    NoSuchField,
-    NotOneFrame,
-}
-
-// What a field answers. A NaN is carried as its bits: no float can be made of them.
-pub enum Value {
-    Unsigned(u64),
-    Signed(i64),
-    Single(f32),
-    Double(f64),
-    SingleNan(u32),
-    DoubleNan(u64),
-    DoNotUse,
-    NotInRevision,
-}
 
 pub enum Answer {
     Field(Value),
@@ -68,8 +41,7 @@ fn field(s: &[u8], f: FieldRow, revision: u8) -> Answer
     if revision < f.first {
         return Answer::Field(Value::NotInRevision);
     }
-    let at = f.offset;
-    Answer::Field(bits::value(s, at, f.kind, f.mark))
+    Answer::Field(value::read(s, f))
 }
 
 // Body field i of a block.
@@ -84,7 +56,7 @@ pub fn body_field(table: &[u8], block: &[u8], i: usize) -> Answer
             if count <= i {
                 return Answer::Refused(Refusal::NoSuchField);
             }
-            let f = table::field(table, start + i);
+            let f = rows::field_at(table, start + i);
             field(block, f, block::revision(block))
         }
         Looked::Refused(x) => Answer::Refused(x),
@@ -115,7 +87,7 @@ pub fn sub_field(table: &[u8], block: &[u8], k: usize, j: usize) -> Answer
             if count <= j {
                 return Answer::Refused(Refusal::NoSuchField);
             }
-            let f = table::field(table, start + j);
+            let f = rows::field_at(table, start + j);
             let revision = block::revision(block);
             field(part(block, k), f, revision)
         }
@@ -156,8 +128,7 @@ fn stamped(block: &[u8], f: FieldRow) -> Answer
     if block.len() < 14 {
         return Answer::Refused(Refusal::TooShort);
     }
-    let at = f.offset;
-    Answer::Field(bits::value(block, at, f.kind, f.mark))
+    Answer::Field(value::read(block, f))
 }
 
 // The time of week of a block.
@@ -189,23 +160,3 @@ pub fn wnc(block: &[u8]) -> Answer
         },
     )
 }
-
-// What is to be said fixes the answer.
-pub fn one_answer()
-    ensures { λ _. ⌜ OneAnswer ⌝ }
-{}
-
-// The answers depend on what the table means, and not on its bytes.
-pub fn by_meaning()
-    ensures { λ _. ⌜ AllByMeaning ⌝ }
-{}
-
-// Floats keep their bits.
-pub fn floats_kept()
-    ensures { λ _. ⌜ FloatsKept ⌝ }
-{}
-
-// Document 01's samples of records hold, and the rules at their limits.
-pub fn samples_hold()
-    ensures { λ _. ⌜ SamplesHold ⌝ }
-{}

@@ -13,9 +13,6 @@ use input::Reading;
 use libc::STDERR_FILENO;
 use play::Turn;
 
-// The longest line that a call prints fits.
-const ROOM: usize = 320;
-
 // Between two lines: the bench, how many lines have ended, how many bytes of the output buffer wait to be written, and whether
 // to go on.
 pub struct Script {
@@ -117,7 +114,7 @@ fn end_line(
     // 2^64 lines are never read.
     let ended = std::num::wrapping_add_u64(s.ended, 1);
     let bench = s.bench;
-    let room = console::make_room(out, s.filled, ROOM);
+    let room = console::make_room(out, s.filled, show::ROOM);
     if !room.written {
         return so_far(bench, ended, 0, Course::WriteFailed);
     }

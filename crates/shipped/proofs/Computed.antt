@@ -2,11 +2,13 @@
 -- Assumes nothing.
 use mathlib.Core.Path.{refl}
 use Rattle.crc.specs.Crc.{crcBit, crcBits8, crcByte, crcFrom, crcOf}
-use Rattle.table.specs.Decode.{fieldAt, rowFrom, rowAt, rowsOf, blockOf, decode}
-use Rattle.table.specs.Encode.{two, fieldBytes, fieldsPart, rowsPart, unsealed, encode}
+use Rattle.rows.specs.Places.{fieldAt, rowFrom, rowAt}
+use Rattle.table.specs.Decode.{rowsOf, blockOf, decode}
+use Rattle.encode.specs.Encode.{two, fieldBytes, fieldsPart, rowsPart, unsealed, encode}
 use Rattle.table.specs.Lists.{tabulate, every, chain, neighbours}
 use Rattle.table.specs.Rules.{fileOk, risingOk, rowOk, counts, indexOk, rowsOk, fieldsOk, isPair, blockOk, tableOk}
-use Rattle.table.specs.Types.{sizeOf, markFits}
+use Rattle.rows.specs.Types.{sizeOf}
+use Rattle.table.specs.Marks.{markFits}
 use Rattle.wire.specs.Little.{littleAt}
 use Rattle.shipped.specs.Statements.{Ships}
 

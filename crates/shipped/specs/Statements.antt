@@ -3,7 +3,7 @@
 use mathlib.Core.Bool.{true}
 use mathlib.Core.Path.{_≡_}
 use Rattle.table.specs.Decode.{decode}
-use Rattle.table.specs.Encode.{encode}
+use Rattle.encode.specs.Encode.{encode}
 use Rattle.table.specs.Rules.{tableOk}
 use Rattle.shipped.specs.Rows.{shipped}
 

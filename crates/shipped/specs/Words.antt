@@ -3,7 +3,7 @@
 use mathlib.Core.List.{List, map}
 use Prim.Native.Nat.{ℕ}
 use Prim.Native.String.{String}
-use Rattle.table.specs.declared.FieldRow.{FieldRow}
+use Rattle.rows.specs.declared.FieldRow.{FieldRow}
 use Rattle.table.specs.Rows.{BlockRow, Table}
 
 -- "Types and sizes: 1 u1 1; 2 u2 2; 3 u4 4; 4 u8 8; 5 i1 1; 6 i2 2; 7 i4 4; 8 i8 8; 9 f4 4; 10 f8 8"

@@ -1,6 +1,6 @@
 // The rows shipped, version 1, as a table to be staged.
 ghost use mathlib.Core.Path.{_≡_};
-ghost use Rattle.table.specs.Encode.{encode};
+ghost use Rattle.encode.specs.Encode.{encode};
 ghost use Rattle.shipped.specs.Rows.{shipped};
 ghost use Rattle.shipped.specs.Statements.{Ships};
 

@@ -1,13 +1,16 @@
 -- The lines that replay prints, byte by byte: "ANSWER | phase force waits held stands taken blocks skipped | H F W".
 -- Assumes nothing.
-use Prim.Native.Nat.{ℕ, suc}
+use Prim.Native.Nat.{ℕ}
 use mathlib.Core.Bool.{Bool, true, false}
 use mathlib.Core.List.{List, [], _∷_, _++_}
 use mathlib.Core.Option.{none, some}
-use lib.IntN.{ℤ, pos, negsuc}
-use Rattle.text.specs.Lines.{decimal, spaced, fourHex, wordEnd, newline, blockWords}
-use Rattle.record.specs.Answer as field
-use Rattle.reader.specs.Said.{Said, refused, version, took, found, ended, waited, saidOpened, saidFed, saidFinished, saidStaged, saidWithdrawn}
+use Rattle.text.specs.Lines.{spaced, fourHex, newline, blockWords, countsText, endWords}
+use Rattle.refusal.specs.Numbers.{numberFor}
+use Rattle.record.specs.Answer.{answerSays}
+use Rattle.fields.specs.Values.{refusedText, fieldText}
+use Rattle.reader.specs.Said.{Said, refused, version, took, found, ended, waited}
+use Rattle.runs.specs.Said.{saidFed, saidFinished}
+use Rattle.tables.specs.Said.{saidOpened, saidStaged, saidWithdrawn}
 use Rattle.reader.specs.declared.Phase.{Phase}
 use Rattle.reader.specs.declared.Phase.the-variants.{Closed, Feeding, Finishing}
 use Rattle.reader.specs.declared.State.{State}
@@ -42,38 +45,6 @@ wordMore = 32 ∷ 109 ∷ 111 ∷ 114 ∷ 101 ∷ []
 abbrev pub wordPart : List ℕ
 wordPart = 112 ∷ 97 ∷ 114 ∷ 116 ∷ []
 
--- `unsigned`
-abbrev pub wordUnsigned : List ℕ
-wordUnsigned = 117 ∷ 110 ∷ 115 ∷ 105 ∷ 103 ∷ 110 ∷ 101 ∷ 100 ∷ []
-
--- `signed`
-abbrev pub wordSigned : List ℕ
-wordSigned = 115 ∷ 105 ∷ 103 ∷ 110 ∷ 101 ∷ 100 ∷ []
-
--- `single`
-abbrev pub wordSingle : List ℕ
-wordSingle = 115 ∷ 105 ∷ 110 ∷ 103 ∷ 108 ∷ 101 ∷ []
-
--- `double`
-abbrev pub wordDouble : List ℕ
-wordDouble = 100 ∷ 111 ∷ 117 ∷ 98 ∷ 108 ∷ 101 ∷ []
-
--- `do-not-use`
-abbrev pub wordDoNotUse : List ℕ
-wordDoNotUse = 100 ∷ 111 ∷ 45 ∷ 110 ∷ 111 ∷ 116 ∷ 45 ∷ 117 ∷ 115 ∷ 101 ∷ []
-
--- `not-in-this-revision`
-abbrev pub wordNotInRevision : List ℕ
-wordNotInRevision = 110 ∷ 111 ∷ 116 ∷ 45 ∷ 105 ∷ 110 ∷ 45 ∷ 116 ∷ 104 ∷ 105 ∷ 115 ∷ 45 ∷ 114 ∷ 101 ∷ 118 ∷ 105 ∷ 115 ∷ 105 ∷ 111 ∷ 110 ∷ []
-
--- `refused`
-abbrev pub wordRefused : List ℕ
-wordRefused = 114 ∷ 101 ∷ 102 ∷ 117 ∷ 115 ∷ 101 ∷ 100 ∷ []
-
--- `-`
-abbrev pub wordMinus : List ℕ
-wordMinus = 32 ∷ 45 ∷ []
-
 -- ` `
 abbrev pub wordGap : List ℕ
 wordGap = 32 ∷ []
@@ -85,9 +56,6 @@ wordBar = 32 ∷ 124 ∷ []
 -- ` | - - -`, and the line's end
 abbrev pub wordNoCrcs : List ℕ
 wordNoCrcs = 32 ∷ 124 ∷ 32 ∷ 45 ∷ 32 ∷ 45 ∷ 32 ∷ 45 ∷ 10 ∷ []
-
-abbrev pub refusedText : ℕ → List ℕ
-refusedText n = wordRefused ++ spaced n
 
 abbrev pub fedText : ℕ → List ℕ
 fedText t = wordFed ++ spaced t
@@ -103,23 +71,8 @@ saidText w (version v) = w ++ spaced v
 saidText w (took t none) = fedText t ++ wordMore
 saidText w (took t (some r)) = fedText t ++ wordGap ++ blockWords r
 saidText w (found r) = blockWords r
-saidText w (ended n b s) = wordEnd ++ spaced n ++ spaced b ++ spaced s
+saidText w (ended c) = endWords c
 saidText w (waited b) = wordWithdrawn ++ spaced (oneFor b)
-
--- "negative ones with a leading `-`"
-abbrev pub integerText : ℤ → List ℕ
-integerText (pos n) = spaced n
-integerText (negsuc n) = wordMinus ++ decimal (suc n)
-
--- what a field says: "`single BITS`; `double BITS` (bits in decimal)"
-abbrev pub fieldText : field.Said → List ℕ
-fieldText (field.unsigned n) = wordUnsigned ++ spaced n
-fieldText (field.signed z) = wordSigned ++ integerText z
-fieldText (field.single b) = wordSingle ++ spaced b
-fieldText (field.double b) = wordDouble ++ spaced b
-fieldText field.doNotUse = wordDoNotUse
-fieldText field.notInRevision = wordNotInRevision
-fieldText (field.refused n) = refusedText n
 
 -- "phase 0 closed, 1 feeding, 2 after the first Finish"
 abbrev pub phaseFor : Phase → ℕ
@@ -134,8 +87,9 @@ fourText a b c d = spaced a ++ spaced b ++ spaced c ++ spaced d
 abbrev pub stateText : State → List ℕ
 stateText s =
     wordBar
-    ++ fourText (phaseFor (s .run .phase)) (s .«in_force») (s .waiting) (s .run .held)
-    ++ fourText (s .run .standing) (s .run .taken) (s .run .blocks) (s .run .skipped)
+    ++ spaced (phaseFor (s .run .phase))
+    ++ fourText (s .«in_force») (s .waiting) (s .run .held) (s .run .standing)
+    ++ countsText (s .run .counts)
 
 abbrev pub crcText : ℕ → List ℕ
 crcText n = wordGap ++ fourHex n
@@ -158,6 +112,6 @@ runText (run.Withdrawn a) = saidText wordStaged (saidWithdrawn a)
 
 -- what a call replies that is lent nothing to write
 abbrev pub askText : AskReply → List ℕ
-askText (ask.Field a) = fieldText (field.answerSays a)
+askText (ask.Field a) = fieldText (answerSays a)
 askText (ask.Bytes b) = bytesText b
-askText (ask.Refused r) = refusedText (field.numberFor r)
+askText (ask.Refused r) = refusedText (numberFor r)

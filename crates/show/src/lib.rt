@@ -4,69 +4,27 @@ ghost use mathlib.Core.Path.{_≡_};
 ghost use mathlib.Core.List.{_++_};
 ghost use mathlib.Core.Option.{none, some};
 ghost use lib.Dec.{T};
-ghost use lib.IntN.{natAbs};
-ghost use lib.Ieee.{binary32, isNan, toBits};
-ghost use mathlib.Core.Bool.{not};
-ghost use lib.ListN.{length, take};
-ghost use Rattle.text.specs.Lines.{spaced};
-ghost use Rattle.record.specs.Answer.{numberFor, answerSays, valueSays};
-ghost use Rattle.reader.specs.Said.{took, ended, reportOf, saidOpened, saidFed, saidFinished, saidStaged, saidWithdrawn};
-ghost use Rattle.bench.specs.Plain.{noNan, noNanIn, plainly};
-ghost use Rattle.show.specs.Lines.{oneFor, wordOpened, wordStaged, wordFed, wordNoCrcs, refusedText, saidText, integerText, fieldText, bytesText, phaseFor, fourText, stateText, crcText, crcsText, runText, askText};
+ghost use lib.ListN.{take};
+ghost use Rattle.reader.specs.Said.{took};
+ghost use Rattle.runs.specs.Said.{reportOf, saidFed, saidFinished};
+ghost use Rattle.tables.specs.Said.{saidOpened, saidStaged, saidWithdrawn};
+ghost use Rattle.bench.specs.Plain.{plainly};
+ghost use Rattle.show.specs.Lines.{oneFor, wordOpened, wordStaged, wordFed, wordNoCrcs, saidText, bytesText, phaseFor, fourText, stateText, crcText, crcsText, runText, askText};
 use bench::AskReply;
 use bench::Bytes;
 use bench::Crcs;
 use bench::RunReply;
-use reader::Block;
-use reader::Fed;
-use reader::Finished;
-use reader::Opened;
 use reader::Phase;
-use reader::Staged;
 use reader::State;
-use reader::Withdrawn;
-use record::Answer;
-use record::Refusal;
-use record::Value;
+use runs::Block;
+use runs::Fed;
+use runs::Finished;
+use tables::Opened;
+use tables::Staged;
+use tables::Withdrawn;
 
 // The longest line that a call prints fits.
 pub const ROOM: usize = 320;
-
-// A word and a number.
-fn told(out: &mut [u8; 8192], at: usize, word: &[u8], n: u64) -> usize
-    requires { ⌜ at + length (now word) + 21 ≤ 8192 ⌝ }
-    ensures { λ r. ⌜ r ≤ at + length (now (word .entry)) + 21 ⌝ }
-    ensures { λ r. ⌜ take r (now (out .exit)) ≡ take at (now (out .entry)) ++ (now (word .entry) ++ spaced n) ⌝ }
-{
-    let name = text::put(out, at, word);
-    text::number(out, name, n)
-}
-
-// The number that document 01 gives a refusal.
-fn number_of(why: Refusal) -> u64
-    ensures { λ r. ⌜ r ≡ numberFor why ⌝ }
-{
-    match why {
-        Refusal::BadBuffer => 1,
-        Refusal::OutOfTurn => 2,
-        Refusal::RunFull => 3,
-        Refusal::BadTable => 4,
-        Refusal::NoTable => 5,
-        Refusal::NoRow => 6,
-        Refusal::TooShort => 7,
-        Refusal::BadSubBlocks => 8,
-        Refusal::NoSuchField => 9,
-        Refusal::NotOneFrame => 10,
-    }
-}
-
-fn refused(out: &mut [u8; 8192], at: usize, why: Refusal) -> usize
-    requires { ⌜ at + 120 ≤ 8192 ⌝ }
-    ensures { λ r. ⌜ r ≤ at + 120 ⌝ }
-    ensures { λ r. ⌜ take r (now (out .exit)) ≡ take at (now (out .entry)) ++ refusedText (numberFor why) ⌝ }
-{
-    told(out, at, b"refused", number_of(why))
-}
 
 fn opened(out: &mut [u8; 8192], at: usize, a: Opened) -> usize
     requires { ⌜ at + 120 ≤ 8192 ⌝ }
@@ -74,8 +32,8 @@ fn opened(out: &mut [u8; 8192], at: usize, a: Opened) -> usize
     ensures { λ r. ⌜ take r (now (out .exit)) ≡ take at (now (out .entry)) ++ saidText wordOpened (saidOpened a) ⌝ }
 {
     match a {
-        Opened::Version(v) => told(out, at, b"opened", v as u64),
-        Opened::Refused(why) => refused(out, at, why),
+        Opened::Version(v) => text::told(out, at, b"opened", v as u64),
+        Opened::Refused(why) => fields::refused(out, at, why),
     }
 }
 
@@ -85,8 +43,8 @@ fn staged(out: &mut [u8; 8192], at: usize, a: Staged) -> usize
     ensures { λ r. ⌜ take r (now (out .exit)) ≡ take at (now (out .entry)) ++ saidText wordStaged (saidStaged a) ⌝ }
 {
     match a {
-        Staged::Version(v) => told(out, at, b"staged", v as u64),
-        Staged::Refused(why) => refused(out, at, why),
+        Staged::Version(v) => text::told(out, at, b"staged", v as u64),
+        Staged::Refused(why) => fields::refused(out, at, why),
     }
 }
 
@@ -96,8 +54,8 @@ fn withdrawn(out: &mut [u8; 8192], at: usize, a: Withdrawn) -> usize
     ensures { λ r. ⌜ take r (now (out .exit)) ≡ take at (now (out .entry)) ++ saidText wordStaged (saidWithdrawn a) ⌝ }
 {
     match a {
-        Withdrawn::Waited(one) => told(out, at, b"withdrawn", one_for(one)),
-        Withdrawn::Refused(why) => refused(out, at, why),
+        Withdrawn::Waited(one) => text::told(out, at, b"withdrawn", one_for(one)),
+        Withdrawn::Refused(why) => fields::refused(out, at, why),
     }
 }
 
@@ -112,7 +70,7 @@ fn more(out: &mut [u8; 8192], at: usize, taken: usize) -> usize
     ensures { λ r. ⌜ r ≤ at + 120 ⌝ }
     ensures { λ r. ⌜ take r (now (out .exit)) ≡ take at (now (out .entry)) ++ saidText wordFed (took taken none) ⌝ }
 {
-    let count = told(out, at, b"fed", taken as u64);
+    let count = text::told(out, at, b"fed", taken as u64);
     text::put(out, count, b" more")
 }
 
@@ -121,7 +79,7 @@ fn fed_block(out: &mut [u8; 8192], at: usize, taken: usize, b: Block) -> usize
     ensures { λ r. ⌜ r ≤ at + 120 ⌝ }
     ensures { λ r. ⌜ take r (now (out .exit)) ≡ take at (now (out .entry)) ++ saidText wordFed (took taken (some (reportOf b))) ⌝ }
 {
-    let count = told(out, at, b"fed", taken as u64);
+    let count = text::told(out, at, b"fed", taken as u64);
     let gap = text::put(out, count, b" ");
     text::block_words(out, gap, b)
 }
@@ -134,18 +92,8 @@ fn was_fed(out: &mut [u8; 8192], at: usize, a: Fed) -> usize
     match a {
         Fed::Block(taken, b) => fed_block(out, at, taken, b),
         Fed::More(taken) => more(out, at, taken),
-        Fed::Refused(why) => refused(out, at, why),
+        Fed::Refused(why) => fields::refused(out, at, why),
     }
-}
-
-fn end(out: &mut [u8; 8192], at: usize, bytes: usize, blocks: usize, skipped: usize) -> usize
-    requires { ⌜ at + 120 ≤ 8192 ⌝ }
-    ensures { λ r. ⌜ r ≤ at + 120 ⌝ }
-    ensures { λ r. ⌜ take r (now (out .exit)) ≡ take at (now (out .entry)) ++ saidText wordFed (ended bytes blocks skipped) ⌝ }
-{
-    let first = told(out, at, b"end", bytes as u64);
-    let second = text::number(out, first, blocks as u64);
-    text::number(out, second, skipped as u64)
 }
 
 fn was_finished(out: &mut [u8; 8192], at: usize, a: Finished) -> usize
@@ -155,78 +103,8 @@ fn was_finished(out: &mut [u8; 8192], at: usize, a: Finished) -> usize
 {
     match a {
         Finished::Block(b) => text::block_words(out, at, b),
-        Finished::End(bytes, blocks, skipped) => end(out, at, bytes, blocks, skipped),
-        Finished::Refused(why) => refused(out, at, why),
-    }
-}
-
-fn magnitude(z: i64) -> u64
-    ensures { λ r. ⌜ r ≡ natAbs z ⌝ }
-{
-    if z < 0 {
-        return (-1 - z) as u64 + 1;
-    }
-    z as u64
-}
-
-// A space and a number with a sign.
-fn integer(out: &mut [u8; 8192], at: usize, z: i64) -> usize
-    requires { ⌜ at + 22 ≤ 8192 ⌝ }
-    ensures { λ r. ⌜ r ≤ at + 22 ⌝ }
-    ensures { λ r. ⌜ take r (now (out .exit)) ≡ take at (now (out .entry)) ++ integerText z ⌝ }
-{
-    let n = magnitude(z);
-    if z < 0 {
-        let minus = text::put(out, at, b" -");
-        return text::decimal_digits(out, minus, n);
-    }
-    text::number(out, at, n)
-}
-
-fn signed(out: &mut [u8; 8192], at: usize, z: i64) -> usize
-    requires { ⌜ at + 120 ≤ 8192 ⌝ }
-    ensures { λ r. ⌜ r ≤ at + 120 ⌝ }
-    ensures { λ r. ⌜ take r (now (out .exit)) ≡ take at (now (out .entry)) ++ fieldText (valueSays (Value.Signed z)) ⌝ }
-{
-    let word = text::put(out, at, b"signed");
-    integer(out, word, z)
-}
-
-fn single_bits(x: f32) -> u32
-    requires { ⌜ T (not (isNan x)) ⌝ }
-    ensures { λ r. ⌜ r ≡ toBits binary32 x ⌝ }
-{
-    f32::to_bits(x)
-}
-
-// A value of a field. No float that is carried is a NaN, so each has its bits.
-fn field_value(out: &mut [u8; 8192], at: usize, v: Value) -> usize
-    requires { ⌜ T (noNan v) ⌝ }
-    requires { ⌜ at + 120 ≤ 8192 ⌝ }
-    ensures { λ r. ⌜ r ≤ at + 120 ⌝ }
-    ensures { λ r. ⌜ take r (now (out .exit)) ≡ take at (now (out .entry)) ++ fieldText (valueSays v) ⌝ }
-{
-    match v {
-        Value::Unsigned(n) => told(out, at, b"unsigned", n),
-        Value::Signed(z) => signed(out, at, z),
-        Value::Single(x) => told(out, at, b"single", single_bits(x) as u64),
-        Value::Double(x) => told(out, at, b"double", f64::to_bits(x)),
-        Value::SingleNan(b) => told(out, at, b"single", b as u64),
-        Value::DoubleNan(b) => told(out, at, b"double", b),
-        Value::DoNotUse => text::put(out, at, b"do-not-use"),
-        Value::NotInRevision => text::put(out, at, b"not-in-this-revision"),
-    }
-}
-
-fn field(out: &mut [u8; 8192], at: usize, a: Answer) -> usize
-    requires { ⌜ T (noNanIn a) ⌝ }
-    requires { ⌜ at + 120 ≤ 8192 ⌝ }
-    ensures { λ r. ⌜ r ≤ at + 120 ⌝ }
-    ensures { λ r. ⌜ take r (now (out .exit)) ≡ take at (now (out .entry)) ++ fieldText (answerSays a) ⌝ }
-{
-    match a {
-        Answer::Field(v) => field_value(out, at, v),
-        Answer::Refused(why) => refused(out, at, why),
+        Finished::End(c) => text::end_words(out, at, c),
+        Finished::Refused(why) => fields::refused(out, at, why),
     }
 }
 
@@ -246,7 +124,7 @@ fn bytes(out: &mut [u8; 8192], at: usize, b: Bytes) -> usize
     ensures { λ r. ⌜ r ≤ at + 120 ⌝ }
     ensures { λ r. ⌜ take r (now (out .exit)) ≡ take at (now (out .entry)) ++ bytesText b ⌝ }
 {
-    let count = told(out, at, b"part", b.count as u64);
+    let count = text::told(out, at, b"part", b.count as u64);
     crc(out, count, b.crc)
 }
 
@@ -278,25 +156,18 @@ fn state_of(out: &mut [u8; 8192], at: usize, s: State) -> usize
     ensures { λ r. ⌜ take r (now (out .exit)) ≡ take at (now (out .entry)) ++ stateText s ⌝ }
 {
     let run = s.run;
-    let p = run.phase;
-    let phase = number_for(p);
-    let bar = text::put(out, at, b" |");
-    let half = four(
+    let phase = run.phase;
+    let sums = run.counts;
+    let bar = text::told(out, at, b" |", number_for(phase));
+    let places = four(
         out,
         bar,
-        phase,
         s.in_force as u64,
         s.waiting as u64,
         run.held as u64,
-    );
-    four(
-        out,
-        half,
         run.standing as u64,
-        run.taken as u64,
-        run.blocks as u64,
-        run.skipped as u64,
-    )
+    );
+    text::counts(out, places, sums)
 }
 
 // The CRCs of the whole buffers, behind a bar, and the line's end.
@@ -344,9 +215,9 @@ fn ask_reply(out: &mut [u8; 8192], at: usize, reply: AskReply) -> usize
     ensures { λ r. ⌜ take r (now (out .exit)) ≡ take at (now (out .entry)) ++ askText reply ⌝ }
 {
     match reply {
-        AskReply::Field(a) => field(out, at, a),
+        AskReply::Field(a) => fields::field(out, at, a),
         AskReply::Bytes(b) => bytes(out, at, b),
-        AskReply::Refused(why) => refused(out, at, why),
+        AskReply::Refused(why) => fields::refused(out, at, why),
     }
 }
 

@@ -9,8 +9,8 @@ use native.Mathlib.Numerals.{add-one}
 use native.Mathlib.Omega.{arith}
 use lib.Dec.{leb, eqb, leb·zero}
 use borrow.Author.Tests.{leb-true, eqb-true, le-leb}
-use Rattle.table.specs.declared.FieldRow.{FieldRow}
-use Rattle.table.specs.declared.Row.{Row}
+use Rattle.rows.specs.declared.FieldRow.{FieldRow}
+use Rattle.rows.specs.declared.Row.{Row}
 use Rattle.table.specs.Lists.{every, chain, neighbours}
 use Rattle.table.specs.Rows.{BlockRow, ends}
 use Rattle.table.specs.Decode.{blockOf}

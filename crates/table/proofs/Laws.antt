@@ -10,11 +10,12 @@ use lib.Dec.{leb, eqb}
 use lib.ListN.{length}
 use borrow.Author.Tests.{ltb-true, le-leb, lt-leb, ne-eqb}
 use Rattle.crc.specs.Crc.{crcOf}
-use Rattle.table.specs.declared.Row.{Row}
+use Rattle.rows.specs.declared.Row.{Row}
 use Rattle.table.specs.declared.Found.the-variants.{At, Nothing}
 use Rattle.table.specs.Lists.{chain, neighbours, first, pick}
 use Rattle.table.specs.Rows.{BlockRow}
-use Rattle.table.specs.Decode.{blockCount, toBlocks, toFields, crcField, covered, fieldCount, rowAt, rowsOf, blockOf, decode}
+use Rattle.rows.specs.Places.{blockCount, fieldCount, rowAt}
+use Rattle.table.specs.Decode.{toBlocks, toFields, crcField, covered, rowsOf, blockOf, decode}
 use Rattle.table.specs.Rules.{sizeOk, countOk, toBlocksOk, toFieldsOk, crcOk, closingOk, fileOk, below, risingOk, tableOk}
 use Rattle.table.specs.Pass.{rowPass}
 use Rattle.table.specs.Answer.{version, refused, checkOf}

@@ -1,10 +1,8 @@
 pub mod Bools
 pub mod Lists
-pub mod Types
+pub mod Marks
 pub mod Fused
 pub mod Passed
 pub mod Loops
 pub mod Laws
 pub mod Told
-pub mod Parts
-pub mod Bytes

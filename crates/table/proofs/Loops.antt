@@ -7,11 +7,12 @@ use mathlib.Core.Path.{_≡_, refl, sym, ap, _∙_}
 use Prim.Native.Nat.{ℕ, zero, suc, _+_, _-_, _<_, _≤_}
 use lib.Dec.{leb, eqb}
 use borrow.Author.Tests.{leb-true, eqb-true, eq-eqb, ne-eqb}
-use Rattle.table.specs.declared.FieldRow.{FieldRow}
-use Rattle.table.specs.declared.Row.{Row}
+use Rattle.rows.specs.declared.FieldRow.{FieldRow}
+use Rattle.rows.specs.declared.Row.{Row}
 use Rattle.table.specs.Lists.{tabulate, first}
 use Rattle.table.specs.Rows.{ends}
-use Rattle.table.specs.Decode.{fieldAt, rowAt, blockOf}
+use Rattle.rows.specs.Places.{fieldAt, rowAt}
+use Rattle.table.specs.Decode.{blockOf}
 use Rattle.table.specs.Rules.{rowOk, numberOk, highestOk, isCount, isPair}
 use Rattle.table.specs.Pass.{fieldStep, fieldPass, blockPass, rowStep, rowPass}
 use Rattle.table.proofs.Bools.{both}

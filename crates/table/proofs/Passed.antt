@@ -10,9 +10,10 @@ use lib.Dec.{leb, eqb}
 use lib.ListN.{length}
 use borrow.Author.Tests.{leb-true, eqb-true}
 use Rattle.crc.specs.Crc.{crcOf}
-use Rattle.table.specs.declared.Row.{Row}
+use Rattle.rows.specs.declared.Row.{Row}
 use Rattle.table.specs.Lists.{tabulate, every}
-use Rattle.table.specs.Decode.{blockCount, toBlocks, toFields, crcField, covered, closing₀, closing₁, fieldCount, rowAt, rowsOf, blockOf, decode}
+use Rattle.rows.specs.Places.{blockCount, fieldCount, rowAt}
+use Rattle.table.specs.Decode.{toBlocks, toFields, crcField, covered, closing₀, closing₁, rowsOf, blockOf, decode}
 use Rattle.table.specs.Rules.{sizeOk, partsOk, countOk, toBlocksOk, toFieldsOk, crcOk, fileOk, rowOk, risingOk, counts, indexOk, rowsOk, blockOk, tableOk}
 use Rattle.table.specs.Lookup.{Stands}
 use Rattle.table.proofs.Bools.{both}

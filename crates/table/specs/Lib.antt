@@ -1,11 +1,9 @@
 pub mod Lists
-pub mod Types
+pub mod Marks
 pub mod Rows
 pub mod Decode
-pub mod Encode
 pub mod Rules
 pub mod Answer
 pub mod Lookup
 pub mod Pass
 pub mod Theorems
-pub mod Limits

@@ -6,13 +6,14 @@ use mathlib.Core.Option.{Option, none, some}
 use mathlib.Core.Path.{_≡_}
 use Prim.Native.Nat.{ℕ, _+_, _≤_, _<_}
 use lib.Dec.{leb, eqb}
-use Rattle.table.specs.declared.FieldRow.{FieldRow}
-use Rattle.table.specs.declared.Row.{Row}
+use Rattle.rows.specs.declared.FieldRow.{FieldRow}
+use Rattle.rows.specs.declared.Row.{Row}
 use Rattle.table.specs.declared.Found.{Found}
 use Rattle.table.specs.declared.Found.the-variants.{At, Nothing}
 use Rattle.table.specs.Lists.{first}
 use Rattle.table.specs.Rows.{BlockRow, Table}
-use Rattle.table.specs.Decode.{blockCount, fieldCount, rowAt, blockOf, decode}
+use Rattle.rows.specs.Places.{blockCount, fieldCount, rowAt}
+use Rattle.table.specs.Decode.{blockOf, decode}
 use Rattle.table.specs.Rules.{blockOk}
 
 abbrev pub hasNumber : ℕ → BlockRow → Bool

@@ -4,8 +4,8 @@ use mathlib.Core.Bool.{Bool, true, _&&_}
 use mathlib.Core.List.{List, [], _∷_}
 use Prim.Native.Nat.{ℕ, _+_}
 use lib.Dec.{leb, eqb}
-use Rattle.table.specs.declared.FieldRow.{FieldRow}
-use Rattle.table.specs.declared.Row.{Row}
+use Rattle.rows.specs.declared.FieldRow.{FieldRow}
+use Rattle.rows.specs.declared.Row.{Row}
 use Rattle.table.specs.Rows.{BlockRow, ends}
 use Rattle.table.specs.Decode.{blockOf}
 use Rattle.table.specs.Rules.{rowOk, firstOk, typeOk, markOk, pairOk}

@@ -2,8 +2,8 @@
 -- Assumes nothing.
 use mathlib.Core.List.{List}
 use Prim.Native.Nat.{ℕ, _+_}
-use Rattle.table.specs.declared.FieldRow.{FieldRow}
-use Rattle.table.specs.Types.{sizeOf}
+use Rattle.rows.specs.declared.FieldRow.{FieldRow}
+use Rattle.rows.specs.Types.{sizeOf}
 
 -- a FieldRow is offset, kind (the type), first (the first revision) and mark
 pub record BlockRow : Type 0 where

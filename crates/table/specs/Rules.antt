@@ -6,12 +6,13 @@ use Prim.Native.Nat.{ℕ, _+_, _*_}
 use lib.Dec.{ltb, leb, eqb}
 use lib.ListN.{length}
 use Rattle.crc.specs.Crc.{crcOf}
-use Rattle.table.specs.declared.FieldRow.{FieldRow}
-use Rattle.table.specs.declared.Row.{Row}
+use Rattle.rows.specs.declared.FieldRow.{FieldRow}
+use Rattle.rows.specs.declared.Row.{Row}
 use Rattle.table.specs.Lists.{every, neighbours}
-use Rattle.table.specs.Types.{listed, markFits}
+use Rattle.table.specs.Marks.{listed, markFits}
 use Rattle.table.specs.Rows.{BlockRow, ends}
-use Rattle.table.specs.Decode.{blockCount, toBlocks, toFields, crcField, covered, closing₀, closing₁, fieldCount, rowsOf, decode}
+use Rattle.rows.specs.Places.{blockCount, fieldCount}
+use Rattle.table.specs.Decode.{toBlocks, toFields, crcField, covered, closing₀, closing₁, rowsOf, decode}
 
 -- File and trailer.
 

@@ -4,12 +4,10 @@ use mathlib.Core.Bool.{true}
 use mathlib.Core.List.{List}
 use mathlib.Core.Option.{some}
 use mathlib.Core.Path.{_≡_}
-use Prim.Native.Nat.{ℕ, _<_}
-use lib.ListN.{getD}
+use Prim.Native.Nat.{ℕ}
 use Rattle.table.specs.Lists.{pick}
 use Rattle.table.specs.Rows.{BlockRow}
 use Rattle.table.specs.Decode.{decode}
-use Rattle.table.specs.Encode.{encode}
 use Rattle.table.specs.Rules.{tableOk}
 
 -- numbers strictly rise, so a number has one row
@@ -17,7 +15,3 @@ abbrev pub OneRow : Type 0
 OneRow =
     (t : List ℕ) → tableOk t ≡ true → (i j : ℕ) (a b : BlockRow) → pick (decode t .rows) i ≡ some a → pick (decode t .rows) j ≡ some b
     → a .number ≡ b .number → i ≡ j
-
--- a table that passes decodes: what it means gives its bytes back
-abbrev pub Decodes : Type 0
-Decodes = (t : List ℕ) → ((j : ℕ) → getD t j 0 < 256) → tableOk t ≡ true → encode (decode t) ≡ t

@@ -2,12 +2,12 @@
 ghost use mathlib.Core.Path.{_≡_};
 ghost use mathlib.Core.Bool.{true};
 ghost use Prim.Native.Nat.{_+_, _≤_, _<_};
-ghost use Rattle.table.specs.Decode.{fieldCount, rowsOf, blockOf};
+ghost use Rattle.rows.specs.Places.{fieldCount};
+ghost use Rattle.table.specs.Decode.{rowsOf, blockOf};
 ghost use Rattle.table.specs.Rules.{fileOk};
 ghost use Rattle.table.specs.Pass.{rowStep, blockPass, rowPass};
-use crate::Row;
 use crate::fields;
-use crate::read;
+use rows::Row;
 
 // A block row, where the least number allowed is `least` and `used` field rows are before it.
 fn row_ok(r: Row, least: u16, used: usize, fields: usize) -> bool
@@ -40,14 +40,14 @@ pub fn rows_ok(t: &[u8]) -> bool
     requires { ⌜ fileOk (now t) ≡ true ⌝ }
     ensures { λ a. ⌜ a ≡ rowPass (now (t .entry)) 0 0 (fieldCount (now (t .entry))) (rowsOf (now (t .entry))) ⌝ }
 {
-    let count = read::block_count(t);
-    let at = read::blocks_at(t);
-    let fields = read::field_count(t, at);
+    let count = rows::block_count(t);
+    let at = rows::blocks_at(t);
+    let fields = rows::field_count(t, at);
     let mut i: usize = 0;
     let mut least: u16 = 0;
     let mut used: usize = 0;
     while i < count {
-        let r = read::row_at(t, at, i);
+        let r = rows::row_at(t, at, i);
         if !row_ok(r, least, used, fields) {
             return false;
         }

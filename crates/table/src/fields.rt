@@ -2,12 +2,11 @@
 ghost use mathlib.Core.Path.{_≡_};
 ghost use Prim.Native.Nat.{_+_, _≤_, _<_};
 ghost use Rattle.table.specs.Lists.{tabulate};
-ghost use Rattle.table.specs.Types.{markFits};
-ghost use Rattle.table.specs.Decode.{fieldCount, fieldAt};
+ghost use Rattle.table.specs.Marks.{markFits};
+ghost use Rattle.rows.specs.Places.{fieldCount, fieldAt};
 ghost use Rattle.table.specs.Rules.{isCount, isPair};
 ghost use Rattle.table.specs.Pass.{fieldStep, fieldPass};
-use crate::FieldRow;
-use crate::read;
+use rows::FieldRow;
 
 // Whether a type may bear a mark.
 fn mark_fits(kind: u8, mark: u8) -> bool
@@ -41,11 +40,11 @@ pub fn fields_ok(t: &[u8], at: usize, count: usize, least: usize, highest: u8) -
     let mut low = least;
     let mut rev: u8 = 0;
     while i < count {
-        let f = read::field_at(t, at + i);
+        let f = rows::field_at(t, at + i);
         if !field_ok(f, low, rev, highest) {
             return false;
         }
-        low = f.offset + crate::size(f.kind);
+        low = f.offset + rows::size(f.kind);
         rev = f.first;
         i += 1;
     }
@@ -64,8 +63,8 @@ pub fn pair_ok(t: &[u8], at: usize, count: usize) -> bool
     ensures { λ r. ⌜ r ≡ isPair (tabulate (fieldAt (now (t .entry))) at count) ⌝ }
 {
     if count == 2 {
-        let n = is_count(read::field_at(t, at), 14);
-        let s = is_count(read::field_at(t, at + 1), 15);
+        let n = is_count(rows::field_at(t, at), 14);
+        let s = is_count(rows::field_at(t, at + 1), 15);
         return n & s;
     }
     false

@@ -3,17 +3,15 @@ ghost use mathlib.Core.Path.{_≡_};
 ghost use Prim.Native.Nat.{_≤_};
 ghost use lib.ListN.{length};
 ghost use Rattle.table.specs.Rules.{closingOk, fileOk};
-use crate::read;
 
 // The trailer's closing mark.
 fn closes(t: &[u8]) -> bool
     requires { ⌜ 2 ≤ length (now t) ⌝ }
     ensures { λ r. ⌜ r ≡ closingOk (now (t .entry)) ⌝ }
 {
-    let mark = b"BT";
     let n = t.len();
-    let low = t[n - 2] == mark[0];
-    let high = t[n - 1] == mark[1];
+    let low = t[n - 2] == b'B';
+    let high = t[n - 1] == b'T';
     low & high
 }
 
@@ -24,14 +22,14 @@ pub fn file_ok(t: &[u8]) -> bool
     if n < 20 {
         return false;
     }
-    let r = read::block_count(t);
+    let r = rows::block_count(t);
     let back = 12 + 8 * r;
     if n < back {
         return false;
     }
-    let fields = read::field_count(t, n - back);
-    let to_blocks = read::word(wire::u2(t, n - 8));
-    let to_fields = read::word(wire::u2(t, n - 6));
+    let fields = rows::field_count(t, n - back);
+    let to_blocks = rows::word(wire::u2(t, n - 8));
+    let to_fields = rows::word(wire::u2(t, n - 6));
     let sum = wire::u2(t, n - 4);
     let m = n - 4;
     let crc = crc::crc_of(&t[..m]);

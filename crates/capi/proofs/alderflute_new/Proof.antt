@@ -2,7 +2,7 @@
 -- Assumes nothing.
 use mathlib.Core.Path.{ap, _∙_}
 use Rattle.reader.specs.declared.State.{State}
-use Rattle.capi.specs.State.{stateC}
+use Rattle.cform.specs.State.{stateC}
 use borrow.Author.Needs.{needs}
 use Rattle.capi.proofs.alderflute_new.Statement.{statement}
 use Rattle.capi.proofs.alderflute_new.Tie as tie

@@ -16,23 +16,23 @@ enum-known-row c = search needs
 returns : tie.Need-returns
 returns c = let k = c .before in body-9 _ _ (k .before .before .before .row-of .ensures) _ _ (k .before .row .given .1) (c .if1 .taken)
 
-add-field : tie.Need-add-field
-add-field c = let k = c .before in omega (arith, fine-at _ _ (k .before .before .before .row-of .ensures) (k .before .row .given .1) .inside)
+add-field-at : tie.Need-add-field-at
+add-field-at c = let k = c .before in omega (arith, fine-at _ _ (k .before .before .before .row-of .ensures) (k .before .row .given .1) .inside)
 
-field-requires : tie.Need-field-requires
-field-requires c κs = let k = c .before in omega (arith, fine-at _ _ (k .before .before .before .row-of .ensures) (k .before .row .given .1) .inside)
+field-at-requires : tie.Need-field-at-requires
+field-at-requires c κs = let k = c .before in omega (arith, fine-at _ _ (k .before .before .before .row-of .ensures) (k .before .row .given .1) .inside)
 
 revision-requires : tie.Need-revision-requires
 revision-requires c κs = let k = c .before .before in omega (arith, fine-at _ _ (k .before .before .before .row-of .ensures) (k .before .row .given .1) .long)
 
-field-requires-2 : tie.Need-field-requires-2
-field-requires-2 c κs = let e = c .before .before in let k = e .before in body-ends _ _ (k .before .before .before .row-of .ensures) _ _ (k .before .row .given .1) (e .if1 .left) (c .before .field .ensures .0) (c .revision .ensures)
+field-requires : tie.Need-field-requires
+field-requires c κs = let e = c .before .before in let k = e .before in body-ends _ _ (k .before .before .before .row-of .ensures) _ _ (k .before .row .given .1) (e .if1 .left) (c .before .field-at .ensures .0) (c .revision .ensures)
 
 enum-known-x : tie.Need-enum-known-x
 enum-known-x c = search needs
 
 returns-2 : tie.Need-returns-2
-returns-2 c = let e = c .before .before .before in let k = e .before in body-says _ _ (k .before .before .before .row-of .ensures) _ _ (k .before .row .given .1) (e .if1 .left) (c .before .before .field .ensures .0) (c .before .revision .ensures) (c .field2 .ensures)
+returns-2 c = let e = c .before .before .before in let k = e .before in body-says _ _ (k .before .before .before .row-of .ensures) _ _ (k .before .row .given .1) (e .if1 .left) (c .before .before .field-at .ensures .0) (c .before .revision .ensures) (c .field .ensures)
 
 returns-3 : tie.Need-returns-3
 returns-3 c = body-refused _ _ (c .before .before .before .row-of .ensures) _ (c .before .x .given .1)
@@ -44,10 +44,10 @@ body-field-spec =
     row-of-requires
     enum-known-row
     returns
-    add-field
-    field-requires
+    add-field-at
+    field-at-requires
     revision-requires
-    field-requires-2
+    field-requires
     enum-known-x
     returns-2
     returns-3)

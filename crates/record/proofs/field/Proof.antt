@@ -1,7 +1,6 @@
 -- `record::field` meets its contract: carried or not.
 -- Assumes nothing.
 use native.Mathlib.Omega.{arith}
-use Rattle.record.specs.Bits.{fieldValue}
 use Rattle.record.proofs.Fields.{ends-in, not-carried, carried-says}
 use Rattle.record.proofs.field.Statement.{statement}
 use Rattle.record.proofs.field.Tie as tie
@@ -9,12 +8,11 @@ use Rattle.record.proofs.field.Tie as tie
 returns : tie.Need-returns
 returns c = not-carried _ _ _ (omega arith)
 
-value-requires : tie.Need-value-requires
-value-requires c κs = let a = c .before .before .before .args in ends-in (a .revision) _ (a .f) (c .before .before .before .pre) (omega arith)
+read-requires : tie.Need-read-requires
+read-requires c κs = let a = c .before .before .before .args in ends-in (a .revision) _ (a .f) (c .before .before .before .pre) (omega arith)
 
 returns-2 : tie.Need-returns-2
-unfolding fieldValue
-returns-2 c = carried-says _ _ _ (omega arith) (c .value .ensures)
+returns-2 c = carried-says _ _ _ (omega arith) (c .read .ensures)
 
 pub field-spec : {M : Type 1} → statement M
-field-spec = tie.close (tie.spec returns value-requires returns-2)
+field-spec = tie.close (tie.spec returns read-requires returns-2)

@@ -3,7 +3,6 @@
 use mathlib.Core.Path.{sym, _∙_}
 use native.Mathlib.Omega.{arith}
 use borrow.Author.Tests.{not-true, not-false}
-use Rattle.record.specs.Bits.{fieldValue}
 use Rattle.record.proofs.Fields.{stamp-10, stamp-7, stamp-says}
 use borrow.Author.Needs.{needs}
 use Rattle.record.proofs.stamped.Statement.{statement}
@@ -18,12 +17,11 @@ returns c = stamp-10 _ _ (sym (c .before .is-frame .ensures) ∙ not-true _ (c .
 returns-2 : tie.Need-returns-2
 returns-2 c = stamp-7 _ _ (sym (c .before .before .is-frame .ensures) ∙ not-false _ (c .before .if1 .left)) (omega arith)
 
-value-requires : tie.Need-value-requires
-value-requires c κs = search needs
+read-requires : tie.Need-read-requires
+read-requires c κs = search needs
 
 returns-3 : tie.Need-returns-3
-unfolding fieldValue
-returns-3 c = stamp-says _ _ (sym (c .before .before .before .is-frame .ensures) ∙ not-false _ (c .before .before .if1 .left)) (omega arith) (c .value .ensures)
+returns-3 c = stamp-says _ _ (sym (c .before .before .before .is-frame .ensures) ∙ not-false _ (c .before .before .if1 .left)) (omega arith) (c .read .ensures)
 
 pub stamped-spec : {M : Type 1} → statement M
-stamped-spec = tie.close (tie.spec is-frame-requires returns returns-2 value-requires returns-3)
+stamped-spec = tie.close (tie.spec is-frame-requires returns returns-2 read-requires returns-3)

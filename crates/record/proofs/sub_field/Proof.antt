@@ -18,11 +18,11 @@ add-start c = let k = c .before in omega (arith, sub-fine _ _ _ (k .before .befo
 returns : tie.Need-returns
 returns c = let k = c .before .before in sub-9 _ _ _ (k .before .before .before .sub-row-of .ensures) _ (k .before .row .given .1) _ (c .if1 .taken)
 
-add-field : tie.Need-add-field
-add-field c = let k = c .before .before in omega (arith, sub-fine _ _ _ (k .before .before .before .sub-row-of .ensures) (k .before .row .given .1) .inside)
+add-field-at : tie.Need-add-field-at
+add-field-at c = let k = c .before .before in omega (arith, sub-fine _ _ _ (k .before .before .before .sub-row-of .ensures) (k .before .row .given .1) .inside)
 
-field-requires : tie.Need-field-requires
-field-requires c κs = let k = c .before .before in omega (arith, sub-fine _ _ _ (k .before .before .before .sub-row-of .ensures) (k .before .row .given .1) .inside)
+field-at-requires : tie.Need-field-at-requires
+field-at-requires c κs = let k = c .before .before in omega (arith, sub-fine _ _ _ (k .before .before .before .sub-row-of .ensures) (k .before .row .given .1) .inside)
 
 revision-requires : tie.Need-revision-requires
 revision-requires c κs = let k = c .before .before .before in omega (arith, sub-fine _ _ _ (k .before .before .before .sub-row-of .ensures) (k .before .row .given .1) .long)
@@ -30,14 +30,14 @@ revision-requires c κs = let k = c .before .before .before in omega (arith, sub
 part-requires : tie.Need-part-requires
 part-requires c κs = let k = c .before .before .before .before in let f = sub-fine _ _ _ (k .before .before .before .sub-row-of .ensures) (k .before .row .given .1) in (f .few, f .long, f .within)
 
-field-requires-2 : tie.Need-field-requires-2
-field-requires-2 c κs = let e = c .before .before .before in let k = e .before .before in sub-ends _ _ _ (k .before .before .before .sub-row-of .ensures) _ (k .before .row .given .1) _ (e .if1 .left) (c .before .before .field .ensures .0) (c .before .revision .ensures) (c .part .ensures .1)
+field-requires : tie.Need-field-requires
+field-requires c κs = let e = c .before .before .before in let k = e .before .before in sub-ends _ _ _ (k .before .before .before .sub-row-of .ensures) _ (k .before .row .given .1) _ (e .if1 .left) (c .before .before .field-at .ensures .0) (c .before .revision .ensures) (c .part .ensures .1)
 
 enum-known-x : tie.Need-enum-known-x
 enum-known-x c = search needs
 
 returns-2 : tie.Need-returns-2
-returns-2 c = let e = c .before .before .before .before in let k = e .before .before in sub-says _ _ _ (k .before .before .before .sub-row-of .ensures) _ (k .before .row .given .1) _ (e .if1 .left) (c .before .before .before .field .ensures .0) (c .before .before .revision .ensures) (c .before .part .ensures .0) (c .field2 .ensures)
+returns-2 c = let e = c .before .before .before .before in let k = e .before .before in sub-says _ _ _ (k .before .before .before .sub-row-of .ensures) _ (k .before .row .given .1) _ (e .if1 .left) (c .before .before .before .field-at .ensures .0) (c .before .before .revision .ensures) (c .before .part .ensures .0) (c .field .ensures)
 
 returns-3 : tie.Need-returns-3
 returns-3 c = sub-refused _ _ _ (c .before .before .before .sub-row-of .ensures) _ (c .before .x .given .1)
@@ -50,11 +50,11 @@ sub-field-spec =
     enum-known-row
     add-start
     returns
-    add-field
-    field-requires
+    add-field-at
+    field-at-requires
     revision-requires
     part-requires
-    field-requires-2
+    field-requires
     enum-known-x
     returns-2
     returns-3)

@@ -1,7 +1,7 @@
 -- `shipped::table`: antt computes the file of the rows, and it is the constant.
 -- Assumes nothing.
 use mathlib.Core.Path.{refl}
-use Rattle.table.specs.Encode.{two, fieldBytes, fieldsPart, rowsPart, unsealed, encode}
+use Rattle.encode.specs.Encode.{two, fieldBytes, fieldsPart, rowsPart, unsealed, encode}
 use Rattle.crc.specs.Crc.{crcBit, crcBits8, crcByte, crcFrom, crcOf}
 use Rattle.shipped.proofs.table.Statement.{statement}
 use Rattle.shipped.proofs.table.Tie as tie

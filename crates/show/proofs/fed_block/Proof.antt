@@ -5,7 +5,7 @@ use native.Mathlib.Omega.{arith}
 use lib.ListN.{take}
 use Rattle.text.proofs.Joins.{joined}
 use Rattle.text.specs.Lines.{blockWords}
-use Rattle.reader.specs.Said.{reportOf}
+use Rattle.runs.specs.Said.{reportOf}
 use Rattle.show.specs.Lines.{wordGap, fedText}
 use borrow.Author.Needs.{needs}
 use Rattle.show.proofs.fed_block.Statement.{statement}

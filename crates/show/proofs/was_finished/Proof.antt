@@ -14,8 +14,8 @@ block-words-requires c κs = search needs
 enum-known-a-2 : tie.Need-enum-known-a-2
 enum-known-a-2 c = search needs
 
-end-requires : tie.Need-end-requires
-end-requires c κs = search needs
+end-words-requires : tie.Need-end-words-requires
+end-words-requires c κs = search needs
 
 enum-known-a-3 : tie.Need-enum-known-a-3
 enum-known-a-3 c = search needs
@@ -31,7 +31,7 @@ returns c =
 returns-2 : tie.Need-returns-2
 returns-2 c =
     let b = c .before .before .before .before .before in
-    (omega (arith, c .end .ensures .0, b .pre), rw (c .before .before .before .a2 .given .1) (c .end .ensures .1))
+    (omega (arith, c .end-words .ensures .0, b .pre), rw (c .before .before .before .a2 .given .1) (c .end-words .ensures .1))
 
 returns-3 : tie.Need-returns-3
 returns-3 c =
@@ -45,7 +45,7 @@ was-finished-spec =
     enum-known-a
     block-words-requires
     enum-known-a-2
-    end-requires
+    end-words-requires
     enum-known-a-3
     refused-requires
     returns

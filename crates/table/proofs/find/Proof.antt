@@ -6,7 +6,8 @@ use native.Mathlib.Nat.{sub-zero}
 use native.Mathlib.Omega.{arith}
 use lib.ListN.{length}
 use denote.Ref.{now}
-use Rattle.table.specs.Decode.{rowAt, rowsOf}
+use Rattle.rows.specs.Places.{rowAt}
+use Rattle.table.specs.Decode.{rowsOf}
 use Rattle.table.specs.Lists.{tabulate, first}
 use Rattle.table.proofs.Laws.{found-at, found-nothing}
 use Rattle.table.proofs.Loops.{numbered, find-done, find-stop, find-go}

@@ -7,7 +7,7 @@ use native.Mathlib.Omega.{arith}
 use borrow.Author.Needs.{needs}
 use borrow.Author.Tests.{not-true, not-false}
 use Rattle.table.specs.Lists.{tabulate, every}
-use Rattle.table.specs.Decode.{fieldAt}
+use Rattle.rows.specs.Places.{fieldAt}
 use Rattle.table.proofs.Lists.{every-done, every-stop, every-go}
 use Rattle.record.specs.Block.{endsBy}
 use Rattle.record.proofs.block.all_end.Statement.{statement}
@@ -23,17 +23,17 @@ abbrev μ-loop : tie.MeasureT-loop
 loop-holds : tie.Need-loop-holds Inv-loop μ-loop
 loop-holds c = (search needs, rw (add-zero, sub-zero))
 
-add-field : tie.Need-add-field Inv-loop μ-loop
-add-field c = omega arith
+add-field-at : tie.Need-add-field-at Inv-loop μ-loop
+add-field-at c = omega arith
 
-field-requires : tie.Need-field-requires Inv-loop μ-loop
-field-requires c κs = omega arith
+field-at-requires : tie.Need-field-at-requires Inv-loop μ-loop
+field-at-requires c κs = omega arith
 
 ends-by-requires : tie.Need-ends-by-requires Inv-loop μ-loop
 ends-by-requires c κs = search needs
 
 returns : tie.Need-returns Inv-loop μ-loop
-returns c = every-stop _ _ _ _ _ (c .before .before .before .before .loop .inv .1) _ (c .before .before .field .ensures .0) (omega arith) (sym (c .before .ends-by .ensures) ∙ not-true _ (c .if1 .taken))
+returns c = every-stop _ _ _ _ _ (c .before .before .before .before .loop .inv .1) _ (c .before .before .field-at .ensures .0) (omega arith) (sym (c .before .ends-by .ensures) ∙ not-true _ (c .if1 .taken))
 
 add-i : tie.Need-add-i Inv-loop μ-loop
 add-i c = omega arith
@@ -42,7 +42,7 @@ loop-less : tie.Need-loop-less Inv-loop μ-loop
 loop-less c = omega arith
 
 loop-again : tie.Need-loop-again Inv-loop μ-loop
-loop-again c = (omega arith, every-go _ _ _ _ _ (c .before .before .before .before .loop .inv .1) _ (c .before .before .field .ensures .0) (omega arith) (sym (c .before .ends-by .ensures) ∙ not-false _ (c .if1 .left)) _ _ (omega arith) (omega arith))
+loop-again c = (omega arith, every-go _ _ _ _ _ (c .before .before .before .before .loop .inv .1) _ (c .before .before .field-at .ensures .0) (omega arith) (sym (c .before .ends-by .ensures) ∙ not-false _ (c .if1 .left)) _ _ (omega arith) (omega arith))
 
 returns-2 : tie.Need-returns-2 Inv-loop μ-loop
 returns-2 c = every-done _ _ _ _ _ (c .before .loop .inv .1) (omega arith)
@@ -54,8 +54,8 @@ all-end-spec =
     Inv-loop
     μ-loop
     loop-holds
-    add-field
-    field-requires
+    add-field-at
+    field-at-requires
     ends-by-requires
     returns
     add-i

@@ -10,7 +10,8 @@ use borrow.Author.Needs.{needs}
 use borrow.Author.Tests.{not-true, not-false}
 use denote.Ref.{now}
 use Rattle.table.specs.Pass.{rowStep, rowPass}
-use Rattle.table.specs.Decode.{fieldCount, rowAt, rowsOf}
+use Rattle.rows.specs.Places.{fieldCount, rowAt}
+use Rattle.table.specs.Decode.{rowsOf}
 use Rattle.table.specs.Lists.{tabulate}
 use Rattle.table.proofs.Loops as law
 use Rattle.table.proofs.Passed.{File, file}

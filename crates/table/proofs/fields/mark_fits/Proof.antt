@@ -1,8 +1,8 @@
 -- `table::fields::mark_fits` meets its contract: each arm is an entry of `marks`.
 -- Assumes nothing.
 use native.Mathlib.Omega.{arith}
-use Rattle.table.specs.Types.{markFits}
-use Rattle.table.proofs.Types.{mark-none}
+use Rattle.table.specs.Marks.{markFits}
+use Rattle.table.proofs.Marks.{mark-none}
 use Rattle.table.proofs.fields.mark_fits.Statement.{statement}
 use Rattle.table.proofs.fields.mark_fits.Tie as tie
 

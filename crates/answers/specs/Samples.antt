@@ -1,0 +1,191 @@
+-- Document 01's samples of records, (d), (h), (i) and (j), and the limits of the rules, as one table of cases.
+-- Assumes nothing.
+use Prim.Native.Nat.{ℕ}
+use mathlib.Core.Path.{_≡_}
+use mathlib.Core.List.{List, [], _∷_, map}
+use mathlib.Core.Option.{Option, none, some}
+use lib.IntN.{pos, negsuc}
+use Rattle.wire.specs.Little.{littleAt}
+use Rattle.frame.specs.Frame.{numberOf, revisionOf}
+use Rattle.frame.specs.Samples.{sampleB}
+use Rattle.rows.specs.declared.FieldRow.{FieldRow}
+use Rattle.table.specs.Rows.{Table}
+use Rattle.value.specs.Said.{Said, unsigned, signed, single, double, doNotUse, notInRevision, refused}
+use Rattle.value.specs.Bits.{fieldValue}
+use Rattle.record.specs.Calls.{bodyField, subField, subBlock, subBlockRefusal, towRow, wncRow, stamp}
+
+-- what a case speaks of: an ID's number and revision, what a field says, a part and the number of its twin
+pub data Told : Type 0 where
+  id : ℕ → ℕ → Told
+  says : Said → Told
+  part : List ℕ → Option ℕ → Told
+
+pub record Case : Type 0 where
+  pub given : Told
+  pub expected : Told
+
+abbrev case : Told → Told → Case
+case given expected = record { given = given; expected = expected }
+
+abbrev field : ℕ → ℕ → ℕ → ℕ → FieldRow
+field offset kind first mark = record { offset = offset; kind = kind; first = first; mark = mark }
+
+abbrev counts : List FieldRow
+counts = field 14 1 0 0 ∷ field 15 1 0 0 ∷ []
+
+-- number 0 without fields; number 1 with u2, i2, f4 and from revision 1 a u1; numbers 2 and 3 with sub-fields
+abbrev pub sampleTable : Table
+sampleTable =
+    record {
+      version = 1;
+      rows =
+          record { number = 0; highest = 0; body = []; subs = [] }
+          ∷ record { number = 1; highest = 1; body = field 14 2 0 1 ∷ field 16 6 0 4 ∷ field 20 9 0 3 ∷ field 24 1 1 0 ∷ []; subs = [] }
+          ∷ record { number = 2; highest = 1; body = counts; subs = field 0 2 0 0 ∷ field 2 5 1 4 ∷ [] }
+          ∷ record { number = 3; highest = 1; body = counts; subs = field 0 1 1 0 ∷ [] }
+          ∷ [];
+    }
+
+-- number 1, revision 0, L = 24
+abbrev pub old : List ℕ
+old =
+    0x24 ∷ 0x40 ∷ 0xE9 ∷ 0x3C ∷ 0x01 ∷ 0x00 ∷ 0x18 ∷ 0x00 ∷ 0xFF ∷ 0xFF ∷ 0xFF ∷ 0xFF ∷ 0x02 ∷ 0x01 ∷ 0xFE ∷ 0xFF ∷ 0xFE ∷ 0xFF ∷ 0x00 ∷ 0x00 ∷ 0x01 ∷ 0x00 ∷ 0xC0 ∷ 0x7F ∷ []
+
+-- the same fields of revision 1, whose last would end at 25; TOW and WNc are 0
+abbrev pub cut : List ℕ
+cut =
+    0x24 ∷ 0x40 ∷ 0x90 ∷ 0x41 ∷ 0x01 ∷ 0x20 ∷ 0x18 ∷ 0x00 ∷ 0x00 ∷ 0x00 ∷ 0x00 ∷ 0x00 ∷ 0x00 ∷ 0x00 ∷ 0xFE ∷ 0xFF ∷ 0xFE ∷ 0xFF ∷ 0x00 ∷ 0x00 ∷ 0x01 ∷ 0x00 ∷ 0xC0 ∷ 0x7F ∷ []
+
+-- revision 5, newer than the row, L = 28
+abbrev pub newer : List ℕ
+newer =
+    0x24 ∷ 0x40 ∷ 0x47 ∷ 0xF7 ∷ 0x01 ∷ 0xA0 ∷ 0x1C ∷ 0x00 ∷ 0x00 ∷ 0x00 ∷ 0x00 ∷ 0x00 ∷ 0xFF ∷ 0xFF ∷ 0xFF ∷ 0xFF ∷ 0x00 ∷ 0x80 ∷ 0x00 ∷ 0x00 ∷ 0xF9 ∷ 0x02 ∷ 0x95 ∷ 0xD0 ∷ 0x09 ∷ 0x00 ∷ 0x00 ∷ 0x00 ∷ []
+
+-- number 9, which has no row
+abbrev pub rowless : List ℕ
+rowless =
+    0x24 ∷ 0x40 ∷ 0x4B ∷ 0x8C ∷ 0x09 ∷ 0x00 ∷ 0x10 ∷ 0x00 ∷ 0x00 ∷ 0x00 ∷ 0x00 ∷ 0x00 ∷ 0x00 ∷ 0x00 ∷ 0x00 ∷ 0x00 ∷ []
+
+-- number 2, revision 0: two sub-blocks of 4 bytes, L = 24
+abbrev pub two : List ℕ
+two =
+    0x24 ∷ 0x40 ∷ 0x18 ∷ 0x46 ∷ 0x02 ∷ 0x00 ∷ 0x18 ∷ 0x00 ∷ 0x00 ∷ 0x00 ∷ 0x00 ∷ 0x00 ∷ 0x00 ∷ 0x00 ∷ 0x02 ∷ 0x04 ∷ 0x11 ∷ 0x22 ∷ 0x33 ∷ 0x44 ∷ 0x55 ∷ 0x66 ∷ 0x77 ∷ 0x88 ∷ []
+
+-- revision 1: sub-blocks of 2 bytes, where a carried sub-field ends at 3
+abbrev pub narrow : List ℕ
+narrow =
+    0x24 ∷ 0x40 ∷ 0xDF ∷ 0xF4 ∷ 0x02 ∷ 0x20 ∷ 0x14 ∷ 0x00 ∷ 0x00 ∷ 0x00 ∷ 0x00 ∷ 0x00 ∷ 0x00 ∷ 0x00 ∷ 0x02 ∷ 0x02 ∷ 0x11 ∷ 0x22 ∷ 0x33 ∷ 0x44 ∷ []
+
+-- three sub-blocks of 4 bytes end past L = 24
+abbrev pub over : List ℕ
+over =
+    0x24 ∷ 0x40 ∷ 0x5D ∷ 0x29 ∷ 0x02 ∷ 0x00 ∷ 0x18 ∷ 0x00 ∷ 0x00 ∷ 0x00 ∷ 0x00 ∷ 0x00 ∷ 0x00 ∷ 0x00 ∷ 0x03 ∷ 0x04 ∷ 0x11 ∷ 0x22 ∷ 0x33 ∷ 0x44 ∷ 0x55 ∷ 0x66 ∷ 0x77 ∷ 0x88 ∷ []
+
+-- N zero, SBLength 255, L = 16
+abbrev pub nosubs : List ℕ
+nosubs =
+    0x24 ∷ 0x40 ∷ 0x8C ∷ 0x8C ∷ 0x02 ∷ 0x00 ∷ 0x10 ∷ 0x00 ∷ 0x00 ∷ 0x00 ∷ 0x00 ∷ 0x00 ∷ 0x00 ∷ 0x00 ∷ 0x00 ∷ 0xFF ∷ []
+
+-- N 5, SBLength 0, with a carried sub-field
+abbrev pub flat : List ℕ
+flat =
+    0x24 ∷ 0x40 ∷ 0x89 ∷ 0x6D ∷ 0x02 ∷ 0x00 ∷ 0x10 ∷ 0x00 ∷ 0x00 ∷ 0x00 ∷ 0x00 ∷ 0x00 ∷ 0x00 ∷ 0x00 ∷ 0x05 ∷ 0x00 ∷ []
+
+-- the same by a row whose sub-field is not carried
+abbrev pub hollow : List ℕ
+hollow =
+    0x24 ∷ 0x40 ∷ 0xFC ∷ 0x6E ∷ 0x03 ∷ 0x00 ∷ 0x10 ∷ 0x00 ∷ 0x00 ∷ 0x00 ∷ 0x00 ∷ 0x00 ∷ 0x00 ∷ 0x00 ∷ 0x05 ∷ 0x00 ∷ []
+
+-- number 0, L = 12
+abbrev pub twelve : List ℕ
+twelve =
+    0x24 ∷ 0x40 ∷ 0xE3 ∷ 0x0B ∷ 0x00 ∷ 0x00 ∷ 0x0C ∷ 0x00 ∷ 0x00 ∷ 0x00 ∷ 0x00 ∷ 0x00 ∷ []
+
+abbrev idOf : List ℕ → Told
+idOf s = id (numberOf (littleAt 2 s 0)) (revisionOf (littleAt 2 s 0))
+
+abbrev value : List ℕ → ℕ → ℕ → Told
+value s kind mark = says (fieldValue s (field 0 kind 0 mark))
+
+abbrev body : List ℕ → ℕ → Told
+body b i = says (bodyField sampleTable b i)
+
+abbrev sub : List ℕ → ℕ → ℕ → Told
+sub b k j = says (subField sampleTable b k j)
+
+abbrev bytes : List ℕ → ℕ → Told
+bytes b k = part (subBlock sampleTable b k) (subBlockRefusal sampleTable b k)
+
+abbrev pub recordCases : List Case
+recordCases =
+    -- (d) ID bytes 37 17 are 5943 revision 0, 37 37 are 5943 revision 1, FF FF are 8191 revision 7
+    case (idOf (0x37 ∷ 0x17 ∷ [])) (id 5943 0)
+    ∷ case (idOf (0x37 ∷ 0x37 ∷ [])) (id 5943 1)
+    ∷ case (idOf (0xFF ∷ 0xFF ∷ [])) (id 8191 7)
+    -- (h) f4 bits D09502F9 with mark 3 are Do-Not-Use, D09502F8 a value
+    ∷ case (value (0xF9 ∷ 0x02 ∷ 0x95 ∷ 0xD0 ∷ []) 9 3) (says doNotUse)
+    ∷ case (value (0xF8 ∷ 0x02 ∷ 0x95 ∷ 0xD0 ∷ []) 9 3) (says (single 0xD09502F8))
+    -- (i) u2 65535 with mark 1 is Do-Not-Use, 65534 a value
+    ∷ case (value (0xFF ∷ 0xFF ∷ []) 2 1) (says doNotUse)
+    ∷ case (value (0xFE ∷ 0xFF ∷ []) 2 1) (says (unsigned 65534))
+    -- (j) a block of length 8 whose number has a row gives refusal 7
+    ∷ case (body sampleB 0) (says (refused 7))
+    -- so does one of length 12, to the calls for TOW and WNc too
+    ∷ case (body twelve 0) (says (refused 7))
+    ∷ case (says (stamp towRow twelve)) (says (refused 7))
+    ∷ case (says (stamp wncRow twelve)) (says (refused 7))
+    -- a sign at each width, and the least value
+    ∷ case (value (0xFF ∷ []) 5 0) (says (signed (negsuc 0)))
+    ∷ case (value (0xFF ∷ 0x7F ∷ []) 6 4) (says (signed (pos 32767)))
+    ∷ case (value (0x00 ∷ 0x80 ∷ []) 6 4) (says doNotUse)
+    ∷ case (value (0x00 ∷ 0x80 ∷ []) 6 0) (says (signed (negsuc 32767)))
+    ∷ case (value (0x00 ∷ 0x00 ∷ 0x00 ∷ 0x80 ∷ []) 7 0) (says (signed (negsuc 2147483647)))
+    ∷ case (value (0xFE ∷ 0xFF ∷ 0xFF ∷ 0xFF ∷ 0xFF ∷ 0xFF ∷ 0xFF ∷ 0xFF ∷ []) 8 4) (says (signed (negsuc 1)))
+    -- f8 with mark 3, and all ones and zero in u8 and u4
+    ∷ case (value (0x00 ∷ 0x00 ∷ 0x00 ∷ 0x20 ∷ 0x5F ∷ 0xA0 ∷ 0x12 ∷ 0xC2 ∷ []) 10 3) (says doNotUse)
+    ∷ case (value (0x01 ∷ 0x00 ∷ 0x00 ∷ 0x20 ∷ 0x5F ∷ 0xA0 ∷ 0x12 ∷ 0xC2 ∷ []) 10 3) (says (double 0xC212A05F20000001))
+    ∷ case (value (0xFF ∷ 0xFF ∷ 0xFF ∷ 0xFF ∷ 0xFF ∷ 0xFF ∷ 0xFF ∷ 0xFF ∷ []) 4 1) (says doNotUse)
+    ∷ case (value (0x00 ∷ 0x00 ∷ 0x00 ∷ 0x00 ∷ []) 3 2) (says doNotUse)
+    ∷ case (value (0x00 ∷ 0x00 ∷ 0x00 ∷ 0x00 ∷ []) 3 1) (says (unsigned 0))
+    -- body fields: values, a NaN's bits, not in this revision, no such field
+    ∷ case (body old 0) (says (unsigned 65534))
+    ∷ case (body old 1) (says (signed (negsuc 1)))
+    ∷ case (body old 2) (says (single 0x7FC00001))
+    ∷ case (body old 3) (says notInRevision)
+    ∷ case (body old 4) (says (refused 9))
+    ∷ case (sub old 0 0) (says (refused 9))
+    ∷ case (bytes old 0) (part [] (some 9))
+    ∷ case (says (stamp towRow old)) (says doNotUse)
+    ∷ case (says (stamp wncRow old)) (says (unsigned 0x0102))
+    -- 7 comes before 9; a revision newer than the table is read by the rows it has
+    ∷ case (body cut 0) (says (refused 7))
+    ∷ case (body cut 4) (says (refused 7))
+    ∷ case (body newer 1) (says doNotUse)
+    ∷ case (body newer 2) (says doNotUse)
+    ∷ case (body newer 3) (says (unsigned 9))
+    ∷ case (says (stamp wncRow newer)) (says doNotUse)
+    -- 6, and 10 before it
+    ∷ case (body rowless 0) (says (refused 6))
+    ∷ case (body (0x24 ∷ rowless) 0) (says (refused 10))
+    -- sub-blocks
+    ∷ case (sub two 1 0) (says (unsigned 0x6655))
+    ∷ case (sub two 1 1) (says notInRevision)
+    ∷ case (sub two 1 2) (says (refused 9))
+    ∷ case (sub two 2 0) (says (refused 9))
+    ∷ case (bytes two 1) (part (0x55 ∷ 0x66 ∷ 0x77 ∷ 0x88 ∷ []) none)
+    ∷ case (bytes two 2) (part [] (some 9))
+    ∷ case (body two 0) (says (unsigned 2))
+    ∷ case (body narrow 0) (says (refused 8))
+    ∷ case (bytes narrow 0) (part [] (some 8))
+    ∷ case (sub over 0 0) (says (refused 8))
+    -- N zero, and SBLength zero
+    ∷ case (body nosubs 1) (says (unsigned 255))
+    ∷ case (sub nosubs 0 0) (says (refused 9))
+    ∷ case (bytes flat 0) (part [] (some 8))
+    ∷ case (bytes hollow 4) (part [] none)
+    ∷ case (sub hollow 4 0) (says notInRevision)
+    ∷ case (bytes hollow 5) (part [] (some 9))
+    ∷ []
+
+abbrev pub SamplesHold : Type 0
+SamplesHold = map (λ (c : Case). c .given) recordCases ≡ map (λ (c : Case). c .expected) recordCases

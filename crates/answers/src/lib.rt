@@ -1,0 +1,23 @@
+// Theorems about the answers of record calls, and document 01's samples of them. No code.
+ghost use Rattle.answers.specs.Samples.{SamplesHold};
+ghost use Rattle.answers.specs.Theorems.{OneAnswer, AllByMeaning, FloatsKept};
+
+// What is to be said fixes the answer.
+pub fn one_answer()
+    ensures { λ _. ⌜ OneAnswer ⌝ }
+{}
+
+// The answers depend on what the table means, and not on its bytes.
+pub fn by_meaning()
+    ensures { λ _. ⌜ AllByMeaning ⌝ }
+{}
+
+// Floats keep their bits.
+pub fn floats_kept()
+    ensures { λ _. ⌜ FloatsKept ⌝ }
+{}
+
+// Document 01's samples of records hold, and the rules at their limits.
+pub fn samples_hold()
+    ensures { λ _. ⌜ SamplesHold ⌝ }
+{}

@@ -1,0 +1,96 @@
+-- What was put into the plain structs is read back: case by case, by computation.
+-- Assumes nothing.
+use mathlib.Core.Path.{_≡_, refl, sym, ap, _∙_}
+use mathlib.Core.Bool.{true, false}
+use mathlib.Core.Option.{Option, none, some}
+use Prim.Native.Nat.{ℕ, zero, suc, _<_}
+use native.Mathlib.Omega.{arith}
+use Rattle.record.specs.Answer as field
+use Rattle.reader.specs.declared.Phase.{Phase}
+use Rattle.reader.specs.declared.Phase.the-variants.{Closed, Feeding, Finishing}
+use Rattle.reader.specs.declared.State.{State}
+use Rattle.tables.specs.declared.Opened.{Opened}
+use Rattle.tables.specs.declared.Opened.the-variants as opened
+use Rattle.runs.specs.declared.Fed.{Fed}
+use Rattle.runs.specs.declared.Fed.the-variants as fed
+use Rattle.runs.specs.declared.Finished.{Finished}
+use Rattle.runs.specs.declared.Finished.the-variants as finished
+use Rattle.tables.specs.declared.Staged.{Staged}
+use Rattle.tables.specs.declared.Staged.the-variants as staged
+use Rattle.tables.specs.declared.Withdrawn.{Withdrawn}
+use Rattle.tables.specs.declared.Withdrawn.the-variants as withdrawn
+use Rattle.tables.specs.Said.{saidOpened, saidStaged, saidWithdrawn}
+use Rattle.runs.specs.Said.{saidFed, saidFinished}
+use Rattle.cform.specs.State.{phaseNumber, phaseOf, inPhaseIfAny, stateOf, stateC}
+use Rattle.cform.specs.Answer.{answerC, fieldC}
+use Rattle.cform.specs.Theorems.{answerBack, fieldBack, NothingLost}
+use Rattle.cform.specs.declared.CState.{CState}
+use Rattle.cform.proofs.Phases.{unknown-of, closed-of, feeding-of, finishing-of}
+
+phase-back : (p : Phase) → phaseOf (phaseNumber p) ≡ some p
+unfolding phaseOf
+phase-back Closed = refl
+phase-back Feeding = refl
+phase-back Finishing = refl
+
+state-back : (t : State) → stateOf (stateC t) ≡ some t
+unfolding stateOf
+state-back t = ap (inPhaseIfAny (stateC t)) (phase-back (t .run .phase))
+
+no-state : (s : CState) → 2 < s .phase → stateOf s ≡ none
+no-state s h = unknown-of s (λ e. omega arith) (λ e. omega arith) (λ e. omega arith)
+
+some-none : {t : State} → _≡_ {A = Option State} (some t) none → ⊥
+some-none e = let z : _≡_ {A = ℕ} 0 1 = cc in omega arith
+
+by-number : (s : CState) (n : ℕ) → s .phase ≡ n → stateOf s ≡ none → 2 < n
+by-number s zero e h = absurd (some-none (sym (closed-of s e) ∙ h))
+by-number s (suc zero) e h = absurd (some-none (sym (feeding-of s e) ∙ h))
+by-number s (suc (suc zero)) e h = absurd (some-none (sym (finishing-of s e) ∙ h))
+by-number s (suc (suc (suc n))) e h = omega arith
+
+opened-back : (a : Opened) → answerBack false (answerC (saidOpened a)) ≡ saidOpened a
+opened-back (opened.Version v) = refl
+opened-back (opened.Refused x) = refl
+
+fed-back : (a : Fed) → answerBack false (answerC (saidFed a)) ≡ saidFed a
+fed-back (fed.Block n b) = refl
+fed-back (fed.More n) = refl
+fed-back (fed.Refused x) = refl
+
+finished-back : (a : Finished) → answerBack true (answerC (saidFinished a)) ≡ saidFinished a
+finished-back (finished.Block b) = refl
+finished-back (finished.End c) = refl
+finished-back (finished.Refused x) = refl
+
+staged-back : (a : Staged) → answerBack false (answerC (saidStaged a)) ≡ saidStaged a
+staged-back (staged.Version v) = refl
+staged-back (staged.Refused x) = refl
+
+withdrawn-back : (a : Withdrawn) → answerBack false (answerC (saidWithdrawn a)) ≡ saidWithdrawn a
+withdrawn-back (withdrawn.Waited true) = refl
+withdrawn-back (withdrawn.Waited false) = refl
+withdrawn-back (withdrawn.Refused x) = refl
+
+field-back : (a : field.Said) → fieldBack (fieldC a) ≡ a
+field-back (field.unsigned n) = refl
+field-back (field.signed z) = refl
+field-back (field.single b) = refl
+field-back (field.double b) = refl
+field-back field.doNotUse = refl
+field-back field.notInRevision = refl
+field-back (field.refused n) = refl
+
+pub nothing-lost : NothingLost
+nothing-lost =
+    record {
+      state = state-back;
+      unknown = no-state;
+      known = λ s. by-number s (s .phase) refl;
+      opened = opened-back;
+      fed = fed-back;
+      finished = finished-back;
+      staged = staged-back;
+      withdrawn = withdrawn-back;
+      fields = field-back;
+    }

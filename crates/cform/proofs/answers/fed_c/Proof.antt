@@ -1,0 +1,50 @@
+-- `cform::answers::fed_c` meets its contract: case by case.
+-- Assumes nothing.
+use mathlib.Core.Path.{sym, ap, _∙_}
+use Rattle.runs.specs.Said.{saidFed}
+use Rattle.runs.specs.declared.Fed.{Fed}
+use Rattle.cform.specs.Answer.{answerC}
+use borrow.Author.Needs.{needs}
+use Rattle.cform.proofs.answers.fed_c.Statement.{statement}
+use Rattle.cform.proofs.answers.fed_c.Tie as tie
+
+enum-known-a : tie.Need-enum-known-a
+enum-known-a c = search needs
+
+reported-requires : tie.Need-reported-requires
+reported-requires c κs = search needs
+
+enum-known-a-2 : tie.Need-enum-known-a-2
+enum-known-a-2 c = search needs
+
+plain-requires : tie.Need-plain-requires
+plain-requires c κs = search needs
+
+enum-known-a-3 : tie.Need-enum-known-a-3
+enum-known-a-3 c = search needs
+
+refused-by-requires : tie.Need-refused-by-requires
+refused-by-requires c κs = search needs
+
+returns : tie.Need-returns
+returns c = c .reported .ensures ∙ sym (ap (λ (x : Fed). answerC (saidFed x)) (c .before .before .a .given .1))
+
+returns-2 : tie.Need-returns-2
+returns-2 c = c .plain .ensures ∙ sym (ap (λ (x : Fed). answerC (saidFed x)) (c .before .before .a2 .given .1))
+
+returns-3 : tie.Need-returns-3
+returns-3 c = c .refused-by .ensures ∙ sym (ap (λ (x : Fed). answerC (saidFed x)) (c .before .before .a3 .given .1))
+
+pub fed-c-spec : {M : Type 1} → statement M
+fed-c-spec =
+    tie.close
+    (tie.spec
+    enum-known-a
+    reported-requires
+    enum-known-a-2
+    plain-requires
+    enum-known-a-3
+    refused-by-requires
+    returns
+    returns-2
+    returns-3)

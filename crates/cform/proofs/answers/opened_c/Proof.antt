@@ -1,0 +1,32 @@
+-- `cform::answers::opened_c` meets its contract: case by case.
+-- Assumes nothing.
+use mathlib.Core.Path.{sym, ap, _∙_}
+use Rattle.tables.specs.Said.{saidOpened}
+use Rattle.tables.specs.declared.Opened.{Opened}
+use Rattle.cform.specs.Answer.{answerC}
+use borrow.Author.Needs.{needs}
+use Rattle.cform.proofs.answers.opened_c.Statement.{statement}
+use Rattle.cform.proofs.answers.opened_c.Tie as tie
+
+enum-known-a : tie.Need-enum-known-a
+enum-known-a c = search needs
+
+plain-requires : tie.Need-plain-requires
+plain-requires c κs = search needs
+
+enum-known-a-2 : tie.Need-enum-known-a-2
+enum-known-a-2 c = search needs
+
+refused-by-requires : tie.Need-refused-by-requires
+refused-by-requires c κs = search needs
+
+returns : tie.Need-returns
+returns c = c .plain .ensures ∙ sym (ap (λ (x : Opened). answerC (saidOpened x)) (c .before .before .a .given .1))
+
+returns-2 : tie.Need-returns-2
+returns-2 c = c .refused-by .ensures ∙ sym (ap (λ (x : Opened). answerC (saidOpened x)) (c .before .before .a2 .given .1))
+
+pub opened-c-spec : {M : Type 1} → statement M
+opened-c-spec =
+    tie.close
+    (tie.spec enum-known-a plain-requires enum-known-a-2 refused-by-requires returns returns-2)

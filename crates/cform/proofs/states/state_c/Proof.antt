@@ -1,0 +1,17 @@
+-- `cform::states::state_c` meets its contract.
+-- Assumes nothing.
+use borrow.Author.Needs.{needs}
+use Rattle.cform.proofs.states.state_c.Statement.{statement}
+use Rattle.cform.proofs.states.state_c.Tie as tie
+
+phase-number-requires : tie.Need-phase-number-requires
+phase-number-requires c κs = search needs
+
+counts-c-requires : tie.Need-counts-c-requires
+counts-c-requires c κs = search needs
+
+returns : tie.Need-returns
+returns c = rw (c .before .phase-number .ensures, c .counts-c .ensures)
+
+pub state-c-spec : {M : Type 1} → statement M
+state-c-spec = tie.close (tie.spec phase-number-requires counts-c-requires returns)

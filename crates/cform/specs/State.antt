@@ -1,0 +1,64 @@
+-- The state as C has it, and the reader's state that it stands for.
+-- Assumes nothing.
+use Prim.Native.Nat.{ℕ}
+use mathlib.Core.Bool.{cond}
+use mathlib.Core.Option.{Option, none, some}
+use lib.Dec.{eqb}
+use Rattle.reader.specs.declared.Phase.{Phase}
+use Rattle.reader.specs.declared.Phase.the-variants.{Closed, Feeding, Finishing}
+use Rattle.reader.specs.declared.Counts.{Counts}
+use Rattle.reader.specs.declared.State.{State}
+use Rattle.cform.specs.declared.CCounts.{CCounts}
+use Rattle.cform.specs.declared.CState.{CState}
+use Rattle.cform.specs.declared.Known.{Known}
+use Rattle.cform.specs.declared.Known.the-variants as known
+
+-- the phases' numbers: 0 closed, 1 feeding, 2 after the first Finish
+abbrev pub phaseNumber : Phase → ℕ
+phaseNumber Closed = 0
+phaseNumber Feeding = 1
+phaseNumber Finishing = 2
+
+-- the phase of a number: any other is none
+unfoldable pub phaseOf : ℕ → Option Phase
+phaseOf n = cond (eqb n 0) (some Closed) (cond (eqb n 1) (some Feeding) (cond (eqb n 2) (some Finishing) none))
+
+-- the counts of a run, there and back
+abbrev pub countsC : Counts → CCounts
+countsC c = record { taken = c .taken; blocks = c .blocks; skipped = c .skipped }
+
+abbrev pub countsOf : CCounts → Counts
+countsOf c = record { taken = c .taken; blocks = c .blocks; skipped = c .skipped }
+
+abbrev pub inPhase : CState → Phase → State
+inPhase s p =
+    record {
+      run = record { phase = p; held = s .held; standing = s .standing; counts = countsOf (s .counts) };
+      «in_force» = s .«in_force»;
+      waiting = s .waiting;
+    }
+
+abbrev pub inPhaseIfAny : CState → Option Phase → Option State
+inPhaseIfAny s none = none
+inPhaseIfAny s (some p) = some (inPhase s p)
+
+-- the state that C's stands for: none where the phase is none
+unfoldable pub stateOf : CState → Option State
+stateOf s = inPhaseIfAny s (phaseOf (s .phase))
+
+-- a state as C has it
+abbrev pub stateC : State → CState
+stateC t =
+    record {
+      phase = phaseNumber (t .run .phase);
+      held = t .run .held;
+      standing = t .run .standing;
+      counts = countsC (t .run .counts);
+      «in_force» = t .«in_force»;
+      waiting = t .waiting;
+    }
+
+-- what the code's answer means
+abbrev pub knownSays : Known → Option State
+knownSays (known.State t) = some t
+knownSays known.Unknown = none

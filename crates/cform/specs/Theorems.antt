@@ -1,0 +1,56 @@
+-- Nothing is lost on the way to C: a state, an answer and a field can be read back from the plain structs.
+-- Assumes nothing.
+use Prim.Native.Nat.{_<_}
+use mathlib.Core.Path.{_≡_}
+use mathlib.Core.Bool.{Bool, true, false, cond}
+use mathlib.Core.Option.{none, some}
+use lib.Dec.{eqb}
+use Rattle.record.specs.Answer as field
+use Rattle.reader.specs.declared.State.{State}
+use Rattle.tables.specs.declared.Opened.{Opened}
+use Rattle.runs.specs.declared.Fed.{Fed}
+use Rattle.runs.specs.declared.Finished.{Finished}
+use Rattle.tables.specs.declared.Staged.{Staged}
+use Rattle.tables.specs.declared.Withdrawn.{Withdrawn}
+use Rattle.reader.specs.Said.{Report, Said, refused, version, took, found, ended, waited}
+use Rattle.tables.specs.Said.{saidOpened, saidStaged, saidWithdrawn}
+use Rattle.runs.specs.Said.{saidFed, saidFinished}
+use Rattle.cform.specs.State.{countsOf, stateOf, stateC}
+use Rattle.cform.specs.Answer.{answerC, fieldC}
+use Rattle.cform.specs.declared.CState.{CState}
+use Rattle.cform.specs.declared.CBlock.{CBlock}
+use Rattle.cform.specs.declared.CAnswer.{CAnswer}
+use Rattle.cform.specs.declared.CField.{CField}
+
+abbrev pub reportBack : CBlock → Report
+reportBack b = record { place = b .place; number = b .number; revision = b .revision; size = b .length }
+
+-- an answer by its kind; Feed's block comes with the count taken, Finish's without
+abbrev pub answerBack : Bool → CAnswer → Said
+answerBack finish a =
+    cond (eqb (a .kind) 0) (refused (a .refusal))
+    (cond (eqb (a .kind) 1) (version (a .version))
+    (cond (eqb (a .kind) 2) (cond finish (found (reportBack (a .block))) (took (a .taken) (some (reportBack (a .block)))))
+    (cond (eqb (a .kind) 3) (took (a .taken) none)
+    (cond (eqb (a .kind) 4) (ended (countsOf (a .end))) (waited (eqb (a .waited) 1))))))
+
+-- a field's answer by its kind
+abbrev pub fieldBack : CField → field.Said
+fieldBack f =
+    cond (eqb (f .kind) 0) (field.refused (f .refusal))
+    (cond (eqb (f .kind) 1) (field.unsigned (f .number))
+    (cond (eqb (f .kind) 2) (field.signed (f .signed))
+    (cond (eqb (f .kind) 3) (field.single (f .bits))
+    (cond (eqb (f .kind) 4) (field.double (f .bits)) (cond (eqb (f .kind) 5) field.doNotUse field.notInRevision)))))
+
+pub record NothingLost : Type 0 where
+  -- the next call goes on with the state that this one left; a state stands for none exactly where its phase is over 2
+  pub state : (t : State) → stateOf (stateC t) ≡ some t
+  pub unknown : (s : CState) → 2 < s .phase → stateOf s ≡ none
+  pub known : (s : CState) → stateOf s ≡ none → 2 < s .phase
+  pub opened : (a : Opened) → answerBack false (answerC (saidOpened a)) ≡ saidOpened a
+  pub fed : (a : Fed) → answerBack false (answerC (saidFed a)) ≡ saidFed a
+  pub finished : (a : Finished) → answerBack true (answerC (saidFinished a)) ≡ saidFinished a
+  pub staged : (a : Staged) → answerBack false (answerC (saidStaged a)) ≡ saidStaged a
+  pub withdrawn : (a : Withdrawn) → answerBack false (answerC (saidWithdrawn a)) ≡ saidWithdrawn a
+  pub fields : (a : field.Said) → fieldBack (fieldC a) ≡ a

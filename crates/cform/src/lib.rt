@@ -1,0 +1,86 @@
+// C's plain structs by value, numbers for cases, and how the reader's states and answers read as them. include/alderflute.h
+// declares the structs.
+ghost use Rattle.cform.specs.Theorems.{NothingLost};
+use reader::State;
+
+pub mod states; // states.rt: states as C has them
+mod answers; // answers.rt: answers as C has them
+pub mod replies; // replies.rt: what a call leaves and answers, as C has it
+pub mod fields; // fields.rt: a field's answer as C has it
+pub mod parts; // parts.rt: parts of buffers as C has them
+
+// The counts of a run: in C the members of its state from `taken` to `skipped`, and at the end an alderflute_end.
+#[repr(C)]
+pub struct CCounts {
+    pub taken: usize,
+    pub blocks: usize,
+    pub skipped: usize,
+}
+
+// The state: the phase by its number (0 closed, 1 feeding, 2 after the first Finish), and the reader's numbers.
+#[repr(C)]
+pub struct CState {
+    pub phase: usize,
+    pub held: usize,
+    pub standing: usize,
+    pub counts: CCounts,
+    pub in_force: usize,
+    pub waiting: usize,
+}
+
+// What is reported of a block.
+#[repr(C)]
+pub struct CBlock {
+    pub place: usize,
+    pub length: usize,
+    pub number: u16,
+    pub revision: u16,
+}
+
+// What a call that goes on with the state answers: the refusal's number or 0, a kind, and the values of that kind; the
+// others are 0.
+#[repr(C)]
+pub struct CAnswer {
+    pub refusal: u32,
+    pub kind: u32,
+    pub version: u16,
+    pub waited: u16,
+    pub taken: usize,
+    pub block: CBlock,
+    pub end: CCounts,
+}
+
+#[repr(C)]
+pub struct CReply {
+    pub state: CState,
+    pub answer: CAnswer,
+}
+
+// What a field answers: the refusal's number or 0, a kind, and the one value of that kind; the others are 0.
+#[repr(C)]
+pub struct CField {
+    pub refusal: u32,
+    pub kind: u32,
+    pub number: u64,
+    pub signed: i64,
+    pub bits: u64,
+}
+
+// A part of a buffer that the caller gave.
+#[repr(C)]
+pub struct CPart {
+    pub refusal: u32,
+    pub offset: usize,
+    pub length: usize,
+}
+
+// The state that C's stands for, where its phase is one.
+pub enum Known {
+    State(State),
+    Unknown,
+}
+
+// State, answer and field can be read back from the plain structs.
+pub fn nothing_lost()
+    ensures { λ _. ⌜ NothingLost ⌝ }
+{}

@@ -1,0 +1,20 @@
+-- `encode::limits_hold`: antt computes both sides. Assumes nothing.
+use mathlib.Core.Path.{refl}
+use Rattle.crc.specs.Crc.{crcBit, crcBits8, crcByte, crcFrom, crcOf}
+use Rattle.wire.specs.Little.{littleAt}
+use Rattle.table.specs.Lists.{tabulate, every, chain, neighbours}
+use Rattle.rows.specs.Types.{sizeOf}
+use Rattle.table.specs.Marks.{markFits}
+use Rattle.rows.specs.Places.{fieldAt, rowFrom, rowAt}
+use Rattle.table.specs.Decode.{rowsOf, blockOf, decode}
+use Rattle.encode.specs.Encode.{two, fieldBytes, fieldsPart, rowsPart, unsealed, encode}
+use Rattle.table.specs.Rules.{fileOk, risingOk, rowOk, counts, indexOk, rowsOk, fieldsOk, isPair, blockOk, tableOk}
+use Rattle.encode.proofs.limits_hold.Statement.{statement}
+use Rattle.encode.proofs.limits_hold.Tie as tie
+
+returns : tie.Need-returns
+unfolding crcBit crcBits8 crcByte crcFrom crcOf littleAt tabulate every chain neighbours sizeOf markFits fieldAt rowFrom rowAt rowsOf blockOf decode two fieldBytes fieldsPart rowsPart unsealed encode fileOk risingOk rowOk counts indexOk rowsOk fieldsOk isPair blockOk tableOk
+returns c = refl
+
+pub limits-hold-spec : {M : Type 1} → statement M
+limits-hold-spec = tie.close (tie.spec returns)

@@ -1,0 +1,3 @@
+pub mod Encode
+pub mod Theorems
+pub mod Limits

@@ -1,0 +1,139 @@
+-- The rules on both sides of their limits, but for the 8,192 bytes of a file: small tables with what is to come of them, computed from the
+-- definitions.
+-- Assumes nothing.
+use mathlib.Core.Bool.{Bool, true, false}
+use mathlib.Core.List.{List, [], _∷_, _++_, map}
+use mathlib.Core.Path.{_≡_}
+use Prim.Native.Nat.{ℕ}
+use Prim.Native.String.{String}
+use lib.ListN.{set, take, drop}
+use Rattle.crc.specs.Crc.{crcOf}
+use Rattle.rows.specs.declared.FieldRow.{FieldRow}
+use Rattle.table.specs.Rows.{BlockRow, Table}
+use Rattle.encode.specs.Encode.{two, unsealed, encode}
+use Rattle.table.specs.Rules.{tableOk}
+
+pub record Case : Type 0 where
+  pub name : String
+  pub bytes : List ℕ
+  pub passes : Bool
+
+-- offset, type, first revision, mark
+abbrev field : ℕ → ℕ → ℕ → ℕ → FieldRow
+field offset kind first mark = record { offset = offset; kind = kind; first = first; mark = mark }
+
+-- number, highest revision, body, sub-fields
+abbrev block : ℕ → ℕ → List FieldRow → List FieldRow → BlockRow
+block number highest body subs = record { number = number; highest = highest; body = body; subs = subs }
+
+abbrev table : List BlockRow → Table
+table rows = record { version = 7; rows = rows }
+
+abbrev ok : String → List BlockRow → Case
+ok name rows = record { name = name; bytes = encode (table rows); passes = true }
+
+abbrev bad : String → List BlockRow → Case
+bad name rows = record { name = name; bytes = encode (table rows); passes = false }
+
+-- one block with this body, and one with these sub-fields
+abbrev body : List FieldRow → List BlockRow
+body fs = block 1 3 fs [] ∷ []
+
+abbrev subs : List FieldRow → List BlockRow
+subs fs = block 1 3 (field 14 1 0 0 ∷ field 15 1 0 0 ∷ []) fs ∷ []
+
+-- a type and a mark
+abbrev bears : ℕ → ℕ → List BlockRow
+bears kind mark = body (field 14 kind 0 mark ∷ [])
+
+abbrev rows : List Case
+rows =
+    ok "one block without fields, 20 bytes" (body [])
+    ∷ bad "no block" []
+    ∷ ok "number 8191" (block 8191 0 [] [] ∷ [])
+    ∷ bad "number 8192" (block 8192 0 [] [] ∷ [])
+    ∷ ok "numbers 0 and 1" (block 0 0 [] [] ∷ block 1 0 [] [] ∷ [])
+    ∷ bad "a number twice" (block 1 0 [] [] ∷ block 1 0 [] [] ∷ [])
+    ∷ bad "numbers falling" (block 2 0 [] [] ∷ block 1 0 [] [] ∷ [])
+    ∷ ok "highest 7" (block 1 7 [] [] ∷ [])
+    ∷ bad "highest 8" (block 1 8 [] [] ∷ [])
+    ∷ ok "two blocks with fields" (block 1 0 (field 14 3 0 0 ∷ []) [] ∷ block 2 0 (field 14 3 0 0 ∷ []) [] ∷ [])
+    ∷ []
+
+abbrev fields : List Case
+fields =
+    bad "a body offset of 13" (body (field 13 1 0 0 ∷ []))
+    ∷ ok "a body offset of 255" (body (field 255 10 0 0 ∷ []))
+    ∷ ok "a field where the previous one ends" (body (field 14 2 0 0 ∷ field 16 1 0 0 ∷ []))
+    ∷ bad "a field before the previous one ends" (body (field 14 2 0 0 ∷ field 15 1 0 0 ∷ []))
+    ∷ ok "a gap" (body (field 20 2 0 0 ∷ field 30 1 0 0 ∷ []))
+    ∷ ok "first revisions rising to the highest" (body (field 14 1 0 0 ∷ field 15 1 3 0 ∷ field 16 1 3 0 ∷ []))
+    ∷ bad "a first revision above the highest" (body (field 14 1 4 0 ∷ []))
+    ∷ bad "first revisions falling" (body (field 14 1 1 0 ∷ field 15 1 0 0 ∷ []))
+    ∷ ok "sub-fields from 0" (subs (field 0 10 0 0 ∷ field 8 1 1 0 ∷ []))
+    ∷ bad "sub-fields that overlap" (subs (field 0 10 0 0 ∷ field 7 1 0 0 ∷ []))
+    ∷ bad "first revisions of sub-fields falling" (subs (field 0 1 1 0 ∷ field 1 1 0 0 ∷ []))
+    ∷ bad "sub-fields without N and SBLength" (block 1 0 [] (field 0 1 0 0 ∷ []) ∷ [])
+    ∷ bad "N alone" (block 1 0 (field 14 1 0 0 ∷ []) (field 0 1 0 0 ∷ []) ∷ [])
+    ∷ bad "N, SBLength and one more" (block 1 0 (field 14 1 0 0 ∷ field 15 1 0 0 ∷ field 16 1 0 0 ∷ []) (field 0 1 0 0 ∷ []) ∷ [])
+    ∷ bad "N with a mark" (block 1 0 (field 14 1 0 1 ∷ field 15 1 0 0 ∷ []) (field 0 1 0 0 ∷ []) ∷ [])
+    ∷ bad "SBLength of type i1" (block 1 0 (field 14 1 0 0 ∷ field 15 5 0 0 ∷ []) (field 0 1 0 0 ∷ []) ∷ [])
+    ∷ bad "SBLength at 16" (block 1 0 (field 14 1 0 0 ∷ field 16 1 0 0 ∷ []) (field 0 1 0 0 ∷ []) ∷ [])
+    ∷ bad "SBLength from revision 1" (block 1 1 (field 14 1 0 0 ∷ field 15 1 1 0 ∷ []) (field 0 1 0 0 ∷ []) ∷ [])
+    ∷ []
+
+abbrev marks : List Case
+marks =
+    bad "type 0" (bears 0 0)
+    ∷ ok "type 10" (bears 10 0)
+    ∷ bad "type 11" (bears 11 0)
+    ∷ ok "mark 1 on u8" (bears 4 1)
+    ∷ ok "mark 2 on u1" (bears 1 2)
+    ∷ ok "mark 3 on f4" (bears 9 3)
+    ∷ ok "mark 4 on i1" (bears 5 4)
+    ∷ ok "mark 4 on i8" (bears 8 4)
+    ∷ bad "mark 1 on i1" (bears 5 1)
+    ∷ bad "mark 2 on f8" (bears 10 2)
+    ∷ bad "mark 3 on i8" (bears 8 3)
+    ∷ bad "mark 3 on u8" (bears 4 3)
+    ∷ bad "mark 4 on u8" (bears 4 4)
+    ∷ bad "mark 4 on f4" (bears 9 4)
+    ∷ bad "mark 5 on u2" (bears 2 5)
+    ∷ []
+
+-- bytes before the CRC, closed with the right one
+abbrev closed : List ℕ → List ℕ
+closed bs = bs ++ (two (crcOf bs) ++ (0x42 ∷ 0x54 ∷ []))
+
+-- a file of 32 bytes: a field row at 0, block rows at 4 and 12, the trailer at 20
+abbrev small : Table
+small = table (block 1 0 (field 14 1 0 0 ∷ []) [] ∷ block 2 0 [] [] ∷ [])
+
+-- that file with another byte, and the right CRC
+abbrev other : String → ℕ → ℕ → Case
+other name place byte = record { name = name; bytes = closed (set (unsealed small) place byte); passes = false }
+
+abbrev files : List Case
+files =
+    record { name = "the small file"; bytes = closed (unsealed small); passes = true }
+    ∷ other "a block row that ends in no zero byte" 11 1
+    ∷ other "a first index that is not the sum" 16 0
+    ∷ record { name = "counts that leave a field row"; bytes = closed (set (unsealed (table (body (field 14 1 0 0 ∷ [])))) 7 0); passes = false }
+    ∷ other "counts beyond the field rows" 15 1
+    ∷ other "a count that is not R" 22 1
+    ∷ other "another distance to the block rows" 24 29
+    ∷ other "another distance to the field rows" 26 33
+    ∷ record { name = "a byte between field rows and block rows"; bytes = closed (set (take 4 (unsealed small) ++ (0 ∷ drop 4 (unsealed small))) 27 33); passes = false }
+    ∷ record { name = "another CRC"; bytes = set (encode small) 28 0; passes = false }
+    ∷ record { name = "another first closing byte"; bytes = set (encode small) 30 0x54; passes = false }
+    ∷ record { name = "another second closing byte"; bytes = set (encode small) 31 0x32; passes = false }
+    ∷ record { name = "a byte short"; bytes = take 31 (encode small); passes = false }
+    ∷ record { name = "19 bytes"; bytes = take 19 (encode small); passes = false }
+    ∷ record { name = "no bytes"; bytes = []; passes = false }
+    ∷ []
+
+abbrev pub cases : List Case
+cases = rows ++ (fields ++ (marks ++ files))
+
+abbrev pub LimitsHold : Type 0
+LimitsHold = map (λ (c : Case). tableOk (c .bytes)) cases ≡ map (λ (c : Case). c .passes) cases

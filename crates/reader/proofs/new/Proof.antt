@@ -1,0 +1,18 @@
+-- `reader::new` meets its contract: the counts are none.
+-- Assumes nothing.
+use mathlib.Core.Path.{ap}
+use borrow.Author.Needs.{needs}
+use Rattle.reader.specs.declared.Counts.{Counts}
+use Rattle.reader.specs.declared.Phase.the-variants.{Closed}
+use Rattle.reader.proofs.new.Statement.{statement}
+use Rattle.reader.proofs.new.Tie as tie
+
+no-counts-requires : tie.Need-no-counts-requires
+no-counts-requires c κs = search needs
+
+returns : tie.Need-returns
+returns c =
+    ap (λ (k : Counts). record { run = record { phase = Closed; held = 0; standing = 0; counts = k }; «in_force» = 0; waiting = 0 }) (c .no-counts .ensures)
+
+pub new-spec : {M : Type 1} → statement M
+new-spec = tie.close (tie.spec no-counts-requires returns)

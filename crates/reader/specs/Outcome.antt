@@ -1,0 +1,26 @@
+-- What a call answers and leaves, refusals included: the answer, the new state and every byte of the buffer it may write; or a part.
+-- Assumes nothing.
+use Prim.Native.Nat.{ℕ}
+use mathlib.Core.List.{List, []}
+use mathlib.Core.Option.{Option, none, some}
+use Rattle.reader.specs.Said.{Said, refused}
+use Rattle.reader.specs.declared.State.{State}
+
+-- the answer, the new state, and the buffer that the call may write
+pub record Outcome : Type 0 where
+  pub said : Said
+  pub state : State
+  pub lent : List ℕ
+
+abbrev pub outcome : Said → State → List ℕ → Outcome
+outcome a s l = record { said = a; state = s; lent = l }
+
+-- "A refusal returns its number and the old state and stores nothing."
+abbrev pub unless : Option ℕ → State → List ℕ → Outcome → Outcome
+unless (some n) s lent done = outcome (refused n) s lent
+unless none s lent done = done
+
+-- "A call that hands back a part then hands back an empty one"
+abbrev pub partUnless : Option ℕ → List ℕ → List ℕ
+partUnless (some n) part = []
+partUnless none part = part

@@ -1,0 +1,42 @@
+-- A record call that reads by a table, refused by 1, 5 or 4, or not.
+-- Assumes nothing.
+use mathlib.Core.Path.{_≡_, sym, ap}
+use mathlib.Core.Bool.{true, _&&_}
+use mathlib.Core.List.{List}
+use mathlib.Core.Option.{Option, none, some}
+use Prim.Native.Nat.{ℕ, _≤_}
+use native.Mathlib.Omega.{arith}
+use lib.ListN.{length}
+use lib.Dec.{ltb}
+use Rattle.table.specs.Rules.{tableOk}
+use Rattle.refusal.specs.Numbers.{numberFor}
+use Rattle.record.specs.Answer.{Said, Answers}
+use Rattle.record.specs.declared.Answer.{Answer}
+use Rattle.record.specs.declared.Answer.the-variants as answer
+use Rattle.refusal.specs.declared.Refusal.{Refusal}
+use Rattle.record.proofs.Calls.{refuses}
+use Rattle.record.proofs.Fields.{same}
+use Rattle.reader.specs.State.{sound}
+use Rattle.reader.specs.Refusals.{need, longStore, tableRefusal}
+use Rattle.records.specs.Calls.{tableInForce, askRefusal, saidUnless}
+use Rattle.reader.specs.declared.State.{State}
+use Rattle.reader.proofs.Laws.{passes, with-store}
+
+pub record Asked (s : State) (force : List ℕ) : Type 0 where
+  pub fits : s .«in_force» ≤ length force
+  pub ok : tableOk (tableInForce s force) ≡ true
+
+pub asked : (s : State) (force : List ℕ) → askRefusal s force ≡ none → Asked s force
+unfolding askRefusal
+asked s force e =
+    let p = passes (sound s && longStore force) 1 (need (ltb 0 (s .«in_force»)) 5 (tableRefusal (tableInForce s force))) e in
+    let q = passes (ltb 0 (s .«in_force»)) 5 (tableRefusal (tableInForce s force)) (p .1) in
+    let f = with-store s force (p .0) in
+    record { fits = omega (arith, f .0 .«in_force», f .1); ok = passes (tableOk (tableInForce s force)) 4 none (q .1) .0 }
+
+-- an answer that is a refusal, and one that is not
+pub unless-refused : (o : Option ℕ) (x : Refusal) (said : Said) → o ≡ some (numberFor x) → Answers (answer.Refused x) (saidUnless o said)
+unless-refused o x said e = same (sym (ap (λ (p : Option ℕ). saidUnless p said) e)) (refuses x)
+
+pub unless-none : (o : Option ℕ) {r : Answer} (said : Said) → o ≡ none → Answers r said → Answers r (saidUnless o said)
+unless-none o said e h = same (sym (ap (λ (p : Option ℕ). saidUnless p said) e)) h

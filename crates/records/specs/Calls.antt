@@ -1,0 +1,57 @@
+-- What the record calls answer: "Record calls 1, 5, 4, 10, 6, 7, 8, 9; the TOW and WNc calls read no table and give only 1, 10 and, for L below 14, 7".
+-- Assumes nothing.
+use Prim.Native.Nat.{ℕ}
+use mathlib.Core.Bool.{_&&_}
+use mathlib.Core.List.{List}
+use mathlib.Core.Option.{Option, none, some}
+use lib.ListN.{take}
+use lib.Dec.{ltb}
+use Rattle.table.specs.Decode.{decode}
+use Rattle.rows.specs.declared.FieldRow.{FieldRow}
+use Rattle.record.specs.Answer.{Said, refused}
+use Rattle.record.specs.Calls.{bodyField, subField, subBlock, subBlockRefusal, towRow, wncRow, stamp}
+use Rattle.reader.specs.State.{sound}
+use Rattle.reader.specs.Refusals.{need, longStore, tableRefusal}
+use Rattle.reader.specs.Outcome.{partUnless}
+use Rattle.reader.specs.declared.State.{State}
+
+-- the table in force
+abbrev pub tableInForce : State → List ℕ → List ℕ
+tableInForce s force = take (s .«in_force») force
+
+-- 5: "a record call that reads by a table, with nothing in force"; 4: "a table to be .. read by breaks a table rule"
+unfoldable pub askRefusal : State → List ℕ → Option ℕ
+askRefusal s force = need (sound s && longStore force) 1 (need (ltb 0 (s .«in_force»)) 5 (tableRefusal (tableInForce s force)))
+
+abbrev pub saidUnless : Option ℕ → Said → Said
+saidUnless (some n) said = refused n
+saidUnless none said = said
+
+-- "a body field by number"
+unfoldable pub bodyOf : State → List ℕ → List ℕ → ℕ → Said
+bodyOf s force block i = saidUnless (askRefusal s force) (bodyField (decode (tableInForce s force)) block i)
+
+-- "a sub-block's field by two numbers"
+unfoldable pub subOf : State → List ℕ → List ℕ → ℕ → ℕ → Said
+subOf s force block k j = saidUnless (askRefusal s force) (subField (decode (tableInForce s force)) block k j)
+
+-- "a sub-block's bytes as a part that starts inside the block"
+unfoldable pub subBytesOf : State → List ℕ → List ℕ → ℕ → List ℕ
+subBytesOf s force block k = partUnless (askRefusal s force) (subBlock (decode (tableInForce s force)) block k)
+
+abbrev pub firstOf : Option ℕ → Option ℕ → Option ℕ
+firstOf (some n) rest = some n
+firstOf none rest = rest
+
+unfoldable pub subBytesRefusal : State → List ℕ → List ℕ → ℕ → Option ℕ
+subBytesRefusal s force block k = firstOf (askRefusal s force) (subBlockRefusal (decode (tableInForce s force)) block k)
+
+-- "TOW (u4 at 8) and WNc (u2 at 12) .. have calls of their own"
+unfoldable pub stampOf : FieldRow → State → List ℕ → Said
+stampOf f s block = saidUnless (need (sound s) 1 none) (stamp f block)
+
+abbrev pub towOf : State → List ℕ → Said
+towOf = stampOf towRow
+
+abbrev pub wncOf : State → List ℕ → Said
+wncOf = stampOf wncRow

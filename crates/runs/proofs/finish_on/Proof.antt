@@ -1,0 +1,156 @@
+-- `runs::finish_on` meets its contract: from `finish`'s numbers to the run, the report or the end.
+-- Assumes nothing.
+use mathlib.Core.Path.{_≡_, sym, ap, _∙_}
+use mathlib.Core.Bool.{_&&_}
+use mathlib.Core.List.{List}
+use mathlib.Core.Option.{Option, none, some}
+use Prim.Native.Nat.{ℕ, _+_, _-_, _≤_}
+use native.Mathlib.Omega.{arith}
+use lib.ListN.{length, drop, length-append, length-drop}
+use Rattle.frame.specs.Feed.{Feeding}
+use Rattle.feed.specs.Hold.{restOf, numbersOf, holdOf}
+use Rattle.feed.specs.declared.Fed.{Fed}
+use Rattle.feed.proofs.Literally.{rest-length}
+use Rattle.reader.specs.State.{sound}
+use Rattle.reader.specs.Said.{ended, found}
+use Rattle.reader.specs.Refusals.{longHold}
+use Rattle.runs.specs.Refusals.{finishRefusal}
+use Rattle.runs.specs.Calls.{reported, front, finishSaid, phaseAfter, runBy, runOn, withRun, finishingOf}
+use Rattle.runs.specs.Code.{reportAt}
+use Rattle.reader.specs.declared.Phase.{Phase}
+use Rattle.reader.specs.declared.Phase.the-variants as phase
+use Rattle.reader.specs.declared.Run.{Run}
+use Rattle.reader.proofs.Laws.{passes, Facts, with-hold}
+use Rattle.runs.proofs.Feeding.{WholeIf, end-whole, none-if, some-if, whole-some, report-is, Few, end-few}
+use Rattle.reader.proofs.Accepted.{same-outcome}
+use borrow.Author.Needs.{needs}
+use Rattle.runs.proofs.finish_on.Statement.{statement}
+use Rattle.runs.proofs.finish_on.Tie as tie
+
+room : (c : tie.Start) → Facts (c .args .s) × (65536 ≤ length (c .args .hold .now))
+unfolding finishRefusal
+room c = with-hold (c .args .s) (c .args .hold .now) (passes (sound (c .args .s) && longHold (c .args .hold .now)) 1 _ (c .pre) .0)
+
+abbrev entry : tie.After-finish → tie.Start
+entry d = d .before .before .before .before
+
+-- what finishing gave, by the definition
+abbrev meaning : tie.After-finish → Feeding
+meaning d = finishingOf (entry d .args .s) (entry d .args .hold .now)
+
+numbers : (d : tie.After-finish) → d .finish .result ≡ numbersOf (meaning d)
+unfolding finishingOf
+numbers d = d .finish .ensures .0
+
+left : (d : tie.After-finish) → d .finish .last .0 ≡ holdOf (meaning d) (entry d .args .hold .now)
+unfolding finishingOf
+left d = d .finish .ensures .1 .0
+
+whole : (d : tie.After-finish) → WholeIf (meaning d .standing) (meaning d .held)
+unfolding finishingOf
+whole d = end-whole _
+
+long-left : (d : tie.After-finish) → length (entry d .args .hold .now) ≤ length (d .finish .last .0)
+long-left d =
+    omega (arith, ap length (left d) ∙ length-append (meaning d .held) (drop (length (meaning d .held)) (entry d .args .hold .now)), length-drop (length (meaning d .held)) (entry d .args .hold .now))
+
+fewer : (d : tie.After-finish) → Few (entry d .args .s .run .held - entry d .args .s .run .standing) (d .finish .result)
+unfolding finishingOf
+fewer d =
+    let a = entry d .args in
+    let f = room (entry d) in
+    rw (sym (rest-length (a .hold .now) (a .s .run .held) (a .s .run .standing) (f .0 .front) (omega (arith, f .0 .held, f .1))))
+    (end-few (restOf (a .hold .now) (a .s .run .held) (a .s .run .standing)) (d .finish .result) (numbers d))
+
+-- the sums fit
+fits : (d : tie.After-finish)
+    → (entry d .args .s .run .counts .taken + d .finish .result .taken ≤ 4294967295) × (entry d .args .s .run .counts .blocks ≤ 4294967295)
+    × (entry d .args .s .run .counts .skipped + d .finish .result .skipped ≤ 18446744073709551615)
+fits d =
+    let f = room (entry d) in
+    let g = d .finish .ensures .1 .1 .taken in
+    (omega (arith, g, f .0 .taken), omega (arith, f .0 .blocks, f .0 .taken), omega (arith, fewer d .skipped, f .0 .skipped, f .0 .taken, f .0 .held, g))
+
+run-of : (d : tie.After-finish) (x : Phase) → runBy x (entry d .args .s .run) (d .finish .result) ≡ runOn x (entry d .args .s .run) (meaning d)
+run-of d x = ap (runBy x (entry d .args .s .run)) (numbers d)
+
+finish-requires : tie.Need-finish-requires
+finish-requires c κs =
+    let f = room (c .before .before .before) in
+    (f .0 .front, f .0 .held, omega (arith, f .1))
+
+went-on-requires : tie.Need-went-on-requires
+went-on-requires c κs = fits (c .before .before .before)
+
+with-run-requires : tie.Need-with-run-requires
+with-run-requires c κs = search needs
+
+same-length : tie.Need-same-length
+same-length c = search needs
+
+returns : tie.Need-returns
+returns c =
+    let d = c .before .before .before .before .before .before in
+    let e : meaning d .standing ≡ none = none-if (meaning d .standing) (meaning d .held) (whole d) (sym (ap (λ (x : Fed). x .standing) (numbers d)) ∙ c .before .before .before .if1 .taken) in
+    let nr : c .before .before .went-on .result ≡ runOn phase.Closed (entry d .args .s .run) (meaning d) = c .before .before .went-on .ensures ∙ run-of d phase.Closed in
+    same-outcome
+    (ap (λ (x : Run). ended (x .counts)) nr
+    ∙ sym (ap (λ (o : Option ℕ). finishSaid o (runOn (phaseAfter o) (entry d .args .s .run) (meaning d)) (meaning d .held)) e))
+    (c .with-run .ensures ∙ ap (withRun (entry d .args .s)) (nr ∙ sym (ap (λ (o : Option ℕ). runOn (phaseAfter o) (entry d .args .s .run) (meaning d)) e)))
+    (left d)
+
+went-on-requires-2 : tie.Need-went-on-requires-2
+went-on-requires-2 c κs = fits (c .before .before .before)
+
+sub-block-at : tie.Need-sub-block-at
+sub-block-at c =
+    let d = c .before .before .before .before .before .before in
+    let f = room (entry d) in
+    let n = c .before .before .went-on2 .ensures in
+    let a = ap (λ (r : Run). r .counts .taken) n in
+    let b = ap (λ (r : Run). r .held) n in
+    omega (arith, fewer d .held, f .0 .within, f .0 .front, a, b)
+
+block-at-requires : tie.Need-block-at-requires
+block-at-requires c κs =
+    let d = c .before .before .before .before .before .before in
+    omega (arith, room (entry d) .1, long-left d)
+
+with-run-requires-2 : tie.Need-with-run-requires-2
+with-run-requires-2 c κs = search needs
+
+same-length-2 : tie.Need-same-length-2
+same-length-2 c = search needs
+
+returns-2 : tie.Need-returns-2
+returns-2 c =
+    let d = c .before .before .before .before .before .before .before .before in
+    let g = c .before .before .before .before in
+    let n = d .finish .result .standing in
+    let es : meaning d .standing ≡ some (d .finish .result .standing) =
+    some-if (meaning d .standing) (d .finish .result .standing) (sym (ap (λ (x : Fed). x .standing) (numbers d))) (c .before .before .before .before .before .if1 .left) in
+    let nr : g .went-on2 .result ≡ runOn phase.Finishing (entry d .args .s .run) (meaning d) = g .went-on2 .ensures ∙ run-of d phase.Finishing in
+    same-outcome
+    (ap found
+    (c .before .block-at .ensures ∙ ap (λ (h : List ℕ). reportAt h (front (g .went-on2 .result)) n) (left d)
+    ∙ report-is (meaning d .held) (drop (length (meaning d .held)) (entry d .args .hold .now)) (front (g .went-on2 .result)) n (whole-some (meaning d .standing) (meaning d .held) n (whole d) es)
+    ∙ ap (λ (r : Run). reported (front r) n (meaning d .held)) nr)
+    ∙ sym (ap (λ (o : Option ℕ). finishSaid o (runOn (phaseAfter o) (entry d .args .s .run) (meaning d)) (meaning d .held)) es))
+    (c .with-run2 .ensures ∙ ap (withRun (entry d .args .s)) (nr ∙ sym (ap (λ (o : Option ℕ). runOn (phaseAfter o) (entry d .args .s .run) (meaning d)) es)))
+    (left d)
+
+pub finish-on-spec : {M : Type 1} → statement M
+finish-on-spec =
+    tie.close
+    (tie.spec
+    finish-requires
+    went-on-requires
+    with-run-requires
+    same-length
+    returns
+    went-on-requires-2
+    sub-block-at
+    block-at-requires
+    with-run-requires-2
+    same-length-2
+    returns-2)

@@ -1,0 +1,94 @@
+-- What Feed, Finish and Bytes answer and leave.
+-- Assumes nothing.
+use Prim.Native.Nat.{ℕ, zero, suc, _+_, _-_}
+use mathlib.Core.List.{List}
+use mathlib.Core.Option.{Option, none, some}
+use lib.ListN.{take}
+use Rattle.frame.specs.Settle.{finishLit}
+use Rattle.frame.specs.Feed.{Feeding, feedLit, stop}
+use Rattle.frame.specs.ReadRun.{blockAt}
+use Rattle.feed.specs.Hold.{restOf, numbersOf, holdOf}
+use Rattle.feed.specs.declared.Fed.{Fed}
+use Rattle.reader.specs.State.{limit}
+use Rattle.reader.specs.Said.{Report, Said, took, found, ended}
+use Rattle.reader.specs.Outcome.{Outcome, unless, partUnless}
+use Rattle.reader.specs.declared.Phase.{Phase}
+use Rattle.reader.specs.declared.Phase.the-variants as phase
+use Rattle.reader.specs.declared.Counts.{Counts}
+use Rattle.reader.specs.declared.Run.{Run}
+use Rattle.reader.specs.declared.State.{State}
+use Rattle.runs.specs.Refusals.{feedRefusal, finishRefusal, bytesRefusal}
+
+-- ---- Feed and Finish
+
+-- the place of the first held byte
+abbrev pub front : Run → ℕ
+front r = r .counts .taken - r .held
+
+-- a block of n bytes at the front of v, at the place p
+abbrev pub reported : ℕ → ℕ → List ℕ → Report
+reported p n v = record { place = p; number = blockAt p n v .number; revision = blockAt p n v .revision; size = n }
+
+abbrev pub reportIf : Option ℕ → ℕ → List ℕ → Option Report
+reportIf none p v = none
+reportIf (some n) p v = some (reported p n v)
+
+-- 1 for a block of so many bytes, 0 for none
+abbrev pub one : ℕ → ℕ
+one zero = 0
+one (suc n) = 1
+
+-- what a call did is counted
+abbrev pub counted : Counts → Fed → Counts
+counted c f =
+    record { taken = c .taken + f .taken; blocks = c .blocks + one (f .standing); skipped = c .skipped + f .skipped }
+
+-- the run goes on in a phase by the numbers of what a call did
+abbrev pub runBy : Phase → Run → Fed → Run
+runBy x r f = record { phase = x; held = f .held; standing = f .standing; counts = counted (r .counts) f }
+
+abbrev pub runOn : Phase → Run → Feeding → Run
+runOn x r f = runBy x r (numbersOf f)
+
+abbrev pub withRun : State → Run → State
+withRun s r = record { run = r; «in_force» = s .«in_force»; waiting = s .waiting }
+
+-- "drops the block last reported. .. Answers the count taken, with Block (place, number, revision, length) or More."
+abbrev pub feedingBy : Feeding → State → List ℕ → Outcome
+feedingBy f s hold =
+    record {
+      said = took (f .taken) (reportIf (f .standing) (front (runOn phase.Feeding (s .run) f)) (f .held));
+      state = withRun s (runOn phase.Feeding (s .run) f);
+      lent = holdOf f hold;
+    }
+
+unfoldable pub feedingOf : State → List ℕ → List ℕ → Feeding
+feedingOf s hold piece = feedLit (restOf hold (s .run .held) (s .run .standing)) piece (limit - s .run .counts .taken)
+
+unfoldable pub feedOf : State → List ℕ → List ℕ → Outcome
+feedOf s hold piece = unless (feedRefusal s hold piece) s hold (feedingBy (feedingOf s hold piece) s hold)
+
+-- "answers Block, or End (bytes, blocks, skipped bytes), which closes the run"
+abbrev pub phaseAfter : Option ℕ → Phase
+phaseAfter none = phase.Closed
+phaseAfter (some n) = phase.Finishing
+
+abbrev pub finishSaid : Option ℕ → Run → List ℕ → Said
+finishSaid none r v = ended (r .counts)
+finishSaid (some n) r v = found (reported (front r) n v)
+
+abbrev pub finishingBy : Feeding → State → List ℕ → Outcome
+finishingBy f s hold =
+    let r = runOn (phaseAfter (f .standing)) (s .run) f in
+    record { said = finishSaid (f .standing) r (f .held); state = withRun s r; lent = holdOf f hold }
+
+unfoldable pub finishingOf : State → List ℕ → Feeding
+finishingOf s hold = stop (finishLit (restOf hold (s .run .held) (s .run .standing)))
+
+unfoldable pub finishOf : State → List ℕ → Outcome
+finishOf s hold = unless (finishRefusal s hold) s hold (finishingBy (finishingOf s hold) s hold)
+
+-- ---- Bytes: "the block just reported, handed back as a part of the hold itself; an empty part if none stands"
+
+unfoldable pub bytesOf : State → List ℕ → List ℕ
+bytesOf s hold = partUnless (bytesRefusal s hold) (take (s .run .standing) hold)

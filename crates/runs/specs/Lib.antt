@@ -1,0 +1,4 @@
+pub mod Said
+pub mod Refusals
+pub mod Calls
+pub mod Code

@@ -1,0 +1,71 @@
+// After a call: the run, its counts, and the block that stands.
+ghost use mathlib.Core.Path.{_≡_};
+ghost use Prim.Native.Nat.{_+_, _≤_};
+ghost use lib.ListN.{length};
+ghost use Rattle.runs.specs.Said.{reportOf};
+ghost use Rattle.runs.specs.Calls.{one, counted, runBy, withRun};
+ghost use Rattle.runs.specs.Code.{reportAt};
+use crate::Block;
+use reader::Counts;
+use reader::Phase;
+use reader::Run;
+use reader::State;
+
+// 1 where a block stands.
+fn one_if(standing: usize) -> usize
+    ensures { λ r. ⌜ (r ≡ one standing) × (r ≤ 1) ⌝ }
+{
+    if standing == 0 { 0 } else { 1 }
+}
+
+// The counts after a call that did what `f` says.
+fn counted(c: Counts, f: feed::Fed) -> Counts
+    requires { ⌜ (c .taken + f .taken ≤ 4294967295) × (c .blocks ≤ 4294967295) × (c .skipped + f .skipped ≤ 18446744073709551615) ⌝ }
+    ensures { λ r. ⌜ r ≡ counted c f ⌝ }
+{
+    let standing = f.standing;
+    let more = one_if(standing);
+    Counts {
+        taken: c.taken + f.taken,
+        blocks: c.blocks + more,
+        skipped: c.skipped + f.skipped,
+    }
+}
+
+// The run after a call that did and kept what `f` says.
+pub fn went_on(r: Run, phase: Phase, f: feed::Fed) -> Run
+    requires { ⌜ (r .counts .taken + f .taken ≤ 4294967295) × (r .counts .blocks ≤ 4294967295) × (r .counts .skipped + f .skipped ≤ 18446744073709551615) ⌝ }
+    ensures { λ x. ⌜ x ≡ runBy phase r f ⌝ }
+{
+    let before = r.counts;
+    Run {
+        phase,
+        held: f.held,
+        standing: f.standing,
+        counts: counted(before, f),
+    }
+}
+
+pub fn with_run(s: State, r: Run) -> State
+    ensures { λ x. ⌜ x ≡ withRun s r ⌝ }
+{
+    State {
+        run: r,
+        in_force: s.in_force,
+        waiting: s.waiting,
+    }
+}
+
+// The block of n bytes that stands at the front of the hold, at the place p.
+pub fn block_at(hold: &[u8], p: usize, n: usize) -> Block
+    requires { ⌜ 6 ≤ length (now hold) ⌝ }
+    ensures { λ r. ⌜ reportOf r ≡ reportAt (now (hold .entry)) p n ⌝ }
+{
+    let id = wire::u2(hold, 4);
+    Block {
+        place: p,
+        number: wire::number(id),
+        revision: wire::revision(id),
+        length: n,
+    }
+}

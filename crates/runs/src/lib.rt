@@ -1,0 +1,146 @@
+// A run that is open: Feed, Finish, and the bytes of the block just reported.
+ghost use mathlib.Core.Path.{_≡_};
+ghost use mathlib.Core.Option.{none};
+ghost use Rattle.reader.specs.Said.{refusalOf};
+ghost use Rattle.reader.specs.Outcome.{outcome};
+ghost use Rattle.runs.specs.Said.{saidFed, saidFinished};
+ghost use Rattle.runs.specs.Refusals.{feedRefusal, finishRefusal, bytesRefusal};
+ghost use Rattle.runs.specs.Calls.{feedingOf, feedingBy, feedOf, finishingOf, finishingBy, finishOf, bytesOf};
+
+mod after; // after.rt: the run, its counts and the block after a call
+mod refusals; // refusals.rt: the refusals of each call, in their order
+
+use reader::Check;
+use reader::Counts;
+use reader::Phase;
+use reader::State;
+use refusal::Refusal;
+
+// What is reported of a block.
+pub struct Block {
+    pub place: usize,
+    pub number: u16,
+    pub revision: u16,
+    pub length: usize,
+}
+
+// How many bytes were taken, with a block or with none.
+pub enum Fed {
+    Block(usize, Block),
+    More(usize),
+    Refused(Refusal),
+}
+
+// A block, or the run's end with its counts.
+pub enum Finished {
+    Block(Block),
+    End(Counts),
+    Refused(Refusal),
+}
+
+pub struct FeedAnswer {
+    pub answer: Fed,
+    pub state: State,
+}
+
+pub struct FinishAnswer {
+    pub answer: Finished,
+    pub state: State,
+}
+
+fn feed_on(s: State, hold: &mut [u8], piece: &[u8]) -> FeedAnswer
+    requires { ⌜ feedRefusal s (now hold) (now piece) ≡ none ⌝ }
+    ensures { λ r. ⌜ outcome (saidFed (r .answer)) (r .state) (now (hold .exit)) ≡ feedingBy (feedingOf s (now (hold .entry)) (now (piece .entry))) s (now (hold .entry)) ⌝ }
+{
+    let run = s.run;
+    let held = run.held;
+    let standing = run.standing;
+    let room = 4294967295 - run.counts.taken;
+    let f = feed::feed(hold, held, standing, piece, room);
+    let taken = f.taken;
+    let len = f.standing;
+    let next = after::went_on(run, Phase::Feeding, f);
+    let state = after::with_run(s, next);
+    if len == 0 {
+        return FeedAnswer {
+            answer: Fed::More(taken),
+            state,
+        };
+    }
+    let block = after::block_at(hold, next.counts.taken - next.held, len);
+    FeedAnswer {
+        answer: Fed::Block(taken, block),
+        state,
+    }
+}
+
+pub fn feed(s: State, hold: &mut [u8], piece: &[u8]) -> FeedAnswer
+    ensures { λ r. ⌜ outcome (saidFed (r .answer)) (r .state) (now (hold .exit)) ≡ feedOf s (now (hold .entry)) (now (piece .entry)) ⌝ }
+{
+    let c = refusals::of_feed(s, hold, piece);
+    match c {
+        Check::Refused(why) => FeedAnswer {
+            answer: Fed::Refused(why),
+            state: s,
+        },
+        Check::Passed => feed_on(s, hold, piece),
+    }
+}
+
+fn finish_on(s: State, hold: &mut [u8]) -> FinishAnswer
+    requires { ⌜ finishRefusal s (now hold) ≡ none ⌝ }
+    ensures { λ r. ⌜ outcome (saidFinished (r .answer)) (r .state) (now (hold .exit)) ≡ finishingBy (finishingOf s (now (hold .entry))) s (now (hold .entry)) ⌝ }
+{
+    let run = s.run;
+    let held = run.held;
+    let standing = run.standing;
+    let f = feed::finish(hold, held, standing);
+    let len = f.standing;
+    if len == 0 {
+        let last = after::went_on(run, Phase::Closed, f);
+        let counts = last.counts;
+        return FinishAnswer {
+            answer: Finished::End(counts),
+            state: after::with_run(s, last),
+        };
+    }
+    let next = after::went_on(run, Phase::Finishing, f);
+    let block = after::block_at(hold, next.counts.taken - next.held, len);
+    FinishAnswer {
+        answer: Finished::Block(block),
+        state: after::with_run(s, next),
+    }
+}
+
+pub fn finish(s: State, hold: &mut [u8]) -> FinishAnswer
+    ensures { λ r. ⌜ outcome (saidFinished (r .answer)) (r .state) (now (hold .exit)) ≡ finishOf s (now (hold .entry)) ⌝ }
+{
+    let c = refusals::of_finish(s, hold);
+    match c {
+        Check::Refused(why) => FinishAnswer {
+            answer: Finished::Refused(why),
+            state: s,
+        },
+        Check::Passed => finish_on(s, hold),
+    }
+}
+
+// The block just reported, as a part of the hold; an empty part where none stands or the call is refused.
+pub fn bytes(s: State, hold: &[u8]) -> &[u8]
+    ensures { λ r. ⌜ now r ≡ bytesOf s (now (hold .entry)) ⌝ }
+{
+    let c = refusals::of_bytes(s, hold);
+    let run = s.run;
+    let n = run.standing;
+    match c {
+        Check::Refused(_) => &hold[..0],
+        Check::Passed => &hold[..n],
+    }
+}
+
+// Whether `bytes` is refused, and why.
+pub fn bytes_refused(s: State, hold: &[u8]) -> Check
+    ensures { λ r. ⌜ refusalOf r ≡ bytesRefusal s (now (hold .entry)) ⌝ }
+{
+    refusals::of_bytes(s, hold)
+}

@@ -1,0 +1,88 @@
+// The refusals of Feed, Finish and Bytes, in document 01's order, each tested once.
+ghost use mathlib.Core.Path.{_≡_};
+ghost use Prim.Native.Nat.{_≤_};
+ghost use lib.ListN.{length};
+ghost use Rattle.feed.specs.Hold.{restOf};
+ghost use Rattle.frame.specs.Settle.{settle};
+ghost use Rattle.reader.specs.Said.{refusalOf};
+ghost use Rattle.runs.specs.Refusals.{isFeeding, isSome, feedRefusal, finishRefusal, bytesRefusal};
+use frame::Found;
+use reader::Check;
+use reader::Phase;
+use reader::State;
+use refusal::Refusal;
+
+fn is_feeding(p: Phase) -> bool
+    ensures { λ r. ⌜ r ≡ isFeeding p ⌝ }
+{
+    match p {
+        Phase::Closed => false,
+        Phase::Feeding => true,
+        Phase::Finishing => false,
+    }
+}
+
+// Whether the held bytes, without the standing block, give a block.
+fn gives_block(hold: &[u8], held: usize, standing: usize) -> bool
+    requires { ⌜ (standing ≤ held) × (held ≤ length (now hold)) ⌝ }
+    ensures { λ r. ⌜ r ≡ isSome (settle (restOf (now (hold .entry)) held standing) .standing) ⌝ }
+{
+    let found = frame::scan(&hold[standing..held], b"");
+    match found {
+        Found::Block(_, _, _) => true,
+        Found::More(_) => false,
+    }
+}
+
+// Feed: 1, 2, 3.
+pub fn of_feed(s: State, hold: &[u8], piece: &[u8]) -> Check
+    ensures { λ r. ⌜ refusalOf r ≡ feedRefusal s (now (hold .entry)) (now (piece .entry)) ⌝ }
+{
+    if !(reader::is_sound(s) & (65536 <= hold.len())) {
+        return Check::Refused(Refusal::BadBuffer);
+    }
+    let run = s.run;
+    let phase = run.phase;
+    if !is_feeding(phase) {
+        return Check::Refused(Refusal::OutOfTurn);
+    }
+    if run.counts.taken < 4294967295 {
+        return Check::Passed;
+    }
+    if piece.len() == 0 {
+        return Check::Passed;
+    }
+    let held = run.held;
+    let standing = run.standing;
+    if gives_block(hold, held, standing) {
+        Check::Passed
+    } else {
+        Check::Refused(Refusal::RunFull)
+    }
+}
+
+// Finish: 1, 2.
+pub fn of_finish(s: State, hold: &[u8]) -> Check
+    ensures { λ r. ⌜ refusalOf r ≡ finishRefusal s (now (hold .entry)) ⌝ }
+{
+    if !(reader::is_sound(s) & (65536 <= hold.len())) {
+        return Check::Refused(Refusal::BadBuffer);
+    }
+    let run = s.run;
+    let phase = run.phase;
+    if reader::is_closed(phase) {
+        return Check::Refused(Refusal::OutOfTurn);
+    }
+    Check::Passed
+}
+
+// Bytes: 1.
+pub fn of_bytes(s: State, hold: &[u8]) -> Check
+    ensures { λ r. ⌜ refusalOf r ≡ bytesRefusal s (now (hold .entry)) ⌝ }
+{
+    if reader::is_sound(s) & (65536 <= hold.len()) {
+        Check::Passed
+    } else {
+        Check::Refused(Refusal::BadBuffer)
+    }
+}

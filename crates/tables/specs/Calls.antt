@@ -1,0 +1,74 @@
+-- What Open, Stage and Withdraw answer and leave, and their refusals in order (document 01: "Order: Open 1, 2, 5, 4. .. Withdraw 1. Stage 1, 4.").
+-- Assumes nothing.
+use Prim.Native.Nat.{ℕ}
+use mathlib.Core.Bool.{_&&_, _||_, cond}
+use mathlib.Core.List.{List, []}
+use mathlib.Core.Option.{Option, none}
+use lib.ListN.{length, take}
+use lib.Dec.{ltb}
+use Rattle.feed.specs.Hold.{over}
+use Rattle.table.specs.Decode.{decode}
+use Rattle.reader.specs.State.{noCounts, sound}
+use Rattle.reader.specs.Said.{version, waited}
+use Rattle.reader.specs.Refusals.{need, isClosed, longStore, tableRefusal}
+use Rattle.reader.specs.Outcome.{Outcome, unless}
+use Rattle.reader.specs.declared.Phase.the-variants.{Feeding}
+use Rattle.reader.specs.declared.Run.{Run}
+use Rattle.reader.specs.declared.State.{State}
+
+-- ---- Open
+
+-- the table that Open opens with: "if a table waits", that one, else the one in force
+abbrev pub nextTable : State → List ℕ → List ℕ → List ℕ
+nextTable s force wait = cond (ltb 0 (s .waiting)) (take (s .waiting) wait) (take (s .«in_force») force)
+
+-- 2: "Open in an open run"; 5: "Open with nothing waiting and nothing in force"
+unfoldable pub openRefusal : State → List ℕ → List ℕ → Option ℕ
+openRefusal s force wait =
+    need (sound s && longStore force && longStore wait) 1
+    (need (isClosed (s .run .phase)) 2
+    (need (ltb 0 (s .waiting) || ltb 0 (s .«in_force»)) 5 (tableRefusal (nextTable s force wait))))
+
+abbrev pub openRun : Run
+openRun = record { phase = Feeding; held = 0; standing = 0; counts = noCounts }
+
+-- "if a table waits, its bytes are copied over the start of the in-force store and nothing waits. Counts become zero, the hold counts as
+-- empty. Answers the version in force."
+abbrev pub opening : State → List ℕ → List ℕ → Outcome
+opening s force wait =
+    record {
+      said = version (decode (nextTable s force wait) .version);
+      state = record { run = openRun; «in_force» = cond (ltb 0 (s .waiting)) (s .waiting) (s .«in_force»); waiting = 0 };
+      lent = cond (ltb 0 (s .waiting)) (over (take (s .waiting) wait) force) force;
+    }
+
+unfoldable pub openOf : State → List ℕ → List ℕ → Outcome
+openOf s force wait = unless (openRefusal s force wait) s force (opening s force wait)
+
+-- ---- Stage and Withdraw
+
+unfoldable pub stageRefusal : State → List ℕ → List ℕ → Option ℕ
+stageRefusal s wait t = need (sound s && longStore wait) 1 (tableRefusal t)
+
+-- "checks a table and copies it to the start of the waiting store, replacing any that waits; answers its version"
+abbrev pub staging : State → List ℕ → List ℕ → Outcome
+staging s wait t =
+    record {
+      said = version (decode t .version);
+      state = record { run = s .run; «in_force» = s .«in_force»; waiting = length t };
+      lent = over t wait;
+    }
+
+unfoldable pub stageOf : State → List ℕ → List ℕ → Outcome
+stageOf s wait t = unless (stageRefusal s wait t) s wait (staging s wait t)
+
+unfoldable pub withdrawRefusal : State → Option ℕ
+withdrawRefusal s = need (sound s) 1 none
+
+-- "nothing waits any more; answers whether one did"; it is lent nothing
+abbrev pub withdrawing : State → Outcome
+withdrawing s =
+    record { said = waited (ltb 0 (s .waiting)); state = record { run = s .run; «in_force» = s .«in_force»; waiting = 0 }; lent = [] }
+
+unfoldable pub withdrawOf : State → Outcome
+withdrawOf s = unless (withdrawRefusal s) s [] (withdrawing s)

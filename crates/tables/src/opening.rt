@@ -1,0 +1,61 @@
+// Open: its refusals in document 01's order, each tested once, or a version; and the run that it opens.
+ghost use mathlib.Core.Path.{_≡_};
+ghost use Rattle.tables.specs.Said.{saidOpened};
+ghost use Rattle.tables.specs.Calls.{openRun, openOf};
+ghost use Rattle.tables.specs.Code.{checkSaid};
+use crate::Opened;
+use reader::Phase;
+use reader::Run;
+use reader::State;
+use refusal::Refusal;
+use table::Checked;
+
+// 1, 2, 5, 4, or the version of the table to be opened.
+pub fn of_open(s: State, in_force: &[u8], waiting: &[u8]) -> Opened
+    ensures { λ r. ⌜ saidOpened r ≡ openOf s (now (in_force .entry)) (now (waiting .entry)) .said ⌝ }
+{
+    if !(reader::is_sound(s) & (8192 <= in_force.len()) & (8192 <= waiting.len())) {
+        return Opened::Refused(Refusal::BadBuffer);
+    }
+    let run = s.run;
+    let phase = run.phase;
+    if !reader::is_closed(phase) {
+        return Opened::Refused(Refusal::OutOfTurn);
+    }
+    let w = s.waiting;
+    let n = s.in_force;
+    if 0 < w {
+        return version_of(&waiting[..w]);
+    }
+    if 0 < n {
+        return version_of(&in_force[..n]);
+    }
+    Opened::Refused(Refusal::NoTable)
+}
+
+// 4, or the version.
+fn version_of(t: &[u8]) -> Opened
+    ensures { λ r. ⌜ saidOpened r ≡ checkSaid (now (t .entry)) ⌝ }
+{
+    let c = table::check(t);
+    match c {
+        Checked::Version(v) => Opened::Version(v),
+        Checked::Broken => Opened::Refused(Refusal::BadTable),
+    }
+}
+
+// A run that has just opened, with a table of n bytes in force and none waiting.
+pub fn open_state(n: usize) -> State
+    ensures { λ r. ⌜ (r .run ≡ openRun) × (r .«in_force» ≡ n) × (r .waiting ≡ 0) ⌝ }
+{
+    State {
+        run: Run {
+            phase: Phase::Feeding,
+            held: 0,
+            standing: 0,
+            counts: reader::no_counts(),
+        },
+        in_force: n,
+        waiting: 0,
+    }
+}

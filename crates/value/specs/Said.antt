@@ -1,0 +1,54 @@
+-- What is said of a field, in the words of document 01 ('A field's answer'), and what the code's values mean by them.
+-- Assumes nothing.
+use Prim.Native.Nat.{ℕ}
+use mathlib.Core.Path.{_≡_}
+use mathlib.Core.Bool.{cond}
+use lib.IntN.{ℤ}
+use lib.Ieee.{binary32, binary64, nanBits, ofBits, toBits}
+use Rattle.value.specs.declared.Value.{Value}
+use Rattle.value.specs.declared.Value.the-variants.{Unsigned, Signed, Single, Double, SingleNan, DoubleNan, DoNotUse, NotInRevision}
+
+-- "A field answers one of: unsigned, signed, single float, double float, Do-Not-Use, not in this revision; or a refusal, with its number
+-- inside. Floats keep their bits, NaNs too": a float is said by its bits
+pub data Said : Type 0 where
+  unsigned : ℕ → Said
+  signed : ℤ → Said
+  single : ℕ → Said
+  double : ℕ → Said
+  doNotUse : Said
+  notInRevision : Said
+  refused : ℕ → Said
+
+-- what each case of the code's value says
+abbrev pub valueSays : Value → Said
+valueSays (Unsigned n) = unsigned n
+valueSays (Signed z) = signed z
+valueSays (Single f) = single (toBits binary32 f)
+valueSays (Double f) = double (toBits binary64 f)
+valueSays (SingleNan b) = single b
+valueSays (DoubleNan b) = double b
+valueSays DoNotUse = doNotUse
+valueSays NotInRevision = notInRevision
+
+-- the case for a float's bits: the NaN cases for the bits of a NaN, of which no float can be made, and for no others
+abbrev pub singleCase : ℕ → Value
+singleCase b = cond (nanBits binary32 b) (SingleNan b) (Single (ofBits binary32 b))
+
+abbrev pub doubleCase : ℕ → Value
+doubleCase b = cond (nanBits binary64 b) (DoubleNan b) (Double (ofBits binary64 b))
+
+-- a value in the case for what it says
+abbrev pub inCase : Value → Value
+inCase (Unsigned n) = Unsigned n
+inCase (Signed z) = Signed z
+inCase (Single f) = singleCase (toBits binary32 f)
+inCase (Double f) = doubleCase (toBits binary64 f)
+inCase (SingleNan b) = singleCase b
+inCase (DoubleNan b) = doubleCase b
+inCase DoNotUse = DoNotUse
+inCase NotInRevision = NotInRevision
+
+-- a value that says what is to be said, in the case for it
+pub record Means (v : Value) (said : Said) : Type 0 where
+  pub says : valueSays v ≡ said
+  pub case : v ≡ inCase v

@@ -1,0 +1,80 @@
+#!/usr/bin/env python3
+"""The documents name what is there: each path, function and theorem, each definition beside its file, each wrong program, and
+the crates. Prints 'N passed, M failed' last; exit status 1 where one failed."""
+import glob
+import os
+import re
+import sys
+
+from programs import TOP, Cases
+
+CASES = Cases()
+FOLDERS = ("crates", "tests", "tools", "bench", "samples", "include", "docs", ".ci")
+
+
+def read(name):
+    with open(os.path.join(TOP, name), encoding="utf-8") as f:
+        return f.read()
+
+
+def there(name):
+    return os.path.exists(os.path.join(TOP, name)) or bool(glob.glob(os.path.join(TOP, name)))
+
+
+def sources(crate, kind):
+    """All text of a crate's files of one kind."""
+    names = glob.glob(os.path.join(TOP, "crates", crate, kind, "**", "*.*"), recursive=True)
+    return "\n".join(read(os.path.relpath(name, TOP)) for name in names)
+
+
+CRATES = [line.split(":")[0].strip() for line in read("crates.txt").splitlines() if ":" in line and not line.startswith("#")]
+CODE = {crate: sources(crate, "src") for crate in CRATES}
+DOCUMENTS = ["README.md"] + sorted(os.path.relpath(name, TOP) for name in glob.glob(os.path.join(TOP, "docs", "*.md")))
+
+
+def paths(document, text):
+    """A path in back quotes, from the top or from crates/, is one of a file or a folder."""
+    for word in sorted(set(re.findall(r"`([\w.*-]+/[\w./*-]*[\w*])`", text))):
+        top = word.split("/")[0]
+        if top in FOLDERS:
+            CASES.expect(f"{document}: {word}", there(word) or "NAME" in word or "LABEL" in word, "there is no such file or folder")
+        elif top in CRATES and word.split("/")[1] in ("src", "specs", "proofs", "must-fail", "wrong"):
+            CASES.expect(f"{document}: {word}", there(os.path.join("crates", word)), "there is no such file of crates/")
+
+
+def functions(document, text):
+    """`crate::name`, also through a module, is a function or a type of the crate."""
+    for crate, name in sorted(set(re.findall(r"`(\w+)::(?:\w+::)*(\w+)`", text))):
+        if crate in CRATES:
+            found = re.search(rf"\b(fn|struct|enum|const) {name}\b", CODE[crate])
+            CASES.expect(f"{document}: {crate}::{name}", found, f"crates/{crate}/src has no such item")
+
+
+def definitions(document, text):
+    """`name`, `name` in `crate/../File`: the file has each name."""
+    for names, file in re.findall(r"((?:`[^`\s/]+`(?:, | and )?)+) (?:in|of) `(?:crates/)?(\w+/(?:src|specs|proofs)/[\w/]+\.\w+)`", text):
+        for name in re.findall(r"`(\w+)`", names):
+            if there(os.path.join("crates", file)):
+                CASES.expect(f"{document}: {name} in {file}", re.search(rf"(?<!\w){name}(?!\w)", read(os.path.join("crates", file))),
+                             "the file does not have the name")
+
+
+def wrong_programs():
+    """Each edit stands in WRONG-PROGRAMS.md, and each that stands there is an edit."""
+    edits = {f"{name.split(os.sep)[-3]}/{os.path.basename(name)[:-5]}"
+             for kind in ("must-fail", "wrong") for name in glob.glob(os.path.join(TOP, "crates", "*", kind, "*.edit"))}
+    listed = {word for word in re.findall(r"`(\w+/\w+)`", read("docs/WRONG-PROGRAMS.md")) if word.split("/")[0] in CRATES}
+    for edit in sorted(edits | listed):
+        CASES.expect(f"docs/WRONG-PROGRAMS.md: {edit}", edit in listed, "the edit is not listed")
+        CASES.expect(f"docs/WRONG-PROGRAMS.md: {edit}", edit in edits, "there is no such edit")
+
+
+for document in DOCUMENTS:
+    text = read(document)
+    paths(document, text)
+    functions(document, text)
+    definitions(document, text)
+wrong_programs()
+for crate in CRATES:
+    CASES.expect(f"README.md: the crate {crate}", f"| `{crate}` |" in read("README.md"), "its table of crates has no row for it")
+sys.exit(CASES.tally())
