@@ -42,6 +42,12 @@ def paths(document, text):
             CASES.expect(f"{document}: {word}", there(os.path.join("crates", word)), "there is no such file of crates/")
 
 
+def bare_names(document, text):
+    """A file of definitions, code or proofs is named with its path."""
+    for word in sorted(set(re.findall(r"`(\w+\.(?:antt|rt))`", text))):
+        CASES.expect(f"{document}: {word}", False, "name the file with its crate and folder")
+
+
 def functions(document, text):
     """`crate::name`, also through a module, is a function or a type of the crate."""
     for crate, name in sorted(set(re.findall(r"`(\w+)::(?:\w+::)*(\w+)`", text))):
@@ -72,6 +78,7 @@ def wrong_programs():
 for document in DOCUMENTS:
     text = read(document)
     paths(document, text)
+    bare_names(document, text)
     functions(document, text)
     definitions(document, text)
 wrong_programs()

@@ -7,7 +7,6 @@ use mathlib.Core.Option.{Option, none, some}
 use lib.IntN.{pos, negsuc}
 use Rattle.wire.specs.Little.{littleAt}
 use Rattle.frame.specs.Frame.{numberOf, revisionOf}
-use Rattle.frame.specs.Samples.{sampleB}
 use Rattle.rows.specs.declared.FieldRow.{FieldRow}
 use Rattle.table.specs.Rows.{Table}
 use Rattle.value.specs.Said.{Said, unsigned, signed, single, double, doNotUse, notInRevision, refused}
@@ -32,6 +31,10 @@ field offset kind first mark = record { offset = offset; kind = kind; first = fi
 
 abbrev counts : List FieldRow
 counts = field 14 1 0 0 ∷ field 15 1 0 0 ∷ []
+
+-- the block of 8 bytes that is sample (b) of framing
+abbrev sampleB : List ℕ
+sampleB = 0x24 ∷ 0x40 ∷ 0xA9 ∷ 0x89 ∷ 0x00 ∷ 0x00 ∷ 0x08 ∷ 0x00 ∷ []
 
 -- number 0 without fields; number 1 with u2, i2, f4 and from revision 1 a u1; numbers 2 and 3 with sub-fields
 abbrev pub sampleTable : Table

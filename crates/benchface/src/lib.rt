@@ -18,7 +18,8 @@ pub extern "C" fn alderflute_bench_feed(
     let h = r.held;
     let s = r.standing;
     let t = r.taken;
-    let k = r.skipped;
+    let p = r.passed;
+    let k = p.skipped;
     out[0] = h;
     out[1] = s;
     out[2] = t;
@@ -38,7 +39,8 @@ pub extern "C" fn alderflute_bench_finish(
     let h = r.held;
     let s = r.standing;
     let t = r.taken;
-    let k = r.skipped;
+    let p = r.passed;
+    let k = p.skipped;
     out[0] = h;
     out[1] = s;
     out[2] = t;

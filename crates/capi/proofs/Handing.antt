@@ -17,7 +17,7 @@ use Rattle.table.specs.Lists.{every}
 use Rattle.table.specs.Lookup.{findRow}
 use Rattle.table.proofs.Bools.{both}
 use Rattle.frame.specs.Frame.{wholeFrame}
-use Rattle.record.specs.Block.{countIn, subLengthIn, revisionIn, numberIn, endsBy, hasSubs, subCount, bodyFits, subsFit, Seen, refusedBy, row, seenRow, seen, seenSubRow, seenSub}
+use Rattle.block.specs.Block.{countIn, subLengthIn, revisionIn, numberIn, endsBy, hasSubs, subCount, bodyFits, subsFit, Seen, refusedBy, row, seenRow, seen, seenSubRow, seenSub}
 use Rattle.record.specs.Calls.{subBytes, numberBy, partBy, subBlock, subBlockRefusal}
 use Rattle.reader.specs.declared.State.{State}
 use Rattle.runs.specs.Refusals.{bytesRefusal}

@@ -5,7 +5,7 @@ use mathlib.Core.List.{List, []}
 use mathlib.Core.Option.{Option, none, some}
 use lib.ListN.{length, take, drop}
 use Rattle.record.specs.Answer as field
-use Rattle.record.specs.Block.{subLengthIn}
+use Rattle.block.specs.Block.{subLengthIn}
 use Rattle.reader.specs.declared.State.{State}
 use Rattle.reader.specs.Said.{Said, refused}
 use Rattle.runs.specs.Refusals.{bytesRefusal}

@@ -2,7 +2,7 @@
 ghost use mathlib.Core.Path.{_≡_};
 ghost use Prim.Native.Nat.{_≤_, _<_};
 ghost use lib.ListN.{length};
-ghost use Rattle.record.specs.Block.{subLengthIn};
+ghost use Rattle.block.specs.Block.{subLengthIn};
 ghost use Rattle.capi.specs.Calls.{handing, bytesC, subBytesC};
 use cform::CPart;
 use cform::CState;

@@ -1,3 +1,4 @@
 pub mod Phases
 pub mod Floats
+pub mod Replying
 pub mod Back

@@ -1,9 +1,8 @@
-// Answers as C has them, from the reader's.
+// Answers as C has them, by kind.
 ghost use mathlib.Core.Path.{_≡_};
 ghost use Rattle.refusal.specs.Numbers.{numberFor};
-ghost use Rattle.reader.specs.Said.{refused, ended};
-ghost use Rattle.tables.specs.Said.{saidOpened, saidStaged, saidWithdrawn};
-ghost use Rattle.runs.specs.Said.{reportOf, saidFed, saidFinished};
+ghost use Rattle.reader.specs.Said.{refused, ended, waited};
+ghost use Rattle.runs.specs.Said.{reportOf};
 ghost use Rattle.cform.specs.Answer.{noBlock, noEnd, blockC, say, answerC};
 use crate::CAnswer;
 use crate::CBlock;
@@ -12,11 +11,6 @@ use crate::states;
 use reader::Counts;
 use refusal::Refusal;
 use runs::Block;
-use runs::Fed;
-use runs::Finished;
-use tables::Opened;
-use tables::Staged;
-use tables::Withdrawn;
 
 fn no_block() -> CBlock
     ensures { λ r. ⌜ r ≡ noBlock ⌝ }
@@ -62,7 +56,7 @@ pub fn plain(refusal: u32, kind: u32, version: u16, waited: u16, taken: usize) -
 }
 
 // A block, with the count taken.
-fn reported(taken: usize, b: Block) -> CAnswer
+pub fn reported(taken: usize, b: Block) -> CAnswer
     ensures { λ r. ⌜ r ≡ say 0 2 0 0 taken (blockC (reportOf b)) noEnd ⌝ }
 {
     CAnswer {
@@ -77,7 +71,7 @@ fn reported(taken: usize, b: Block) -> CAnswer
 }
 
 // The end, with its counts.
-fn at_end(c: Counts) -> CAnswer
+pub fn at_end(c: Counts) -> CAnswer
     ensures { λ r. ⌜ r ≡ answerC (ended c) ⌝ }
 {
     CAnswer {
@@ -97,55 +91,13 @@ pub fn refused_by(x: Refusal) -> CAnswer
     plain(refusal::number(x), 0, 0, 0, 0)
 }
 
-pub fn opened_c(a: Opened) -> CAnswer
-    ensures { λ r. ⌜ r ≡ answerC (saidOpened a) ⌝ }
+// Whether a table waited.
+pub fn whether_waited(w: bool) -> CAnswer
+    ensures { λ r. ⌜ r ≡ answerC (waited w) ⌝ }
 {
-    match a {
-        Opened::Version(v) => plain(0, 1, v, 0, 0),
-        Opened::Refused(x) => refused_by(x),
-    }
-}
-
-pub fn fed_c(a: Fed) -> CAnswer
-    ensures { λ r. ⌜ r ≡ answerC (saidFed a) ⌝ }
-{
-    match a {
-        Fed::Block(n, b) => reported(n, b),
-        Fed::More(n) => plain(0, 3, 0, 0, n),
-        Fed::Refused(x) => refused_by(x),
-    }
-}
-
-pub fn finished_c(a: Finished) -> CAnswer
-    ensures { λ r. ⌜ r ≡ answerC (saidFinished a) ⌝ }
-{
-    match a {
-        Finished::Block(b) => reported(0, b),
-        Finished::End(c) => at_end(c),
-        Finished::Refused(x) => refused_by(x),
-    }
-}
-
-pub fn staged_c(a: Staged) -> CAnswer
-    ensures { λ r. ⌜ r ≡ answerC (saidStaged a) ⌝ }
-{
-    match a {
-        Staged::Version(v) => plain(0, 1, v, 0, 0),
-        Staged::Refused(x) => refused_by(x),
-    }
-}
-
-pub fn withdrawn_c(a: Withdrawn) -> CAnswer
-    ensures { λ r. ⌜ r ≡ answerC (saidWithdrawn a) ⌝ }
-{
-    match a {
-        Withdrawn::Waited(w) => {
-            if w {
-                plain(0, 5, 0, 1, 0)
-            } else {
-                plain(0, 5, 0, 0, 0)
-            }
-        }
-        Withdrawn::Refused(x) => refused_by(x),
+    if w {
+        plain(0, 5, 0, 1, 0)
+    } else {
+        plain(0, 5, 0, 0, 0)
     }
 }

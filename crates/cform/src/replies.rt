@@ -5,15 +5,22 @@ ghost use Rattle.tables.specs.Said.{saidOpened, saidStaged, saidWithdrawn};
 ghost use Rattle.runs.specs.Said.{saidFed, saidFinished};
 ghost use Rattle.cform.specs.State.{stateC};
 ghost use Rattle.cform.specs.Answer.{replyC};
+use crate::CAnswer;
 use crate::CReply;
 use crate::CState;
 use crate::answers;
 use crate::states;
+use reader::State;
+use runs::Fed;
 use runs::FeedAnswer;
 use runs::FinishAnswer;
+use runs::Finished;
 use tables::OpenAnswer;
+use tables::Opened;
 use tables::StageAnswer;
+use tables::Staged;
 use tables::WithdrawAnswer;
+use tables::Withdrawn;
 
 // A phase that is none.
 pub fn one(s: CState) -> CReply
@@ -25,14 +32,24 @@ pub fn one(s: CState) -> CReply
     }
 }
 
+// The state that a call left, with its answer.
+fn reply(next: State, a: CAnswer) -> CReply
+    ensures { λ r. ⌜ r ≡ record { state = stateC next; answer = a } ⌝ }
+{
+    CReply {
+        state: states::state_c(next),
+        answer: a,
+    }
+}
+
 pub fn opened(o: OpenAnswer) -> CReply
     ensures { λ r. ⌜ r ≡ replyC (saidOpened (o .answer)) (stateC (o .state)) ⌝ }
 {
     let a = o.answer;
     let next = o.state;
-    CReply {
-        state: states::state_c(next),
-        answer: answers::opened_c(a),
+    match a {
+        Opened::Version(v) => reply(next, answers::plain(0, 1, v, 0, 0)),
+        Opened::Refused(x) => reply(next, answers::refused_by(x)),
     }
 }
 
@@ -41,9 +58,10 @@ pub fn fed(o: FeedAnswer) -> CReply
 {
     let a = o.answer;
     let next = o.state;
-    CReply {
-        state: states::state_c(next),
-        answer: answers::fed_c(a),
+    match a {
+        Fed::Block(n, b) => reply(next, answers::reported(n, b)),
+        Fed::More(n) => reply(next, answers::plain(0, 3, 0, 0, n)),
+        Fed::Refused(x) => reply(next, answers::refused_by(x)),
     }
 }
 
@@ -52,9 +70,10 @@ pub fn finished(o: FinishAnswer) -> CReply
 {
     let a = o.answer;
     let next = o.state;
-    CReply {
-        state: states::state_c(next),
-        answer: answers::finished_c(a),
+    match a {
+        Finished::Block(b) => reply(next, answers::reported(0, b)),
+        Finished::End(c) => reply(next, answers::at_end(c)),
+        Finished::Refused(x) => reply(next, answers::refused_by(x)),
     }
 }
 
@@ -63,9 +82,9 @@ pub fn staged(o: StageAnswer) -> CReply
 {
     let a = o.answer;
     let next = o.state;
-    CReply {
-        state: states::state_c(next),
-        answer: answers::staged_c(a),
+    match a {
+        Staged::Version(v) => reply(next, answers::plain(0, 1, v, 0, 0)),
+        Staged::Refused(x) => reply(next, answers::refused_by(x)),
     }
 }
 
@@ -74,8 +93,8 @@ pub fn withdrawn(o: WithdrawAnswer) -> CReply
 {
     let a = o.answer;
     let next = o.state;
-    CReply {
-        state: states::state_c(next),
-        answer: answers::withdrawn_c(a),
+    match a {
+        Withdrawn::Waited(w) => reply(next, answers::whether_waited(w)),
+        Withdrawn::Refused(x) => reply(next, answers::refused_by(x)),
     }
 }

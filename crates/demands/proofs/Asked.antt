@@ -16,7 +16,7 @@ use Rattle.table.specs.Decode.{decode}
 use Rattle.table.specs.Rules.{tableOk}
 use Rattle.table.specs.Lookup.{findRow}
 use Rattle.record.specs.Answer.{refused}
-use Rattle.record.specs.Block.{bodyFits, subsFit, seenRow, seen, seenSub}
+use Rattle.block.specs.Block.{bodyFits, subsFit, seenRow, seen, seenSub}
 use Rattle.record.specs.Calls.{bodyField, subField, subBlockRefusal, stamp, towRow, wncRow}
 use Rattle.reader.specs.State.{sound}
 use Rattle.reader.specs.Refusals.{need, longStore}

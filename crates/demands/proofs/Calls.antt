@@ -2,23 +2,26 @@
 -- Assumes nothing.
 use Prim.Native.Nat.{ℕ, zero, suc, _+_, _-_, _≤_}
 use native.Mathlib.Omega.{arith}
-use native.Mathlib.Nat.{add-zero}
 use mathlib.Core.Path.{_≡_, refl, sym, ap, ap₂, _∙_, subst, subst⁻¹}
 use mathlib.Core.Bool.{true, _&&_}
 use mathlib.Core.List.{List, [], _++_, append-nil, append-assoc}
 use mathlib.Core.Option.{Option, none, some}
-use lib.ListN.{length, take, drop, length-append, length-drop}
+use lib.ListN.{length, take, drop, length-append}
 use lib.Seq.{length-take-le, drop-append-le, drop-drop}
-use Rattle.frame.specs.Settle.{finishLit}
-use Rattle.frame.specs.Feed.{Feeding, feedLit, stop}
-use Rattle.frame.specs.ReadRun.{Block, both, readRun}
-use Rattle.frame.specs.Session.{size, placesFrom, blocksOf, answer}
-use Rattle.frame.proofs.Calls as calls
-use Rattle.frame.proofs.Runs.{skipMany, both-both, read-frame, Ends, finished, finish-rest, finish-front, feed-read, fed-stands, answered}
+use Rattle.scan.specs.Settle.{settle, judgedLast}
+use Rattle.scan.specs.Feed.{Feeding, feedLit, stop, size}
+use Rattle.framing.specs.ReadRun.{Block, readRun}
+use Rattle.frame.specs.Judge.{judged}
+use Rattle.scan.proofs.Stable.{judging, last-fits}
+use Rattle.scan.proofs.Settling.{settle-rest, settle-front}
+use Rattle.scan.proofs.Marks.{counted-skipped}
+use Rattle.scan.proofs.Calls as calls
+use Rattle.framing.proofs.Reading.{both, placesFrom, blocksOf, answer, both-both, fed-answers, last-answers}
 use Rattle.reader.specs.State.{limit, sound}
 use Rattle.reader.specs.Refusals.{longHold}
 use Rattle.runs.specs.Refusals.{isFeeding, feedRefusal}
-use Rattle.runs.specs.Calls.{one, runOn, feedingOf, finishingOf, phaseAfter}
+use Rattle.reader.specs.Counting.{one}
+use Rattle.runs.specs.Calls.{runOn, feedingOf, finishingOf, phaseAfter}
 use Rattle.reader.specs.declared.Phase.{Phase}
 use Rattle.reader.specs.declared.Phase.the-variants as phase
 use Rattle.reader.proofs.Laws.{passes}
@@ -66,37 +69,37 @@ length-blocks (some n) p v w = one-big n (w .eight)
 -- ---- a call that goes on in the run
 
 module _ (x : Phase) (w : World) (bs : List ℕ) (f : Feeding) (blk : List Block)
-    (g : Good w) (h : Fits w f) (n : f .taken ≡ length bs) (a : blk ≡ blocksOf (f .standing) (place w + f .skipped) (f .held))
-    (d : f .held ≡ drop (f .skipped) (kept w ++ bs)) where
+    (g : Good w) (h : Fits w f) (n : f .taken ≡ length bs) (a : blk ≡ blocksOf (f .standing) (place w + length (f .passed)) (f .held))
+    (d : f .held ≡ drop (length (f .passed)) (kept w ++ bs)) where
   -- what is left is what was left and is new, without what was skipped and the block
   rest-after : (ts : List ℕ) → w .state .run .counts .taken ≡ length ts → kept w ≡ drop (place w) ts → kept (going x w f) ≡ drop (place (going x w f)) (ts ++ bs)
   rest-after ts c r =
       let o = size (f .standing) in
       kept-after x w f g h
-      ∙ ap (drop o) (d ∙ ap (λ (y : List ℕ). drop (f .skipped) (y ++ bs)) r
-      ∙ ap (drop (f .skipped)) (sym (drop-append-le (place w) ts bs (omega (arith, c, within w g, g .sound .front))))
-      ∙ drop-drop (f .skipped) (place w) (ts ++ bs))
-      ∙ drop-drop o (place w + f .skipped) (ts ++ bs)
+      ∙ ap (drop o) (d ∙ ap (λ (y : List ℕ). drop (length (f .passed)) (y ++ bs)) r
+      ∙ ap (drop (length (f .passed))) (sym (drop-append-le (place w) ts bs (omega (arith, c, within w g, g .sound .front))))
+      ∙ drop-drop (length (f .passed)) (place w) (ts ++ bs))
+      ∙ drop-drop o (place w + length (f .passed)) (ts ++ bs)
       ∙ ap (λ (i : ℕ). drop i (ts ++ bs)) (sym (place-after x w f g h))
 
   go : {ts : List ℕ} {b : List Block} → ((zs : List ℕ) → MayFollow x zs → MayFollow (w .state .run .phase) (bs ++ zs))
       → ((zs : List ℕ) → MayFollow x zs
-      → readRun (place w) (kept w ++ (bs ++ zs)) ≡ both (answer (f .standing) (place w) (f .skipped) (f .held)) (readRun (place w + f .skipped + size (f .standing)) (drop (size (f .standing)) (f .held) ++ zs)))
+      → readRun (place w) (kept w ++ (bs ++ zs)) ≡ both (answer (f .standing) (place w) (length (f .passed)) (f .held)) (readRun (place w + length (f .passed) + size (f .standing)) (drop (size (f .standing)) (f .held) ++ zs)))
       → Reads ts b w → Reads (ts ++ bs) (b ++ blk) (going x w f)
   go {ts} {b} fol e r =
       record {
         count = omega (arith, r .count, length-append ts bs, n);
-        sum = omega (arith, r .sum, length-append b blk, ap length a, length-blocks (f .standing) (place w + f .skipped) (f .held) (h .whole));
-        places = r .places ++ placesFrom (place w) (f .skipped);
-        skips = omega (arith, r .skips, length-append (r .places) (placesFrom (place w) (f .skipped)), places-count (place w) (f .skipped));
+        sum = omega (arith, r .sum, length-append b blk, ap length a, length-blocks (f .standing) (place w + length (f .passed)) (f .held) (h .whole));
+        places = r .places ++ placesFrom (place w) (length (f .passed));
+        skips = omega (arith, r .skips, length-append (r .places) (placesFrom (place w) (length (f .passed))), places-count (place w) (length (f .passed)), counted-skipped (f .passed));
         rest = rest-after ts (r .count) (r .rest);
         so = λ zs y.
             ap (readRun 0) (append-assoc ts bs zs)
             ∙ r .so (bs ++ zs) (fol zs y)
             ∙ ap (both (record { blocks = b; skipped = r .places })) (e zs y)
-            ∙ both-both (record { blocks = b; skipped = r .places }) (answer (f .standing) (place w) (f .skipped) (f .held)) (readRun (place w + f .skipped + size (f .standing)) (drop (size (f .standing)) (f .held) ++ zs))
-            ∙ ap (λ (i : List Block). both (record { blocks = b ++ i; skipped = r .places ++ placesFrom (place w) (f .skipped) }) (readRun (place w + f .skipped + size (f .standing)) (drop (size (f .standing)) (f .held) ++ zs))) (sym a)
-            ∙ ap₂ (λ (i : ℕ) (j : List ℕ). both (record { blocks = b ++ blk; skipped = r .places ++ placesFrom (place w) (f .skipped) }) (readRun i (j ++ zs)))
+            ∙ both-both (record { blocks = b; skipped = r .places }) (answer (f .standing) (place w) (length (f .passed)) (f .held)) (readRun (place w + length (f .passed) + size (f .standing)) (drop (size (f .standing)) (f .held) ++ zs))
+            ∙ ap (λ (i : List Block). both (record { blocks = b ++ i; skipped = r .places ++ placesFrom (place w) (length (f .passed)) }) (readRun (place w + length (f .passed) + size (f .standing)) (drop (size (f .standing)) (f .held) ++ zs))) (sym a)
+            ∙ ap₂ (λ (i : ℕ) (j : List ℕ). both (record { blocks = b ++ blk; skipped = r .places ++ placesFrom (place w) (length (f .passed)) }) (readRun i (j ++ zs)))
             (sym (place-after x w f g h)) (sym (kept-after x w f g h));
       }
 
@@ -109,7 +112,7 @@ Next c ts b x = Reads (ts ++ tookOf c (x .0)) (b ++ inHold (reportIn (x .0)) (x 
 pub feed-fits : (w : World) (piece : List ℕ) → Good w → Fits w (feedingOf (w .state) (w .hold) piece)
 unfolding feedingOf
 feed-fits w piece g =
-    let c = calls.call (kept w) piece (limit - w .state .run .counts .taken) in
+    let c = calls.call judged (judging .fits) (kept w) piece (limit - w .state .run .counts .taken) in
     record { whole = fed-whole (kept w) piece (limit - w .state .run .counts .taken); front = c .front; sum = omega (arith, c .sum, kept-length w g) }
 
 pub reads-feed : (w : World) {ts : List ℕ} {b : List Block} (piece : List ℕ) → Good w → refusal (feed piece) w ≡ none → Reads ts b w → Next (feed piece) ts b (done (feed piece) w)
@@ -118,25 +121,25 @@ reads-feed w piece g e r =
     let room = limit - w .state .run .counts .taken in
     let f = feedLit (kept w) piece (limit - w .state .run .counts .taken) in
     let h = feed-fits w piece g in
-    let n : f .taken ≡ length (take (f .taken) piece) = sym (length-take-le (f .taken) piece (omega (arith, calls.call (kept w) piece room .taken))) in
+    let n : f .taken ≡ length (take (f .taken) piece) = sym (length-take-le (f .taken) piece (omega (arith, calls.call judged (judging .fits) (kept w) piece room .taken))) in
     let fed : isFeeding (w .state .run .phase) ≡ true = passes (isFeeding (w .state .run .phase)) 2 _ (passes (sound (w .state) && longHold (w .hold)) 1 _ e .1) .0 in
     go phase.Feeding w (take (f .taken) piece) f (inHold (reportIn (done (feed piece) w .0)) (done (feed piece) w .1)) g h n
-    (in-hold phase.Feeding w f g h) (calls.fed-holds piece room (kept w))
+    (in-hold phase.Feeding w f g h) (calls.fed-holds judged piece room (kept w))
     (λ zs y. follow-fed (w .state .run .phase) (take (f .taken) piece ++ zs) fed)
-    (λ zs y. feed-read zs piece room (place w) (kept w) ∙ answered (f .standing) (place w) (f .skipped) (f .held) zs (fed-stands piece room (kept w)))
+    (λ zs y. fed-answers piece room (place w) (kept w) zs)
     r
 
 -- ---- Finish
 
-finish-reads : (o : Option ℕ) (p k : ℕ) (h v zs : List ℕ) → readRun p h ≡ skipMany p k (readRun (p + k) v) → Ends o v → zs ≡ []
-    → readRun p (h ++ ([] ++ zs)) ≡ both (answer o p k v) (readRun (p + k + size o) (drop (size o) v ++ zs))
-finish-reads none p k h v zs e f z =
-    ap (λ (i : List ℕ). readRun p (h ++ i)) z ∙ ap (readRun p) (append-nil h) ∙ e
-    ∙ ap₂ (λ (i : ℕ) (j : List ℕ). skipMany p k (readRun i j)) (sym (add-zero (p + k))) (sym (ap (λ (i : List ℕ). v ++ i) z ∙ append-nil v))
-finish-reads (some n) p k h v zs e f z =
-    ap (λ (i : List ℕ). readRun p (h ++ i)) z ∙ ap (readRun p) (append-nil h) ∙ e
-    ∙ ap (skipMany p k) (read-frame (p + k) n v f)
-    ∙ ap (λ (j : List ℕ). both (answer (some n) p k v) (readRun (p + k + n) j)) (sym (ap (λ (i : List ℕ). drop n v ++ i) z ∙ append-nil (drop n v)))
+finish-reads : (p : ℕ) (h zs : List ℕ) → zs ≡ [] → let s = settle judgedLast h in
+    readRun p (h ++ ([] ++ zs))
+    ≡ both (answer (s .standing) p (length (s .passed)) (s .rest)) (readRun (p + length (s .passed) + size (s .standing)) (drop (size (s .standing)) (s .rest) ++ zs))
+finish-reads p h zs z =
+    let s = settle judgedLast h in
+    subst⁻¹
+    (λ (i : List ℕ). readRun p (h ++ i)
+    ≡ both (answer (s .standing) p (length (s .passed)) (s .rest)) (readRun (p + length (s .passed) + size (s .standing)) (drop (size (s .standing)) (s .rest) ++ i)))
+    z (last-answers p h)
 
 follow-finish : (o : Option ℕ) (zs : List ℕ) → MayFollow (phaseAfter o) zs → zs ≡ []
 follow-finish none zs e = e
@@ -145,24 +148,22 @@ follow-finish (some n) zs e = e
 pub finish-fits : (w : World) → Good w → Fits w (finishingOf (w .state) (w .hold))
 unfolding finishingOf
 finish-fits w g =
-    let q = finish-rest (kept w) in
     record {
       whole = end-whole (kept w);
-      front = finish-front (kept w);
-      sum = omega (arith, kept-length w g, q .few, ap length (q .is), length-drop (finishLit (kept w) .skipped) (kept w));
+      front = settle-front judgedLast last-fits (kept w);
+      sum = omega (arith, kept-length w g, calls.settle-sum judgedLast (kept w));
     }
 
 pub reads-finish : (w : World) {ts : List ℕ} {b : List Block} → Good w → refusal finish w ≡ none → Reads ts b w → Next finish ts b (done finish w)
 unfolding finishingOf
 reads-finish w g e r =
-    let f = stop (finishLit (kept w)) in
-    let o = finishLit (kept w) .standing in
-    let x = phaseAfter (finishLit (kept w) .standing) in
+    let f = stop (settle judgedLast (kept w)) in
+    let o = settle judgedLast (kept w) .standing in
+    let x = phaseAfter (settle judgedLast (kept w) .standing) in
     let h = finish-fits w g in
-    let k = finished (kept w) (place w) in
-    go (phaseAfter (finishLit (kept w) .standing)) w [] (stop (finishLit (kept w))) (inHold (reportIn (done finish w .0)) (done finish w .1)) g h refl
-    (ap (λ (i : Option _). inHold i (done finish w .1)) (finish-report o (runOn x (w .state .run) f) (finishLit (kept w) .rest)) ∙ in-hold x w f g h)
-    (finish-rest (kept w) .is ∙ ap (drop (finishLit (kept w) .skipped)) (sym (append-nil (kept w))))
+    go (phaseAfter (settle judgedLast (kept w) .standing)) w [] (stop (settle judgedLast (kept w))) (inHold (reportIn (done finish w .0)) (done finish w .1)) g h refl
+    (ap (λ (i : Option _). inHold i (done finish w .1)) (finish-report o (runOn x (w .state .run) f) (settle judgedLast (kept w) .rest)) ∙ in-hold x w f g h)
+    (settle-rest judgedLast (kept w) .is ∙ ap (drop (length (settle judgedLast (kept w) .passed))) (sym (append-nil (kept w))))
     (λ zs y. subst⁻¹ (MayFollow (w .state .run .phase)) (follow-finish o zs y) (follow-none (w .state .run .phase)))
-    (λ zs y. finish-reads o (place w) (f .skipped) (kept w) (f .held) zs (k .same) (k .ends) (follow-finish o zs y))
+    (λ zs y. finish-reads (place w) (kept w) zs (follow-finish o zs y))
     r

@@ -4,10 +4,10 @@ use mathlib.Core.Path.{_≡_, refl}
 use Rattle.crc.specs.Crc.{crcOf, crcFrom, crcByte, crcBits8, crcBit}
 use Rattle.wire.specs.Little.{littleAt}
 use Rattle.frame.specs.Frame.{syncAt, allowed, endsWithin, crcRight, frameAt, wholeFrame}
-use Rattle.frame.specs.Judge.{judged, final}
-use Rattle.frame.specs.Settle.{settle, finishLit}
-use Rattle.frame.specs.Feed.{feedLit}
-use Rattle.frame.specs.ReadRun.{blockAt}
+use Rattle.frame.specs.Judge.{judged}
+use Rattle.scan.specs.Settle.{settle, judgedLast}
+use Rattle.scan.specs.Feed.{feedBy}
+use Rattle.scan.specs.Scan.{countAll}
 use Rattle.feed.specs.Hold.{restOf}
 use Rattle.table.specs.Lists.{tabulate, every, chain, neighbours, first, pick}
 use Rattle.rows.specs.Types.{sizeOf}
@@ -17,7 +17,7 @@ use Rattle.table.specs.Decode.{rowsOf, blockOf, decode}
 use Rattle.table.specs.Rules.{fileOk, risingOk, rowOk, counts, indexOk, rowsOk, fieldsOk, isPair, blockOk, tableOk}
 use Rattle.table.specs.Lookup.{findRow}
 use Rattle.value.specs.Bits.{withSign, readAs, isDoNotUse, valueOf, fieldValue}
-use Rattle.record.specs.Block.{bodyFits, subsFit, seenRow, seen, seenSubRow, seenSub}
+use Rattle.block.specs.Block.{bodyFits, subsFit, seenRow, seen, seenSubRow, seenSub}
 use Rattle.record.specs.Calls.{fieldSaid, bodyField, subBytes, subField, subBlock, subBlockRefusal, stamp}
 use Rattle.reader.specs.State.{sound}
 use Rattle.tables.specs.Calls.{openRefusal, stageRefusal, withdrawRefusal, openOf, stageOf, withdrawOf}
@@ -34,5 +34,5 @@ pub record Computed : Type 0 where
   pub told : replayed flight ≡ flight
 
 pub computed : Computed
-unfolding crcOf crcFrom crcByte crcBits8 crcBit littleAt syncAt allowed endsWithin crcRight frameAt wholeFrame judged final settle finishLit feedLit blockAt restOf tabulate every chain neighbours first pick sizeOf markFits fieldAt rowFrom rowAt rowsOf blockOf decode fileOk risingOk rowOk counts indexOk rowsOk fieldsOk isPair blockOk tableOk findRow withSign readAs isDoNotUse valueOf fieldValue bodyFits subsFit seenRow seen seenSubRow seenSub fieldSaid bodyField subBytes subField subBlock subBlockRefusal stamp sound openRefusal feedRefusal finishRefusal bytesRefusal stageRefusal withdrawRefusal openOf feedingOf feedOf finishingOf finishOf bytesOf stageOf withdrawOf askRefusal bodyOf subOf subBytesOf subBytesRefusal stampOf step trace newWorld replayed
+unfolding crcOf crcFrom crcByte crcBits8 crcBit littleAt syncAt allowed endsWithin crcRight frameAt wholeFrame judged judgedLast settle feedBy countAll restOf tabulate every chain neighbours first pick sizeOf markFits fieldAt rowFrom rowAt rowsOf blockOf decode fileOk risingOk rowOk counts indexOk rowsOk fieldsOk isPair blockOk tableOk findRow withSign readAs isDoNotUse valueOf fieldValue bodyFits subsFit seenRow seen seenSubRow seenSub fieldSaid bodyField subBytes subField subBlock subBlockRefusal stamp sound openRefusal feedRefusal finishRefusal bytesRefusal stageRefusal withdrawRefusal openOf feedingOf feedOf finishingOf finishOf bytesOf stageOf withdrawOf askRefusal bodyOf subOf subBytesOf subBytesRefusal stampOf step trace newWorld replayed
 computed = record { samples = refl; told = refl }

@@ -6,11 +6,10 @@ use mathlib.Core.Path.{_≡_, sym, ap, ap₂, _∙_, subst, subst⁻¹}
 use mathlib.Core.List.{List, [], _∷_, _++_, append-nil, append-assoc}
 use mathlib.Core.Option.{Option, none}
 use lib.ListN.{drop}
-use Rattle.frame.specs.Feed.{Feeding, feedLit}
+use Rattle.scan.specs.Feed.{Feeding, feedLit, size}
 use Rattle.frame.specs.Judge.{judged}
-use Rattle.frame.specs.Session.{size}
 use Rattle.frame.specs.declared.Verdict.the-variants.{Undecided}
-use Rattle.frame.proofs.Calls.{more-decides-all}
+use Rattle.framing.proofs.Calls.{more-decides-all}
 use Rattle.table.specs.Decode.{decode}
 use Rattle.reader.specs.State.{limit}
 use Rattle.reader.specs.Said.{took}

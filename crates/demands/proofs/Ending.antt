@@ -9,11 +9,11 @@ use mathlib.Core.Logic.{_⊎_, inl, inr}
 use mathlib.Core.Option.{Option, none, some}
 use lib.ListN.{length, length-drop}
 use borrow.Author.Tests.{le-leb}
-use Rattle.frame.specs.Settle.{finishLit}
-use Rattle.frame.specs.Feed.{feedLit, stop}
-use Rattle.frame.specs.Session.{size}
-use Rattle.frame.proofs.Calls.{Took, fed-took}
-use Rattle.frame.proofs.Runs.{finish-rest}
+use Rattle.scan.specs.Settle.{settle, judgedLast}
+use Rattle.scan.specs.Feed.{feedLit, stop, size}
+use Rattle.frame.specs.Judge.{judged}
+use Rattle.scan.proofs.Settling.{settle-rest}
+use Rattle.scan.proofs.Calls.{Took, fed-took}
 use Rattle.frame.proofs.Tests.{lt?}
 use Rattle.reader.specs.State.{limit, sound}
 use Rattle.reader.specs.Said.{Said, took}
@@ -48,7 +48,7 @@ more-by w piece n (is e) f =
     let room = limit - w .state .run .counts .taken in
     let F = feedLit (kept w) piece (limit - w .state .run .counts .taken) in
     let q = none-if (F .standing) (F .taken) n (front (done (feed piece) w .1 .state .run)) (F .held) (said-is _ _ f) in
-    let t : F .taken ≡ min (limit - w .state .run .counts .taken) (length piece) = subst (λ (o : Option ℕ). Took o (F .taken) (min room (length piece))) (q .0) (fed-took piece room (kept w)) in
+    let t : F .taken ≡ min (limit - w .state .run .counts .taken) (length piece) = subst (λ (o : Option ℕ). Took o (F .taken) (min room (length piece))) (q .0) (fed-took judged piece room (kept w)) in
     lt? (limit - w .state .run .counts .taken) (length piece) (λ l. inr (omega (arith, t, h .taken))) (λ l. inl (omega (arith, t, q .1)))
 
 more-takes-all : MoreTakesAll
@@ -64,28 +64,28 @@ finish-done : (w : World) → Good w → Live w → 65536 ≤ length (w .hold) �
 finish-done w g v l = by-refusal finish w ∙ ap (λ (o : Option ℕ). unlessRefused o finish w) (no-refusal w g v l)
 
 -- what Finish left is fewer bytes than before, where it reported a block
-fewer : (w : World) (m : ℕ) → Good w → finishLit (kept w) .standing ≡ some m → length (kept (done finish w .1)) < length (kept w)
+fewer : (w : World) (m : ℕ) → Good w → settle judgedLast (kept w) .standing ≡ some m → length (kept (done finish w .1)) < length (kept w)
 unfolding finishingOf
 fewer w m g q =
-    let f = stop (finishLit (kept w)) in
-    let r = finish-rest (kept w) in
-    let b : Whole m (finishLit (kept w) .rest) = subst (λ (o : Option ℕ). WholeIf o (finishLit (kept w) .rest)) q (end-whole (kept w)) in
-    let k = ap length (kept-after (phaseAfter (finishLit (kept w) .standing)) w f g (finish-fits w g)) in
-    let s : size (finishLit (kept w) .standing) ≡ m = ap size q in
-    omega (arith, k, length-drop (size (finishLit (kept w) .standing)) (finishLit (kept w) .rest), s, b .eight, b .there, ap length (r .is), length-drop (finishLit (kept w) .skipped) (kept w), r .few)
+    let f = stop (settle judgedLast (kept w)) in
+    let r = settle-rest judgedLast (kept w) in
+    let b : Whole m (settle judgedLast (kept w) .rest) = subst (λ (o : Option ℕ). WholeIf o (settle judgedLast (kept w) .rest)) q (end-whole (kept w)) in
+    let k = ap length (kept-after (phaseAfter (settle judgedLast (kept w) .standing)) w f g (finish-fits w g)) in
+    let s : size (settle judgedLast (kept w) .standing) ≡ m = ap size q in
+    omega (arith, k, length-drop (size (settle judgedLast (kept w) .standing)) (settle judgedLast (kept w) .rest), s, b .eight, b .there, ap length (r .is), length-drop (length (settle judgedLast (kept w) .passed)) (kept w), r .few)
 
 module _ (w : World) (g : Good w) (v : Live w) (l : 65536 ≤ length (w .hold)) where
-  said-finish : step finish w .0 ≡ said (finishSaid (finishLit (kept w) .standing) (done finish w .1 .state .run) (finishLit (kept w) .rest))
+  said-finish : step finish w .0 ≡ said (finishSaid (settle judgedLast (kept w) .standing) (done finish w .1 .state .run) (settle judgedLast (kept w) .rest))
   unfolding finishingOf
   said-finish = ap (λ (r : Answer × World). r .0) (finish-done w g v l)
 
-  ends-now : finishLit (kept w) .standing ≡ none → isEnd (step finish w .0) ≡ true
-  ends-now q = ap isEnd said-finish ∙ ap (λ (o : Option ℕ). endSaid (finishSaid o (done finish w .1 .state .run) (finishLit (kept w) .rest))) q
+  ends-now : settle judgedLast (kept w) .standing ≡ none → isEnd (step finish w .0) ≡ true
+  ends-now q = ap isEnd said-finish ∙ ap (λ (o : Option ℕ). endSaid (finishSaid o (done finish w .1 .state .run) (settle judgedLast (kept w) .rest))) q
 
-  goes-on : (m : ℕ) → finishLit (kept w) .standing ≡ some m → (isFound (step finish w .0) ≡ true) × (isEnd (step finish w .0) ≡ false)
+  goes-on : (m : ℕ) → settle judgedLast (kept w) .standing ≡ some m → (isFound (step finish w .0) ≡ true) × (isEnd (step finish w .0) ≡ false)
   goes-on m q = (
-    ap isFound said-finish ∙ ap (λ (o : Option ℕ). foundSaid (finishSaid o (done finish w .1 .state .run) (finishLit (kept w) .rest))) q,
-    ap isEnd said-finish ∙ ap (λ (o : Option ℕ). endSaid (finishSaid o (done finish w .1 .state .run) (finishLit (kept w) .rest))) q,
+    ap isFound said-finish ∙ ap (λ (o : Option ℕ). foundSaid (finishSaid o (done finish w .1 .state .run) (settle judgedLast (kept w) .rest))) q,
+    ap isEnd said-finish ∙ ap (λ (o : Option ℕ). endSaid (finishSaid o (done finish w .1 .state .run) (settle judgedLast (kept w) .rest))) q,
   )
 
   still-long : 65536 ≤ length (step finish w .1 .hold)
@@ -98,18 +98,18 @@ reaches-more : (w : World) (k : ℕ) → isFound (step finish w .0) ≡ true →
 unfolding finishes AllFound end
 reaches-more w k f r = record { calls = suc (r .calls); few = omega (arith, r .few); blocks = (f, r .blocks); last = r .last }
 
-reach-now : (k : ℕ) (w : World) → finishLit (kept w) .standing ≡ none → Good w → Live w → 65536 ≤ length (w .hold) → Reaches w k
+reach-now : (k : ℕ) (w : World) → settle judgedLast (kept w) .standing ≡ none → Good w → Live w → 65536 ≤ length (w .hold) → Reaches w k
 unfolding finishes AllFound end
 reach-now k w q g v l = record { calls = 0; few = omega arith; blocks = tt; last = ends-now w g v l q }
 
 abbrev Reached : ℕ → Type 0
 Reached k = (w : World) → length (kept w) ≤ k → Good w → Live w → 65536 ≤ length (w .hold) → Reaches w k
 
-reach-zero : (w : World) (o : Option ℕ) → finishLit (kept w) .standing ≡ o → length (kept w) ≤ 0 → Good w → Live w → 65536 ≤ length (w .hold) → Reaches w 0
+reach-zero : (w : World) (o : Option ℕ) → settle judgedLast (kept w) .standing ≡ o → length (kept w) ≤ 0 → Good w → Live w → 65536 ≤ length (w .hold) → Reaches w 0
 reach-zero w none q n g v l = reach-now 0 w q g v l
 reach-zero w (some m) q n g v l = let z : ⊥ = omega (arith, fewer w m g q) in absurd z
 
-reach-suc : (k : ℕ) → Reached k → (w : World) (o : Option ℕ) → finishLit (kept w) .standing ≡ o → length (kept w) ≤ suc k → Good w → Live w → 65536 ≤ length (w .hold) → Reaches w (suc k)
+reach-suc : (k : ℕ) → Reached k → (w : World) (o : Option ℕ) → settle judgedLast (kept w) .standing ≡ o → length (kept w) ≤ suc k → Good w → Live w → 65536 ≤ length (w .hold) → Reaches w (suc k)
 reach-suc k rec w none q n g v l = reach-now (suc k) w q g v l
 reach-suc k rec w (some m) q n g v l =
     let e = goes-on w g v l m q in
@@ -117,8 +117,8 @@ reach-suc k rec w (some m) q n g v l =
     reaches-more w k (e .0) (rec (step finish w .1) (omega arith) (good-step finish w tt g) (live-step finish w v (e .1)) (still-long w g v l))
 
 reach : (k : ℕ) → Reached k
-reach zero w n g v l = reach-zero w (finishLit (kept w) .standing) refl n g v l
-reach (suc k) w n g v l = reach-suc k (reach k) w (finishLit (kept w) .standing) refl n g v l
+reach zero w n g v l = reach-zero w (settle judgedLast (kept w) .standing) refl n g v l
+reach (suc k) w n g v l = reach-suc k (reach k) w (settle judgedLast (kept w) .standing) refl n g v l
 
 finish-ends : FinishEnds
 finish-ends w before mid h l =

@@ -10,7 +10,8 @@ use mathlib.Core.Option.{Option, none, some}
 use lib.ListN.{length}
 use lib.Dec.{leb, ltb, eqb}
 use borrow.Author.Tests.{leb-true, leb-false, ltb-true, ltb-false, eqb-true, eqb-false}
-use Rattle.frame.specs.Settle.{settle}
+use Rattle.frame.specs.Judge.{judged}
+use Rattle.scan.specs.Settle.{settle}
 use Rattle.feed.specs.Hold.{restOf}
 use Rattle.frame.proofs.Tests.{both-left, both-right, never}
 use Rattle.table.specs.Rules.{tableOk}
@@ -154,7 +155,7 @@ feed-exact s hold piece =
     followed 1 (hold-tells s hold)
     (followed 2 (feeding-tells (s .run .phase))
     (followed 3
-    (orelse (full-tells (s .run .counts .taken)) (orelse (empty-tells (length piece)) (gives-tells (settle (restOf hold (s .run .held) (s .run .standing)) .standing))))
+    (orelse (full-tells (s .run .counts .taken)) (orelse (empty-tells (length piece)) (gives-tells (settle judged (restOf hold (s .run .held) (s .run .standing)) .standing))))
     exactly-none))
 
 finish-exact : (s : State) (hold : List ℕ) → Exactly (finishRefusal s hold) (finishOrder s hold)

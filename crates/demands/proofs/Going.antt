@@ -8,14 +8,15 @@ use mathlib.Core.Option.{Option, none, some}
 use lib.ListN.{length, take, drop, length-append, length-drop}
 use lib.Seq.{take-append-le}
 use borrow.Author.Tests.{le-leb}
-use Rattle.frame.specs.Feed.{Feeding}
-use Rattle.frame.specs.ReadRun.{Block, blockAt}
-use Rattle.frame.specs.Session.{size, blocksOf}
+use Rattle.scan.specs.Feed.{Feeding, size}
+use Rattle.framing.specs.ReadRun.{Block, blockAt}
+use Rattle.framing.proofs.Reading.{blocksOf}
 use Rattle.feed.specs.Hold.{restOf, holdOf}
 use Rattle.feed.proofs.Literally.{goes-on, rest-length}
 use Rattle.reader.specs.State.{sound}
 use Rattle.runs.specs.Refusals.{bytesRefusal}
-use Rattle.runs.specs.Calls.{reported, reportIf, front, runOn, withRun, finishSaid, bytesOf}
+use Rattle.reader.specs.Counting.{withRun}
+use Rattle.runs.specs.Calls.{reported, reportIf, front, runOn, finishSaid, bytesOf}
 use Rattle.reader.specs.declared.Phase.{Phase}
 use Rattle.reader.specs.declared.Run.{Run}
 use Rattle.runs.proofs.Feeding.{WholeIf}
@@ -43,16 +44,16 @@ kept-length w g = rest-length (w .hold) (w .state .run .held) (w .state .run .st
 pub record Fits (w : World) (f : Feeding) : Type 0 where
   pub whole : WholeIf (f .standing) (f .held)
   pub front : size (f .standing) ≤ length (f .held)
-  pub sum : w .state .run .held - w .state .run .standing + f .taken ≡ f .skipped + length (f .held)
+  pub sum : w .state .run .held - w .state .run .standing + f .taken ≡ length (f .passed) + length (f .held)
 
 module _ (x : Phase) (w : World) (f : Feeding) (g : Good w) (h : Fits w f) where
   pub kept-after : kept (going x w f) ≡ drop (size (f .standing)) (f .held)
   kept-after = goes-on f (w .hold) (h .front)
 
-  pub place-after : place (going x w f) ≡ place w + f .skipped + size (f .standing)
+  pub place-after : place (going x w f) ≡ place w + length (f .passed) + size (f .standing)
   place-after = omega (arith, within w g, g .sound .front, h .sum, h .front)
 
-  pub front-after : front (runOn x (w .state .run) f) ≡ place w + f .skipped
+  pub front-after : front (runOn x (w .state .run) f) ≡ place w + length (f .passed)
   front-after = omega (arith, within w g, g .sound .front, h .sum)
 
 -- ---- the block that is reported
@@ -74,9 +75,9 @@ finish-report none r v = refl
 finish-report (some n) r v = refl
 
 module _ (x : Phase) (w : World) (f : Feeding) (g : Good w) (h : Fits w f) where
-  pub in-hold : inHold (reportIf (f .standing) (front (runOn x (w .state .run) f)) (f .held)) (going x w f) ≡ blocksOf (f .standing) (place w + f .skipped) (f .held)
+  pub in-hold : inHold (reportIf (f .standing) (front (runOn x (w .state .run) f)) (f .held)) (going x w f) ≡ blocksOf (f .standing) (place w + length (f .passed)) (f .held)
   in-hold =
-      in-hold-by (f .standing) (front (runOn x (w .state .run) f)) (place w + f .skipped) (f .held) (going x w f) (w .hold) refl
+      in-hold-by (f .standing) (front (runOn x (w .state .run) f)) (place w + length (f .passed)) (f .held) (going x w f) (w .hold) refl
       (front-after x w f g h) (h .front)
 
 -- ---- what Bytes shows

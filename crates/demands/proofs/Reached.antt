@@ -6,11 +6,12 @@ use mathlib.Core.Path.{_≡_, ap, subst, subst⁻¹}
 use mathlib.Core.Bool.{true}
 use mathlib.Core.List.{List, [], _∷_, _++_}
 use lib.ListN.{length, take, drop, length-append}
-use Rattle.frame.specs.Settle.{finishLit}
-use Rattle.frame.specs.Feed.{Feeding, feedLit}
-use Rattle.frame.proofs.Bounds.{append-bytes, take-bytes, drop-bytes}
-use Rattle.frame.proofs.Calls.{fed-holds}
-use Rattle.frame.proofs.Runs.{finish-rest}
+use Rattle.scan.specs.Settle.{settle, judgedLast}
+use Rattle.scan.specs.Feed.{Feeding, feedLit}
+use Rattle.feed.proofs.Bounds.{append-bytes, take-bytes, drop-bytes}
+use Rattle.frame.specs.Judge.{judged}
+use Rattle.scan.proofs.Settling.{settle-rest}
+use Rattle.scan.proofs.Calls.{fed-holds}
 use Rattle.feed.specs.Hold.{restOf, holdOf}
 use Rattle.reader.specs.State.{limit, sound}
 use Rattle.runs.specs.Calls.{feedingOf, finishingOf}
@@ -47,15 +48,15 @@ fed-clean s hold piece b p =
     let rest = restOf hold (s .run .held) (s .run .standing) in
     let room = limit - s .run .counts .taken in
     let f = feedLit (restOf hold (s .run .held) (s .run .standing)) piece (limit - s .run .counts .taken) in
-    subst⁻¹ Bytes (fed-holds piece room rest)
-    (drop-bytes (rest ++ take (f .taken) piece) (f .skipped)
+    subst⁻¹ Bytes (fed-holds judged piece room rest)
+    (drop-bytes (rest ++ take (f .taken) piece) (length (f .passed))
     (append-bytes rest (take (f .taken) piece) (rest-bytes hold (s .run .held) (s .run .standing) b) (take-bytes piece (f .taken) p)))
 
 end-clean : (s : State) (hold : List ℕ) → Bytes hold → Bytes (finishingOf s hold .held)
 unfolding finishingOf
 end-clean s hold b =
     let rest = restOf hold (s .run .held) (s .run .standing) in
-    subst⁻¹ Bytes (finish-rest rest .is) (drop-bytes rest (finishLit rest .skipped) (rest-bytes hold (s .run .held) (s .run .standing) b))
+    subst⁻¹ Bytes (settle-rest judgedLast rest .is) (drop-bytes rest (length (settle judgedLast rest .passed)) (rest-bytes hold (s .run .held) (s .run .standing) b))
 
 table-held : (t : TableCall) (w : World) → Held (w .state) (w .hold) → Held (done (table t) w .1 .state) (done (table t) w .1 .hold)
 table-held (stage t) w h = record { there = h .there; clean = h .clean }

@@ -6,11 +6,10 @@ use mathlib.Core.Bool.{true, _&&_}
 use mathlib.Core.List.{List, [], _∷_, _++_, append-nil, append-assoc}
 use mathlib.Core.Option.{Option, none, some}
 use lib.ListN.{length, drop, length-append}
-use Rattle.frame.specs.Settle.{finishLit}
-use Rattle.frame.specs.Feed.{Feeding, stop}
-use Rattle.frame.specs.ReadRun.{Block, Reading, both, readRun}
-use Rattle.frame.specs.Session.{size}
-use Rattle.frame.proofs.Runs.{read-end, Ends, finished}
+use Rattle.scan.specs.Settle.{settle, judgedLast}
+use Rattle.scan.specs.Feed.{Feeding, stop, size}
+use Rattle.framing.specs.ReadRun.{Block, Reading, readRun}
+use Rattle.framing.proofs.Reading.{both, read-end, last-empty}
 use Rattle.reader.specs.State.{sound}
 use Rattle.reader.specs.Said.{Report, ended, refused}
 use Rattle.reader.specs.Refusals.{longHold}
@@ -131,20 +130,20 @@ closed-reads w {ts} {b} c k r =
           (r .skips ∙ ap (λ (x : Reading). length (x .skipped)) (sym so));
     }
 
-ended-reads : (w : World) {ts : List ℕ} {b : List Block} (o : Option ℕ) (f : Feeding) → f .standing ≡ o → Good w → Fits w f → Ends o (f .held)
+ended-reads : (w : World) {ts : List ℕ} {b : List Block} (o : Option ℕ) (f : Feeding) → f .standing ≡ o → Good w → Fits w f → (o ≡ none → f .held ≡ [])
     → endSaid (finishSaid o (runOn (phaseAfter o) (w .state .run) f) (f .held)) ≡ true
     → Reads (ts ++ []) (b ++ inHold (reportIn (said (finishSaid o (runOn (phaseAfter o) (w .state .run) f) (f .held)))) (going (phaseAfter o) w f)) (going (phaseAfter o) w f)
     → Whole ts b (said (finishSaid o (runOn (phaseAfter o) (w .state .run) f) (f .held)))
 ended-reads w none f q g h d e r =
-    closed-reads (going phase.Closed w f) refl (kept-after phase.Closed w f g h ∙ ap (λ (o : Option ℕ). drop (size o) (f .held)) q ∙ d) (un-nil r)
+    closed-reads (going phase.Closed w f) refl (kept-after phase.Closed w f g h ∙ ap (λ (o : Option ℕ). drop (size o) (f .held)) q ∙ d refl) (un-nil r)
 ended-reads w (some n) f q g h d e r = clash (sym e)
 
 whole-by : (w : World) {ts : List ℕ} {b : List Block} → Good w → Reads ts b w → {x : Answer × World} → How finish w x → isEnd (x .0) ≡ true → Whole ts b (x .0)
 unfolding finishingOf
 whole-by w g r (isnt k e) n = clash (sym n)
 whole-by w g r (is e) n =
-    let f = stop (finishLit (kept w)) in
-    ended-reads w (finishLit (kept w) .standing) f refl g (finish-fits w g) (finished (kept w) 0 .ends) n (reads-finish w g e r)
+    let f = stop (settle judgedLast (kept w)) in
+    ended-reads w (settle judgedLast (kept w) .standing) f refl g (finish-fits w g) (last-empty (kept w)) n (reads-finish w g e r)
 
 -- ---- what Bytes shows of each block is what stands in the hold
 

@@ -3,24 +3,21 @@
 use Prim.Native.Nat.{ℕ, zero, suc, _+_, _-_, _≤_}
 use native.Mathlib.Omega.{arith}
 use native.Mathlib.Nat.{add-zero}
-use mathlib.Core.Path.{_≡_, refl, ap, _∙_, subst, subst⁻¹}
+use mathlib.Core.Path.{_≡_, refl, subst, subst⁻¹}
 use mathlib.Core.Bool.{Bool, true, false, _&&_, cond}
-use mathlib.Core.List.{List, [], _++_}
+use mathlib.Core.List.{List, []}
 use mathlib.Core.Option.{Option, none, some}
-use lib.ListN.{length, take, drop, length-take, length-drop}
+use lib.ListN.{length, drop}
 use lib.Dec.{ltb}
 use borrow.Author.Tests.{le-leb}
-use Rattle.frame.specs.Scan.{scanFrom}
-use Rattle.frame.specs.Settle.{finishLit}
-use Rattle.frame.specs.Feed.{Feeding, feedLit, stop}
-use Rattle.frame.specs.Session.{size}
-use Rattle.frame.specs.declared.Found.{Found}
-use Rattle.frame.specs.declared.Found.the-variants.{Block, More}
+use Rattle.scan.specs.Settle.{settle, judgedLast}
+use Rattle.scan.specs.Feed.{Feeding, feedLit, stop, size}
 use Rattle.frame.proofs.Tests.{both-true}
-use Rattle.frame.proofs.Bounds.{Bound, scan-bound, append-bytes, take-bytes, drop-bytes}
-use Rattle.frame.proofs.Literal.{toLit, literal}
-use Rattle.frame.proofs.Calls.{call}
-use Rattle.frame.proofs.Runs.{finish-rest}
+use Rattle.feed.proofs.Bounds.{take-bytes, drop-bytes, fed-held}
+use Rattle.frame.specs.Judge.{judged}
+use Rattle.scan.proofs.Stable.{judging}
+use Rattle.scan.proofs.Marks.{counted-skipped}
+use Rattle.scan.proofs.Calls.{call, settle-sum}
 use Rattle.feed.specs.Hold.{restOf}
 use Rattle.feed.proofs.Literally.{rest-length}
 use Rattle.table.proofs.Passed as table
@@ -30,7 +27,8 @@ use Rattle.runs.specs.Refusals.{feedRefusal, finishRefusal}
 use Rattle.reader.specs.Refusals as refusals
 use Rattle.reader.specs.Said.{took}
 use Rattle.reader.specs.Outcome.{Outcome, unless}
-use Rattle.runs.specs.Calls.{one, reportIf, front, finishSaid, phaseAfter, runOn, withRun, feedingBy, feedingOf, feedOf, finishingBy, finishingOf, finishOf}
+use Rattle.reader.specs.Counting.{one, withRun}
+use Rattle.runs.specs.Calls.{reportIf, front, finishSaid, phaseAfter, runOn, feedingBy, feedingOf, feedOf, finishingBy, finishingOf, finishOf}
 use Rattle.reader.specs.declared.Phase.{Phase}
 use Rattle.reader.specs.declared.Phase.the-variants as phase
 use Rattle.reader.specs.declared.Run.{Run}
@@ -59,18 +57,6 @@ end-size : (o : Option ℕ) (r : Run) (v : List ℕ) → size o ≡ sizeIn (fini
 end-size none r v = refl
 end-size (some n) r v = refl
 
--- no more than 65,532 bytes are held
-held-by : (x : Found) (w : List ℕ) (n : ℕ) → n ≤ 65532 → Bound (length w) 0 n x → length (toLit x w n .held) ≤ 65532
-held-by (Block q l t) w n h b = omega (arith, b .near, length-drop q (take t w), length-take t w)
-held-by (More q) w n h b = omega (arith, b .near, length-drop q w)
-
-fed-held : (h piece : List ℕ) (room : ℕ) → Bytes h → Bytes piece → length h ≤ 65532 → length (feedLit h piece room .held) ≤ 65532
-fed-held h piece room bh bp l =
-    let w : List ℕ = h ++ take room piece in
-    rw (literal piece room h)
-    (held-by (scanFrom (h ++ take room piece) 0 (length h)) (h ++ take room piece) (length h) l
-    (scan-bound (h ++ take room piece) 0 (length h) (append-bytes h (take room piece) bh (take-bytes piece room bp))))
-
 one-le : (n : ℕ) → one n ≤ n
 one-le zero = omega arith
 one-le (suc n) = omega arith
@@ -80,7 +66,7 @@ whole-le none v w = omega arith
 whole-le (some n) v w = w .there
 
 -- the run goes on by what was taken, skipped and kept
-went-on : (x : Phase) (s : State) (b n : ℕ) (F : Feeding) → Sound s b → n ≡ s .run .held - s .run .standing → n + F .taken ≡ F .skipped + length (F .held)
+went-on : (x : Phase) (s : State) (b n : ℕ) (F : Feeding) → Sound s b → n ≡ s .run .held - s .run .standing → n + F .taken ≡ length (F .passed) + length (F .held)
     → length (F .held) ≤ 65532 → F .taken ≤ limit - s .run .counts .taken → size (F .standing) ≤ length (F .held)
     → Sound (withRun s (runOn x (s .run) F)) (b + size (F .standing))
 went-on x s b n F h e sum l t o =
@@ -89,7 +75,7 @@ went-on x s b n F h e sum l t o =
       front = o;
       among = omega arith;
       count = omega (arith, h .count, one-le (size (F .standing)));
-      sum = omega (arith, h .sum, sum, o);
+      sum = omega (arith, h .sum, sum, o, counted-skipped (F .passed));
       most = omega (arith, h .most, t);
       force = h .force;
       wait = h .wait;
@@ -107,11 +93,11 @@ feed-done s b hold piece bh bp h e =
     let rest = restOf hold (s .run .held) (s .run .standing) in
     let room = limit - s .run .counts .taken in
     let lr : length (restOf hold (s .run .held) (s .run .standing)) ≡ s .run .held - s .run .standing = rest-length hold (s .run .held) (s .run .standing) (h .front) (omega (arith, h .few, f .1)) in
-    let k = call rest piece room in
+    let k = call judged (judging .fits) rest piece room in
     subst (λ (c : ℕ). Sound (feedingBy (feedLit rest piece room) s hold .state) (b + c))
     (fed-size (feedLit rest piece room .standing) (feedLit rest piece room .taken) (front (runOn phase.Feeding (s .run) (feedLit rest piece room))) (feedLit rest piece room .held))
     (went-on _ s b (length rest) (feedLit rest piece room) h lr (k .sum)
-    (fed-held rest piece room (rest-bytes hold (s .run .held) (s .run .standing) bh) bp (omega (arith, lr, h .few))) (omega (arith, k .taken))
+    (fed-held piece room rest (rest-bytes hold (s .run .held) (s .run .standing) bh) bp (omega (arith, lr, h .few))) (omega (arith, k .taken))
     (whole-le (feedLit rest piece room .standing) (feedLit rest piece room .held) (fed-whole rest piece room)))
 
 finish-done : (s : State) (b : ℕ) (hold : List ℕ) → Sound s b → finishRefusal s hold ≡ none
@@ -121,13 +107,12 @@ finish-done s b hold h e =
     let f = with-hold s hold (passes (sound s && refusals.longHold hold) 1 _ e .0) in
     let rest = restOf hold (s .run .held) (s .run .standing) in
     let lr : length (restOf hold (s .run .held) (s .run .standing)) ≡ s .run .held - s .run .standing = rest-length hold (s .run .held) (s .run .standing) (h .front) (omega (arith, h .few, f .1)) in
-    let r = finish-rest rest in
-    let l : length (finishLit rest .rest) ≡ length rest - finishLit rest .skipped = ap length (r .is) ∙ length-drop (finishLit rest .skipped) rest in
-    let x = phaseAfter (finishLit rest .standing) in
-    subst (λ (c : ℕ). Sound (finishingBy (stop (finishLit rest)) s hold .state) (b + c))
-    (end-size (finishLit rest .standing) (runOn x (s .run) (stop (finishLit rest))) (finishLit rest .rest))
-    (went-on _ s b (length rest) (stop (finishLit rest)) h lr (omega (arith, r .few, l)) (omega (arith, l, lr, h .few)) (omega arith)
-    (whole-le (finishLit rest .standing) (finishLit rest .rest) (end-whole rest)))
+    let k = settle-sum judgedLast rest in
+    let x = phaseAfter (settle judgedLast rest .standing) in
+    subst (λ (c : ℕ). Sound (finishingBy (stop (settle judgedLast rest)) s hold .state) (b + c))
+    (end-size (settle judgedLast rest .standing) (runOn x (s .run) (stop (settle judgedLast rest))) (settle judgedLast rest .rest))
+    (went-on _ s b (length rest) (stop (settle judgedLast rest)) h lr k (omega (arith, k, lr, h .few)) (omega arith)
+    (whole-le (settle judgedLast rest .standing) (settle judgedLast rest .rest) (end-whole rest)))
 
 length-by : (b : Bool) (m n : ℕ) → m ≤ 8192 → n ≤ 8192 → cond b m n ≤ 8192
 length-by true m n h k = h

@@ -6,7 +6,7 @@ use mathlib.Core.Path.{_≡_, refl, sym, ap, ap₂, _∙_}
 use mathlib.Core.List.{List, [], _∷_, _++_}
 use lib.ListN.{length, take, drop, length-append, length-take}
 use lib.Seq.{take-take, take-add, take-length}
-use Rattle.frame.specs.ReadRun.{readRun}
+use Rattle.framing.specs.ReadRun.{readRun}
 use Rattle.reader.specs.Said.{Said, refused, version, took, found, ended, waited}
 use Rattle.demands.specs.World.{openRun, feed, finish, table, look, Answer, said, part, value, step}
 use Rattle.demands.specs.Sequence.{tookSaid, tookBy, taken, opened}

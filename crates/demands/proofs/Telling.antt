@@ -10,8 +10,7 @@ use lib.ListN.{length, take, drop}
 use lib.Seq.{take-append-seam}
 use lib.Dec.{ltb}
 use borrow.Author.Tests.{le-leb, lt-ltb}
-use Rattle.frame.specs.Feed.{Feeding}
-use Rattle.frame.specs.Session.{size}
+use Rattle.scan.specs.Feed.{Feeding, size}
 use Rattle.feed.specs.Hold.{over, holdOf}
 use Rattle.table.specs.Decode.{decode}
 use Rattle.table.specs.Rules.{tableOk}

@@ -5,7 +5,7 @@ use native.Mathlib.Omega.{arith}
 use mathlib.Core.Path.{_≡_, refl, ap}
 use mathlib.Core.List.{List, []}
 use mathlib.Core.Option.{Option, none, some}
-use Rattle.record.specs.Block.{Seen, refusedBy, row, seenSub}
+use Rattle.block.specs.Block.{Seen, refusedBy, row, seenSub}
 use Rattle.record.specs.Calls.{partBy, numberBy, subBlock, subBlockRefusal}
 use Rattle.reader.specs.Said.{refused}
 use Rattle.tables.specs.Calls.{openRefusal, stageRefusal, withdrawRefusal, opening, openOf, staging, stageOf, withdrawing, withdrawOf}

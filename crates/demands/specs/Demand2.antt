@@ -7,7 +7,7 @@ use mathlib.Core.List.{List, [], _∷_, _++_}
 use mathlib.Core.Option.{none}
 use lib.ListN.{length, drop}
 use Rattle.frame.specs.Judge.{judged}
-use Rattle.frame.specs.ReadRun.{readRun}
+use Rattle.framing.specs.ReadRun.{readRun}
 use Rattle.frame.specs.declared.Verdict.the-variants.{Undecided}
 use Rattle.table.specs.Decode.{decode}
 use Rattle.reader.specs.Said.{took}

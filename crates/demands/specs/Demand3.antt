@@ -5,7 +5,7 @@ use mathlib.Core.Path.{_≡_}
 use mathlib.Core.Bool.{Bool, true, false, not}
 use mathlib.Core.List.{List, [], _∷_, _++_}
 use lib.ListN.{length, take, drop}
-use Rattle.frame.specs.ReadRun.{readRun}
+use Rattle.framing.specs.ReadRun.{readRun}
 use Rattle.table.specs.Decode.{decode}
 use Rattle.table.specs.Rows.{Table}
 use Rattle.record.specs.Calls.{bodyField, subField, subBlock, subBlockRefusal, towRow, wncRow, stamp}

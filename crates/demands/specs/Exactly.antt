@@ -9,7 +9,8 @@ use mathlib.Core.List.{List}
 use mathlib.Core.Logic.{_⊎_}
 use mathlib.Core.Option.{Option, none, some}
 use lib.ListN.{length}
-use Rattle.frame.specs.Settle.{settle}
+use Rattle.frame.specs.Judge.{judged}
+use Rattle.scan.specs.Settle.{settle}
 use Rattle.feed.specs.Hold.{restOf}
 use Rattle.table.specs.Rules.{tableOk}
 use Rattle.tables.specs.Calls.{nextTable, openRefusal, stageRefusal, withdrawRefusal}
@@ -65,7 +66,7 @@ abbrev pub feedOrder : State → List ℕ → List ℕ → Order
 feedOrder s hold piece =
     first 1 (BadState s ⊎ ShortHold hold)
     (first 2 (s .run .phase ≡ Feeding → ⊥)
-    (first 3 ((4294967295 ≤ s .run .counts .taken) × ((0 < length piece) × (settle (restOf hold (s .run .held) (s .run .standing)) .standing ≡ none))) nothing))
+    (first 3 ((4294967295 ≤ s .run .counts .taken) × ((0 < length piece) × (settle judged (restOf hold (s .run .held) (s .run .standing)) .standing ≡ none))) nothing))
 
 -- "Finish 1, 2"
 abbrev pub finishOrder : State → List ℕ → Order

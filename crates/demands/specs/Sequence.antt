@@ -6,7 +6,7 @@ use mathlib.Core.Bool.{Bool, true, false}
 use mathlib.Core.List.{List, [], _∷_, _++_}
 use mathlib.Core.Option.{Option, none, some}
 use lib.ListN.{take}
-use Rattle.frame.specs.ReadRun.{Block}
+use Rattle.framing.specs.ReadRun.{Block}
 use Rattle.reader.specs.State.{newState}
 use Rattle.reader.specs.Said.{Report, Said, refused, version, took, found, ended, waited}
 use Rattle.demands.specs.Sound.{Bytes}

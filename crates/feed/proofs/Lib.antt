@@ -1,3 +1,4 @@
 pub mod Pasting
 pub mod Kept
+pub mod Bounds
 pub mod Literally

@@ -1,107 +1,130 @@
--- The numbers and the bytes by the scan are those by the rule, a byte at a time.
+-- What the code keeps and counts is what the rule gives, a byte at a time.
 -- Assumes nothing.
-use mathlib.Core.Path.{_≡_, refl, sym, ap, ap₂, _∙_}
+use mathlib.Core.Path.{_≡_, sym, ap, ap₂, _∙_}
 use mathlib.Core.List.{List, _++_}
 use Prim.Native.Nat.{ℕ, min, _+_, _-_, _≤_}
-use native.Mathlib.Omega.{arith}
-use lib.ListN.{length, take, drop, length-drop, length-append}
-use lib.Seq.{length-take-le, take-all, take-at, drop-append-le, paste}
 use native.Mathlib.Nat.{zero-add}
-use Rattle.frame.specs.Scan.{scanFrom}
-use Rattle.frame.specs.Feed.{Feeding, feedLit, stop}
-use Rattle.frame.specs.Settle.{Settled, finishLit}
-use Rattle.frame.proofs.Runs.{finish-rest, finish-front}
-use Rattle.frame.specs.Session.{size}
-use Rattle.frame.specs.declared.Found.{Found}
-use Rattle.frame.specs.declared.Found.the-variants.{Block, More}
+use native.Mathlib.Omega.{arith}
+use lib.ListN.{length, take, drop, length-drop}
+use lib.Seq.{length-take-le, take-all, take-at, take-append-add, drop-append-le, paste}
+use Rattle.frame.specs.Judge.{judged}
 use Rattle.frame.proofs.Tests.{lt?}
-use Rattle.frame.proofs.Spots.{Spot, spot}
-use Rattle.frame.proofs.Literal.{toLit, literal}
+use Rattle.scan.specs.Settle.{Settled, settle, judgedLast}
+use Rattle.scan.specs.Feed.{Feeding, feedLit, stop, size}
+use Rattle.scan.specs.Scan.{foundOf}
+use Rattle.scan.specs.declared.Found.{Found}
+use Rattle.scan.proofs.Stable.{judging, last-fits}
+use Rattle.scan.proofs.Settling.{settle-rest, settle-front}
+use Rattle.scan.proofs.Marks.{counted-skipped}
+use Rattle.scan.proofs.Calls.{Call, call, fed-holds}
+use Rattle.scan.proofs.Literal.{toLit, literal}
 use Rattle.feed.specs.declared.Fed.{Fed}
 use Rattle.feed.specs.Hold.{restOf, numbersOf, holdOf, GoesOn}
-use Rattle.feed.specs.Kept.{foundKept, foundNumbers}
 use Rattle.feed.proofs.Kept.{own}
 
-numbers : (x : Found) (w : List ℕ) (n t : ℕ) → length w ≡ n + t → Spot (length w) 0 n x → foundNumbers x t n ≡ numbersOf (toLit x w n)
-numbers (Block p l m) w n t e s =
-    let a : m - p ≡ length (drop p (take m w)) =
-    sym (length-drop p (take m w) ∙ ap (λ (k : ℕ). k - p) (length-take-le m w (omega (arith, s .within)))) in
-    ap (λ (k : ℕ). record { taken = m - n; skipped = p; held = k; standing = l }) a
-numbers (More p) w n t e s =
-    let a : n + t - p ≡ length (drop p w) = omega (arith, length-drop p w) in
-    let b : n + t - n ≡ length w - n = omega arith in
-    ap₂ (λ (i k : ℕ). record { taken = k; skipped = p; held = i; standing = 0 }) a b
-
-kept : (x : Found) (w : List ℕ) (n : ℕ) → foundKept x w ≡ toLit x w n .held
-kept (Block p l m) w n = refl
-kept (More p) w n = refl
-
 -- what is looked at of the piece
-pub looked : (room : ℕ) (piece : List ℕ) → take (min room (length piece)) piece ≡ take room piece
+looked : (room : ℕ) (piece : List ℕ) → take (min room (length piece)) piece ≡ take room piece
 looked room piece =
     lt? room (length piece) (λ l. let e : min room (length piece) ≡ room = omega arith in ap (λ (k : ℕ). take k piece) e)
     (λ l. take-all (min room (length piece)) piece (omega arith) ∙ sym (take-all room piece l))
+
+-- no more of the piece than there is room for
+pub roomed : (h piece : List ℕ) (room t : ℕ) → t ≡ min room (length piece) → feedLit h (take t piece) (length (take t piece)) ≡ feedLit h piece room
+roomed h piece room t e =
+    let p : List ℕ = take t piece in
+    literal judged judging (take t piece) (length (take t piece)) h
+    ∙ ap (λ (x : List ℕ). toLit (settle judged (h ++ x)) (h ++ x) (length h))
+    (take-all (length (take t piece)) (take t piece) (omega arith) ∙ ap (λ (k : ℕ). take k piece) e ∙ looked room piece)
+    ∙ sym (literal judged judging piece room h)
 
 pub rest-length : (hold : List ℕ) (held standing : ℕ) → standing ≤ held → held ≤ length hold → length (restOf hold held standing) ≡ held - standing
 unfolding restOf
 rest-length hold held standing a b = length-take-le (held - standing) (drop standing hold) (omega (arith, length-drop standing hold))
 
-module _ (h : List ℕ) (held block : ℕ) (piece : List ℕ) (room : ℕ) (part : List ℕ) (front : block ≤ held) (fits : held ≤ length h) (ep : part ≡ take room piece) where
-  abbrev run : List ℕ
-  run = restOf h held block ++ part
+-- ---- Feed
 
-  abbrev found : Found
-  found = scanFrom run 0 (held - block)
+module _ (hold : List ℕ) (held block : ℕ) (piece : List ℕ) (room : ℕ) (front : block ≤ held) (fits : held ≤ length hold) (f : Found)
+    (came : f ≡ foundOf (feedLit (restOf hold held block) piece room)) where
+  abbrev fed : Feeding
+  fed = feedLit (restOf hold held block) piece room
 
-  len : length (restOf h held block) ≡ held - block
-  len = rest-length h held block front fits
+  taken-is : f .taken ≡ fed .taken
+  taken-is = ap (λ (x : Found). x .taken) came
 
-  by-rule : feedLit (restOf h held block) piece room ≡ toLit found run (held - block)
-  by-rule =
-      literal piece room (restOf h held block)
-      ∙ ap₂ (λ (x : List ℕ) (k : ℕ). toLit (scanFrom (restOf h held block ++ x) 0 k) (restOf h held block ++ x) k) (sym ep) len
+  passed-is : f .passed .skipped ≡ length (fed .passed)
+  passed-is = ap (λ (x : Found). x .passed .skipped) came ∙ counted-skipped (fed .passed)
 
-  pub as-told : (r : Fed) → r ≡ foundNumbers found (length part) (held - block) → r ≡ numbersOf (feedLit (restOf h held block) piece room)
-  as-told r e =
-      e ∙ numbers found run (held - block) (length part) (length-append (restOf h held block) part ∙ ap (λ (k : ℕ). k + length part) len) (spot run 0 (held - block))
-      ∙ ap numbersOf (sym by-rule)
+  block-is : f .block ≡ size (fed .standing)
+  block-is = ap (λ (x : Found). x .block) came
 
-  pub as-kept : (r : Fed) (h′ : List ℕ) → r ≡ foundNumbers found (length part) (held - block) → h′ ≡ foundKept found run ++ drop (r .held) h
-      → h′ ≡ holdOf (feedLit (restOf h held block) piece room) h
-  as-kept r h′ e k =
-      k
-      ∙ ap₂ (λ (x : List ℕ) (i : ℕ). x ++ drop i h) (kept found run (held - block) ∙ ap (λ (f : Feeding). f .held) (sym by-rule))
-      (ap (λ (f : Fed). f .held) (as-told r e))
+  facts : Call (restOf hold held block) piece room fed
+  facts = call judged (judging .fits) (restOf hold held block) piece room
 
--- ---- the run's end
+  -- none is lost, no more is taken than there is room for, and the block is there whole
+  pub sum : held - block + f .taken ≡ f .passed .skipped + length (fed .held)
+  sum = omega (arith, taken-is, passed-is, facts .sum, rest-length hold held block front fits)
 
-module _ (h : List ℕ) (held block : ℕ) (front : block ≤ held) (fits : held ≤ length h) where
+  pub few : f .taken ≤ min room (length piece)
+  few = omega (arith, taken-is, facts .taken)
+
+  pub whole : f .block ≤ length (fed .held)
+  whole = omega (arith, block-is, facts .front)
+
+  pub told : _≡_ {A = Fed} (record { taken = f .taken; passed = f .passed; held = held - block + f .taken - f .passed .skipped; standing = f .block }) (numbersOf fed)
+  told =
+      let e : held - block + f .taken - f .passed .skipped ≡ length (fed .held) = omega (arith, sum) in
+      ap₂ (λ (x : Found) (k : ℕ). record { taken = x .taken; passed = x .passed; held = k; standing = x .block }) came e
+
+  pub kept : {h : List ℕ}
+      → h ≡ drop (f .passed .skipped) (take (held - block + f .taken) (take (held - block) (drop block hold) ++ piece)) ++ drop (held - block + f .taken - f .passed .skipped) hold
+      → h ≡ holdOf fed hold
+  unfolding restOf
+  kept e =
+      let r = restOf hold held block in
+      let l = rest-length hold held block front fits in
+      let e′ : held - block + f .taken - f .passed .skipped ≡ length (fed .held) = omega (arith, sum) in
+      e
+      ∙ ap₂ (λ (x : List ℕ) (k : ℕ). x ++ drop k hold)
+      (ap₂ (λ (i : ℕ) (x : List ℕ). drop i x) passed-is
+      (ap (λ (k : ℕ). take (k + f .taken) (r ++ piece)) (sym l) ∙ take-append-add r piece (f .taken) ∙ ap (λ (k : ℕ). r ++ take k piece) taken-is)
+      ∙ sym (fed-holds judged piece room r))
+      e′
+
+-- ---- Finish
+
+module _ (h : List ℕ) (held block : ℕ) (front : block ≤ held) (fits : held ≤ length h) (f : Found)
+    (came : f ≡ foundOf (stop (settle judgedLast (restOf h held block)))) where
   abbrev last : Settled
-  last = finishLit (restOf h held block)
+  last = settle judgedLast (restOf h held block)
+
+  end-passed : f .passed .skipped ≡ length (last .passed)
+  end-passed = ap (λ (x : Found). x .passed .skipped) came ∙ counted-skipped (last .passed)
 
   end-len : length (restOf h held block) ≡ held - block
   end-len = rest-length h held block front fits
 
-  pub end-few : last .skipped ≤ held - block
-  end-few = omega (arith, finish-rest (restOf h held block) .few, end-len)
+  pub end-few : f .passed .skipped ≤ held - block
+  end-few = omega (arith, settle-rest judgedLast (restOf h held block) .few, end-len, end-passed)
 
-  end-length : length (last .rest) ≡ held - block - last .skipped
+  end-length : held - block - f .passed .skipped ≡ length (last .rest)
   end-length =
-      ap length (finish-rest (restOf h held block) .is) ∙ length-drop (last .skipped) (restOf h held block) ∙ ap (λ (k : ℕ). k - last .skipped) end-len
+      omega (arith, ap length (settle-rest judgedLast (restOf h held block) .is), length-drop (length (last .passed)) (restOf h held block), end-len, end-passed)
 
-  pub end-front : size (last .standing) ≤ held - block - last .skipped
-  end-front = omega (arith, finish-front (restOf h held block), end-length)
+  pub end-front : f .block ≤ held - block - f .passed .skipped
+  end-front = omega (arith, settle-front judgedLast last-fits (restOf h held block), end-length, ap (λ (x : Found). x .block) came)
 
-  pub end-told : _≡_ {A = Fed} (record { taken = 0; skipped = last .skipped; held = held - block - last .skipped; standing = size (last .standing) }) (numbersOf (stop last))
-  end-told = ap (λ (k : ℕ). record { taken = 0; skipped = last .skipped; held = k; standing = size (last .standing) }) (sym end-length)
+  pub end-told : _≡_ {A = Fed} (record { taken = 0; passed = f .passed; held = held - block - f .passed .skipped; standing = f .block }) (numbersOf (stop last))
+  end-told = ap₂ (λ (x : Found) (k : ℕ). record { taken = 0; passed = x .passed; held = k; standing = x .block }) came end-length
 
-  end-rest : last .rest ≡ take (held - block - last .skipped) (drop (block + last .skipped) h)
+  pub end-kept : {h′ : List ℕ} → h′ ≡ paste h 0 (drop (block + f .passed .skipped) h) (held - block - f .passed .skipped) → h′ ≡ holdOf (stop last) h
   unfolding restOf
-  end-rest = finish-rest (restOf h held block) .is ∙ own h block (held - block) (last .skipped) (omega arith) end-few
-
-  pub end-kept : paste h 0 (drop (block + last .skipped) h) (held - block - last .skipped) ≡ holdOf (stop last) h
-  end-kept =
-      ap₂ (λ (x : List ℕ) (k : ℕ). x ++ drop k h) (sym end-rest) (zero-add (held - block - last .skipped) ∙ sym end-length)
+  end-kept e =
+      e
+      ∙ ap₂ (λ (x : List ℕ) (k : ℕ). x ++ drop k h)
+      (sym
+      (settle-rest judgedLast (restOf h held block) .is ∙ ap (λ (k : ℕ). drop k (restOf h held block)) (sym end-passed)
+      ∙ own h block (held - block) (f .passed .skipped) (omega arith) end-few))
+      (zero-add (held - block - f .passed .skipped) ∙ end-length)
 
 pub goes-on : GoesOn
 unfolding restOf

@@ -4,8 +4,8 @@ use Prim.Native.Nat.{ℕ, _-_, _≤_}
 use mathlib.Core.Path.{_≡_}
 use mathlib.Core.List.{List, _++_}
 use lib.ListN.{length, take, drop}
-use Rattle.frame.specs.Feed.{Feeding}
-use Rattle.frame.specs.Session.{size}
+use Rattle.scan.specs.Feed.{Feeding, size}
+use Rattle.scan.specs.Scan.{counted}
 use Rattle.feed.specs.declared.Fed.{Fed}
 
 -- "drops the block last reported": the held bytes without the standing block
@@ -15,7 +15,7 @@ restOf hold held standing = take (held - standing) (drop standing hold)
 -- the numbers that are given back; 0 for no block
 abbrev pub numbersOf : Feeding → Fed
 numbersOf f =
-    record { taken = f .taken; skipped = f .skipped; held = length (f .held); standing = size (f .standing) }
+    record { taken = f .taken; passed = counted (f .passed); held = length (f .held); standing = size (f .standing) }
 
 -- bytes over the start of a buffer: "Bytes of a store past a copied table keep their values"
 abbrev pub over : List ℕ → List ℕ → List ℕ

@@ -4,19 +4,17 @@ ghost use mathlib.Core.List.{_++_};
 ghost use Prim.Native.Nat.{min, _+_, _-_, _≤_};
 ghost use lib.ListN.{length, take, drop};
 ghost use lib.Seq.{paste};
-ghost use Rattle.frame.specs.Scan.{scanFrom};
-ghost use Rattle.frame.specs.Settle.{finishLit};
-ghost use Rattle.frame.specs.Feed.{feedLit, stop};
+ghost use Rattle.scan.specs.Settle.{settle, judgedLast};
+ghost use Rattle.scan.specs.Feed.{feedLit, stop};
 ghost use Rattle.feed.specs.Hold.{restOf, numbersOf, holdOf, Good, GoesOn};
-ghost use Rattle.feed.specs.Kept.{foundNumbers, foundKept};
-use frame::Found;
+use scan::Passed;
 
 // What a call leaves.
 pub struct Fed {
     // How many bytes of the piece were taken.
     pub taken: usize,
-    // How many bytes were skipped.
-    pub skipped: usize,
+    // What is known of the bytes skipped.
+    pub passed: Passed,
     // How many bytes of the hold count, a standing block among them.
     pub held: usize,
     // The length of the block that stands at the front of the hold, 0 for none.
@@ -83,38 +81,6 @@ fn keep(hold: &mut [u8], standing: usize, n: usize, piece: &[u8], p: usize, m: u
     }
 }
 
-// All of the piece; the promise is by the scan.
-fn take_in(hold: &mut [u8], held: usize, standing: usize, piece: &[u8]) -> Fed
-    requires { ⌜ (standing ≤ held) × (held ≤ 65532) × (65532 ≤ length (now hold)) ⌝ }
-    ensures { λ r. ⌜ r ≡ foundNumbers (scanFrom (restOf (now (hold .entry)) held standing ++ now (piece .entry)) 0 (held - standing)) (length (now (piece .entry))) (held - standing) ⌝ }
-    ensures { λ r. ⌜ now (hold .exit) ≡ foundKept (scanFrom (restOf (now (hold .entry)) held standing ++ now (piece .entry)) 0 (held - standing)) (restOf (now (hold .entry)) held standing ++ now (piece .entry)) ++ drop (r .held) (now (hold .entry)) ⌝ }
-    ensures { λ r. ⌜ Good r (length (now (piece .entry))) ⌝ }
-{
-    let n = held - standing;
-    let found = frame::scan(&hold[standing..held], piece);
-    match found {
-        Found::Block(p, len, m) => {
-            keep(hold, standing, n, piece, p, m);
-            Fed {
-                taken: m - n,
-                skipped: p,
-                held: m - p,
-                standing: len,
-            }
-        }
-        Found::More(p) => {
-            let m = n + piece.len();
-            keep(hold, standing, n, piece, p, m);
-            Fed {
-                taken: m - n,
-                skipped: p,
-                held: m - p,
-                standing: 0,
-            }
-        }
-    }
-}
-
 // Drops the standing block and takes at most `room` bytes of the piece; the promise is by the rule, a byte at a time.
 pub fn feed(hold: &mut [u8], held: usize, standing: usize, piece: &[u8], room: usize) -> Fed
     requires { ⌜ (standing ≤ held) × (held ≤ 65532) × (65532 ≤ length (now hold)) ⌝ }
@@ -122,27 +88,41 @@ pub fn feed(hold: &mut [u8], held: usize, standing: usize, piece: &[u8], room: u
     ensures { λ r. ⌜ now (hold .exit) ≡ holdOf (feedLit (restOf (now (hold .entry)) held standing) (now (piece .entry)) room) (now (hold .entry)) ⌝ }
     ensures { λ r. ⌜ Good r (min room (length (now (piece .entry)))) ⌝ }
 {
+    let n = held - standing;
     let t = lesser(room, piece.len());
-    take_in(hold, held, standing, &piece[..t])
+    let found = scan::scan(&hold[standing..held], &piece[..t]);
+    let passed = found.passed;
+    let p = passed.skipped;
+    let taken = found.taken;
+    let len = found.block;
+    let m = n + taken;
+    keep(hold, standing, n, piece, p, m);
+    Fed {
+        taken: taken,
+        passed: passed,
+        held: m - p,
+        standing: len,
+    }
 }
 
 // Drops the standing block; what is held is read on with nothing to follow.
 pub fn finish(hold: &mut [u8], held: usize, standing: usize) -> Fed
     requires { ⌜ (standing ≤ held) × (held ≤ 65532) × (65532 ≤ length (now hold)) ⌝ }
-    ensures { λ r. ⌜ r ≡ numbersOf (stop (finishLit (restOf (now (hold .entry)) held standing))) ⌝ }
-    ensures { λ r. ⌜ now (hold .exit) ≡ holdOf (stop (finishLit (restOf (now (hold .entry)) held standing))) (now (hold .entry)) ⌝ }
+    ensures { λ r. ⌜ r ≡ numbersOf (stop (settle judgedLast (restOf (now (hold .entry)) held standing))) ⌝ }
+    ensures { λ r. ⌜ now (hold .exit) ≡ holdOf (stop (settle judgedLast (restOf (now (hold .entry)) held standing))) (now (hold .entry)) ⌝ }
     ensures { λ r. ⌜ Good r 0 ⌝ }
 {
-    let end = frame::last(&hold[standing..held]);
-    let p = end.skipped;
-    let b = end.block;
+    let found = scan::last(&hold[standing..held]);
+    let passed = found.passed;
+    let p = passed.skipped;
+    let block = found.block;
     let k = held - standing - p;
     move_down(hold, standing + p, k);
     Fed {
         taken: 0,
-        skipped: p,
+        passed: passed,
         held: k,
-        standing: b,
+        standing: block,
     }
 }
 

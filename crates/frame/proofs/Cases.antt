@@ -12,7 +12,8 @@ use lib.Dec.{ltb, eqb}
 use borrow.Author.Tests.{lt-ltb, le-ltb, eq-eqb, ne-eqb}
 use Rattle.frame.specs.Frame.{lengthAt, allowed, crcRight}
 use Rattle.frame.specs.Judge.{judged}
-use Rattle.frame.specs.declared.Verdict.the-variants.{NoSync, LengthNotAllowed, CrcWrong, Frame, Undecided}
+use Rattle.frame.specs.declared.Reason.the-variants.{NoSync, LengthNotAllowed, CrcWrong}
+use Rattle.frame.specs.declared.Verdict.the-variants.{NoFrame, Frame, Undecided}
 
 module _ (v : List ℕ) where
   pub empty : length v ≡ 0 → judged v ≡ Undecided
@@ -23,7 +24,7 @@ module _ (v : List ℕ) where
     not-empty : eqb (length v) 0 ≡ false
     not-empty = ne-eqb (length v) 0 (λ e. omega arith)
 
-    pub sync0 : (getD v 0 0 ≡ 0x24 → ⊥) → judged v ≡ NoSync 1
+    pub sync0 : (getD v 0 0 ≡ 0x24 → ⊥) → judged v ≡ NoFrame NoSync
     unfolding judged
     sync0 n = simp (not-empty, ne-eqb (getD v 0 0) 0x24 n)
 
@@ -38,7 +39,7 @@ module _ (v : List ℕ) where
     some : eqb (length v) 0 ≡ false
     some = ne-eqb (length v) 0 (λ e. omega arith)
 
-    pub sync1 : (getD v 1 0 ≡ 0x40 → ⊥) → judged v ≡ NoSync 2
+    pub sync1 : (getD v 1 0 ≡ 0x40 → ⊥) → judged v ≡ NoFrame NoSync
     unfolding judged
     sync1 n = simp (some, eq-eqb (getD v 0 0) 0x24 first, not-one, ne-eqb (getD v 1 0) 0x40 n)
 
@@ -49,12 +50,12 @@ module _ (v : List ℕ) where
 
       module _ (eight : 8 ≤ length v) where
         headed : judged v
-            ≡ cond (not (allowed (lengthAt v 0))) LengthNotAllowed
-            (cond (ltb (length v) (lengthAt v 0)) Undecided (cond (crcRight v 0) (Frame (lengthAt v 0)) (CrcWrong (lengthAt v 0))))
+            ≡ cond (not (allowed (lengthAt v 0))) (NoFrame LengthNotAllowed)
+            (cond (ltb (length v) (lengthAt v 0)) Undecided (cond (crcRight v 0) (Frame (lengthAt v 0)) (NoFrame (CrcWrong (lengthAt v 0)))))
         unfolding judged
         headed = simp (some, eq-eqb (getD v 0 0) 0x24 first, not-one, eq-eqb (getD v 1 0) 0x40 second, le-ltb (length v) 8 eight)
 
-        pub bad-length : allowed (lengthAt v 0) ≡ false → judged v ≡ LengthNotAllowed
+        pub bad-length : allowed (lengthAt v 0) ≡ false → judged v ≡ NoFrame LengthNotAllowed
         bad-length e = headed ∙ simp e
 
         module _ (ok : allowed (lengthAt v 0) ≡ true) where
@@ -64,7 +65,7 @@ module _ (v : List ℕ) where
           pub good : lengthAt v 0 ≤ length v → crcRight v 0 ≡ true → judged v ≡ Frame (lengthAt v 0)
           good l e = headed ∙ simp (ok, le-ltb (length v) (lengthAt v 0) l, e)
 
-          pub bad : lengthAt v 0 ≤ length v → crcRight v 0 ≡ false → judged v ≡ CrcWrong (lengthAt v 0)
+          pub bad : lengthAt v 0 ≤ length v → crcRight v 0 ≡ false → judged v ≡ NoFrame (CrcWrong (lengthAt v 0))
           bad l e = headed ∙ simp (ok, le-ltb (length v) (lengthAt v 0) l, e)
 
 -- what is read at a place of w is read of the rest from p

@@ -1,4 +1,4 @@
--- Which case of `judged` a run is in, with what holds there. Bounds, stability and locality are matches on it.
+-- Which case of `judged` a run is in, with what holds there. What a judge must meet is shown by matches on it.
 -- Assumes nothing.
 use mathlib.Core.Path.{_≡_, sym, subst}
 use mathlib.Core.List.{List}
@@ -9,9 +9,10 @@ use lib.ListN.{length, getD}
 use lib.Dec.{leb, eqb}
 use borrow.Author.Tests.{leb-true, eqb-true}
 use Rattle.frame.specs.Frame.{lengthAt, allowed, crcRight}
-use Rattle.frame.specs.Judge.{judged, seen}
+use Rattle.frame.specs.Judge.{judged}
 use Rattle.frame.specs.declared.Verdict.{Verdict}
-use Rattle.frame.specs.declared.Verdict.the-variants.{NoSync, LengthNotAllowed, CrcWrong, Frame, Undecided}
+use Rattle.frame.specs.declared.Reason.the-variants.{NoSync, LengthNotAllowed, CrcWrong}
+use Rattle.frame.specs.declared.Verdict.the-variants.{NoFrame, Frame, Undecided}
 use Rattle.frame.proofs.Tests.{bool?, lt?, eq?, both-left, both-right}
 use Rattle.frame.proofs.Cases.{empty, sync0, one, sync1, short, bad-length, part, good, bad}
 
@@ -34,12 +35,12 @@ allows n e =
     }
 
 pub data View (v : List ℕ) : Verdict → Type 0 where
-  waits-head : length v < 8 → View v Undecided
+  waits-head : length v < 8 → (0 < length v → getD v 0 0 ≡ 0x24) → (1 < length v → getD v 1 0 ≡ 0x40) → View v Undecided
   waits-body : Head v → allowed (lengthAt v 0) ≡ true → length v < lengthAt v 0 → View v Undecided
-  at-sync0 : 0 < length v → (getD v 0 0 ≡ 0x24 → ⊥) → View v (NoSync 1)
-  at-sync1 : 1 < length v → getD v 0 0 ≡ 0x24 → (getD v 1 0 ≡ 0x40 → ⊥) → View v (NoSync 2)
-  at-length : Head v → allowed (lengthAt v 0) ≡ false → View v LengthNotAllowed
-  at-bad : Head v → allowed (lengthAt v 0) ≡ true → lengthAt v 0 ≤ length v → crcRight v 0 ≡ false → View v (CrcWrong (lengthAt v 0))
+  at-sync0 : 0 < length v → (getD v 0 0 ≡ 0x24 → ⊥) → View v (NoFrame NoSync)
+  at-sync1 : 1 < length v → getD v 0 0 ≡ 0x24 → (getD v 1 0 ≡ 0x40 → ⊥) → View v (NoFrame NoSync)
+  at-length : Head v → allowed (lengthAt v 0) ≡ false → View v (NoFrame LengthNotAllowed)
+  at-bad : Head v → allowed (lengthAt v 0) ≡ true → lengthAt v 0 ≤ length v → crcRight v 0 ≡ false → View v (NoFrame (CrcWrong (lengthAt v 0)))
   at-good : Head v → allowed (lengthAt v 0) ≡ true → lengthAt v 0 ≤ length v → crcRight v 0 ≡ true → View v (Frame (lengthAt v 0))
 
 module _ (v : List ℕ) where
@@ -67,41 +68,10 @@ module _ (v : List ℕ) where
       (λ m.
       eq? (getD v 1 0) 0x40
       (λ b.
-      lt? (length v) 8 (λ s. at (short v m a b s) (waits-head s)) (λ g. view-length (record { eight = g; first = a; second = b })))
+      lt? (length v) 8 (λ s. at (short v m a b s) (waits-head s (λ q. a) (λ q. b))) (λ g. view-length (record { eight = g; first = a; second = b })))
       (λ b. at (sync1 v m a b) (at-sync1 m a b)))
-      (λ m. at (one v l a (omega arith)) (waits-head (omega arith))))
+      (λ m. at (one v l a (omega arith)) (waits-head (omega arith) (λ q. a) (λ q. let f : ⊥ = omega arith in absurd f))))
       (λ a. at (sync0 v l a) (at-sync0 l a)))
-      (λ l. at (empty v (omega arith)) (waits-head (omega arith)))
-
-seen-of : (v : List ℕ) {x : Verdict} → View v x → seen x ≤ length v
-seen-of v (waits-head h) = omega arith
-seen-of v (waits-body h a l) = omega arith
-seen-of v (at-sync0 l a) = omega arith
-seen-of v (at-sync1 l a b) = omega arith
-seen-of v (at-length h m) = h .eight
-seen-of v (at-bad h a l q) = l
-seen-of v (at-good h a l q) = l
-
--- what a verdict rests on is there
-pub seen-le : (v : List ℕ) → seen (judged v) ≤ length v
-seen-le v = seen-of v (view v)
-
--- a frame has at least eight bytes
-abbrev pub Big : Verdict → Type 0
-Big (NoSync n) = n ≤ 8
-Big LengthNotAllowed = Unit {0}
-Big (CrcWrong n) = Unit {0}
-Big (Frame n) = 8 ≤ n
-Big Undecided = Unit {0}
-
-big-of : (v : List ℕ) {x : Verdict} → View v x → Big x
-big-of v (waits-head h) = tt
-big-of v (waits-body h a l) = tt
-big-of v (at-sync0 l a) = omega arith
-big-of v (at-sync1 l a b) = omega arith
-big-of v (at-length h m) = tt
-big-of v (at-bad h a l q) = tt
-big-of v (at-good h a l q) = allows (lengthAt v 0) a .not-small
-
-pub big : (v : List ℕ) → Big (judged v)
-big v = big-of v (view v)
+      (λ l.
+      at (empty v (omega arith))
+      (waits-head (omega arith) (λ q. let f : ⊥ = omega arith in absurd f) (λ q. let f : ⊥ = omega arith in absurd f)))

@@ -1,11 +1,2 @@
 pub mod Frame
 pub mod Judge
-pub mod ReadRun
-pub mod Settle
-pub mod Feed
-pub mod SoFar
-pub mod Session
-pub mod Theorems
-pub mod Samples
-pub mod Scan
-pub mod Ending

@@ -6,8 +6,10 @@ use Prim.Native.Nat.{ℕ, _+_, _-_, _≤_}
 use native.Mathlib.Omega.{arith}
 use lib.ListN.{length, take, drop, length-drop}
 use lib.Seq.{length-take-le}
-use Rattle.frame.specs.Feed.{feedLit}
-use Rattle.frame.proofs.Calls.{call}
+use Rattle.frame.specs.Judge.{judged}
+use Rattle.scan.specs.Feed.{feedLit}
+use Rattle.scan.proofs.Stable.{judging}
+use Rattle.scan.proofs.Calls.{call}
 use Rattle.feed.specs.Hold.{restOf}
 use Rattle.reader.specs.State.{limit}
 use Rattle.reader.specs.Said.{Said, refused, version, took, found, ended, waited}
@@ -27,7 +29,7 @@ takenOf (waited w) = 0
 
 few-by : (o : Option ℕ) (s : State) (hold piece h : List ℕ) (room : ℕ) → takenOf (unless o s hold (feedingBy (feedLit h piece room) s hold) .said) ≤ length piece
 few-by (some n) s hold piece h room = omega arith
-few-by none s hold piece h room = omega (arith, call h piece room .taken)
+few-by none s hold piece h room = omega (arith, call judged (judging .fits) h piece room .taken)
 
 pub taken-few : (s : State) (hold piece : List ℕ) → takenOf (feedOf s hold piece .said) ≤ length piece
 unfolding feedOf feedingOf

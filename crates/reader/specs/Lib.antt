@@ -2,3 +2,4 @@ pub mod State
 pub mod Said
 pub mod Refusals
 pub mod Outcome
+pub mod Counting

@@ -4,6 +4,9 @@ ghost use mathlib.Core.Option.{none};
 ghost use Rattle.reader.specs.State.{noCounts, newState, sound};
 ghost use Rattle.reader.specs.Said.{refusalOf};
 ghost use Rattle.reader.specs.Refusals.{isClosed, need};
+
+pub mod after; // after.rt: a run and its counts after a call
+
 use refusal::Refusal;
 
 pub enum Phase {

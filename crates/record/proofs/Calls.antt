@@ -20,14 +20,14 @@ use Rattle.table.proofs.Lists.{every-at, pick-in, pick-out}
 use Rattle.record.specs.declared.Answer.{Answer}
 use Rattle.record.specs.declared.Answer.the-variants as answer
 use Rattle.record.specs.declared.Handed.the-variants as handed
-use Rattle.record.specs.declared.Looked.{Looked}
-use Rattle.record.specs.declared.Looked.the-variants as looked
+use Rattle.block.specs.declared.Looked.{Looked}
+use Rattle.block.specs.declared.Looked.the-variants as looked
 use Rattle.value.specs.Said.{refused}
 use Rattle.record.specs.Answer.{Answers, handedSays}
-use Rattle.record.specs.Block.{revisionIn, subLengthIn, endsBy, bodyFits, meant, Looking, SubFine, SubFineIfAny, SubLooking}
+use Rattle.block.specs.Block.{revisionIn, subLengthIn, endsBy, bodyFits, meant, Looking, SubFine, SubFineIfAny, SubLooking}
 use Rattle.record.specs.Calls.{fieldSaid, fieldOr9, bodyBy, bodyField, subBytes, subBy, subField, partBy, subBlock, numberBy, subBlockRefusal}
 use Rattle.record.proofs.Fields.{same}
-use Rattle.record.proofs.Blocks.{fine-at}
+use Rattle.block.proofs.Blocks.{fine-at}
 
 pub refuses : (x : Refusal) → Answers (answer.Refused x) (refused (numberFor x))
 refuses x = record { says = refl; case = ap answer.Refused (back x) }

@@ -17,7 +17,7 @@ use Rattle.value.specs.Bits.{fieldValue}
 use Rattle.record.specs.declared.Answer.{Answer}
 use Rattle.record.specs.declared.Answer.the-variants.{Field, Refused}
 use Rattle.record.specs.Answer.{caseFor, Answers}
-use Rattle.record.specs.Block.{endsBy}
+use Rattle.block.specs.Block.{endsBy}
 use Rattle.record.specs.Calls.{fieldSaid, stamp}
 
 -- an answer to what is said is one to what is the same

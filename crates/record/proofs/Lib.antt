@@ -1,4 +1,3 @@
 pub mod Fields
 pub mod Parts
-pub mod Blocks
 pub mod Calls

@@ -1,18 +1,13 @@
--- Sub-blocks: the products stay small, and the part that the code takes is the sub-block.
+-- The part of a block that the code takes is the sub-block.
 -- Assumes nothing.
 use mathlib.Core.Path.{_≡_, _∙_}
 use mathlib.Core.List.{List}
-use Prim.Native.Nat.{ℕ, _+_, _-_, _*_, _<_, _≤_}
+use Prim.Native.Nat.{ℕ, _+_, _-_, _*_, _≤_}
 use native.Mathlib.Omega.{arith}
-use native.Mathlib.Nat.{mul-le-mul}
 use lib.ListN.{length, take, drop, length-drop}
 use lib.Seq.{length-take-le}
-use Rattle.record.specs.Block.{subLengthIn}
+use Rattle.block.specs.Block.{subLengthIn}
 use Rattle.record.specs.Calls.{subBytes}
-
--- the product of two bytes
-pub small : (k n : ℕ) → k < 256 → n < 256 → k * n ≤ 65025
-small k n a b = let u : k ≤ 255 = omega arith in let v : n ≤ 255 = omega arith in mul-le-mul u v
 
 module _ (b : List ℕ) (k m : ℕ) (e : m ≡ subLengthIn b) (h : 16 + k * subLengthIn b + subLengthIn b ≤ length b) where
   pub lies : 16 + k * m + m ≤ length b

@@ -16,7 +16,7 @@ abbrev pub answerSays : Answer → Said
 answerSays (answer.Field v) = valueSays v
 answerSays (answer.Refused r) = refused (numberFor r)
 
--- the case for each
+-- the case for what is to be said; for a float's bits it is that of the value
 abbrev pub caseFor : Said → Answer
 caseFor (unsigned n) = answer.Field (Unsigned n)
 caseFor (signed z) = answer.Field (Signed z)

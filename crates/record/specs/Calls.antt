@@ -13,7 +13,7 @@ use Rattle.table.specs.Rows.{Table}
 use Rattle.table.specs.Lookup.{carried}
 use Rattle.value.specs.Said.{Said, notInRevision, refused}
 use Rattle.value.specs.Bits.{fieldValue}
-use Rattle.record.specs.Block.{revisionIn, lengthIn, subLengthIn, Seen, refusedBy, row, seen, seenSub}
+use Rattle.block.specs.Block.{revisionIn, lengthIn, subLengthIn, Seen, refusedBy, row, seen, seenSub}
 
 -- a field in these bytes: "not in this revision", or what it says
 unfoldable pub fieldSaid : ℕ → List ℕ → FieldRow → Said

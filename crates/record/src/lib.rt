@@ -7,14 +7,12 @@ ghost use Rattle.table.specs.Rows.{ends};
 ghost use Rattle.table.specs.Decode.{decode};
 ghost use Rattle.table.specs.Rules.{tableOk};
 ghost use Rattle.record.specs.Answer.{Answers, handedSays};
-ghost use Rattle.record.specs.Block.{endsBy, subLengthIn};
+ghost use Rattle.block.specs.Block.{endsBy, subLengthIn};
 ghost use Rattle.record.specs.Calls.{fieldSaid, bodyField, subBytes, subField, subBlock, subBlockRefusal, towRow, wncRow, stamp};
+use block::Looked;
 use refusal::Refusal;
 use rows::FieldRow;
-use rows::Row;
 use value::Value;
-
-mod block; // block.rt: a block against a table: its row, or why it is refused
 
 pub enum Answer {
     Field(Value),
@@ -25,12 +23,6 @@ pub enum Answer {
 pub enum Handed {
     Refused(Refusal),
     Given,
-}
-
-// The row that a block is read by.
-enum Looked {
-    At(Row),
-    Refused(Refusal),
 }
 
 // A field in these bytes, in which it ends if the revision carries it.
@@ -69,7 +61,7 @@ fn part(block: &[u8], k: usize) -> &[u8]
     ensures { λ r. ⌜ (now r ≡ subBytes (now (block .entry)) k) × (length (now r) ≡ subLengthIn (now (block .entry))) ⌝ }
 {
     let length = block[15];
-    let size = block::wide(length);
+    let size = rows::wide(length);
     let a = 16 + k * size;
     let e = a + size;
     &block[a..e]

@@ -1,33 +1,26 @@
 -- Held bytes that give a block: a scan of them with nothing behind says it.
 -- Assumes nothing.
-use mathlib.Core.Path.{_≡_, refl, sym, ap, _∙_}
-use mathlib.Core.Bool.{true, false}
-use mathlib.Core.List.{List, [], _++_, append-nil}
+use mathlib.Core.Path.{_≡_, refl, ap, _∙_}
+use mathlib.Core.List.{List, []}
 use mathlib.Core.Option.{Option, none, some}
 use Prim.Native.Nat.{ℕ}
 use native.Mathlib.Omega.{arith}
 use lib.ListN.{length}
-use Rattle.frame.specs.Settle.{settle}
-use Rattle.frame.specs.Scan.{scanFrom}
-use Rattle.frame.specs.declared.Found.{Found}
-use Rattle.frame.specs.declared.Found.the-variants.{Block, More}
-use Rattle.frame.proofs.Literal.{foundAs, found0}
+use lib.Dec.{ltb}
+use borrow.Author.Tests.{lt-ltb}
+use Rattle.frame.specs.Judge.{judged}
+use Rattle.scan.specs.Settle.{settle}
+use Rattle.scan.specs.Feed.{feedBy, feedLit, size}
+use Rattle.scan.specs.Scan.{foundOf}
+use Rattle.scan.specs.declared.Found.{Found}
 use Rattle.runs.specs.Refusals.{isSome}
+use Rattle.runs.proofs.Feeding.{WholeIf, fed-whole}
 
-is-block : (o : Option ℕ) (p m : ℕ) {a b c : ℕ} → foundAs o p m ≡ Block a b c → isSome o ≡ true
-is-block none p m e = let z : _≡_ {A = ℕ} 0 1 = cc in let f : ⊥ = omega arith in absurd f
-is-block (some n) p m e = refl
+has-by : (o : Option ℕ) (v : List ℕ) → WholeIf o v → ltb 0 (size o) ≡ isSome o
+has-by none v w = refl
+has-by (some n) v w = lt-ltb 0 n (omega (arith, w .eight))
 
-is-more : (o : Option ℕ) (p m : ℕ) {q : ℕ} → foundAs o p m ≡ More q → isSome o ≡ false
-is-more none p m e = refl
-is-more (some n) p m e = let z : _≡_ {A = ℕ} 0 1 = cc in let f : ⊥ = omega arith in absurd f
-
-module _ (h : List ℕ) {x : Found} (came : x ≡ scanFrom (h ++ []) 0 (length h)) where
-  settled : foundAs (settle h .standing) (settle h .skipped) (length h) ≡ x
-  settled = sym (came ∙ ap (λ (v : List ℕ). scanFrom v 0 (length h)) (append-nil h) ∙ found0 h)
-
-  pub gives : {a b c : ℕ} → x ≡ Block a b c → isSome (settle h .standing) ≡ true
-  gives e = is-block (settle h .standing) (settle h .skipped) (length h) (settled ∙ e)
-
-  pub gives-none : {q : ℕ} → x ≡ More q → isSome (settle h .standing) ≡ false
-  gives-none e = is-more (settle h .standing) (settle h .skipped) (length h) (settled ∙ e)
+-- a length over 0 says that one stands
+pub gives : (h : List ℕ) (x : Found) → x ≡ foundOf (feedLit h [] (length {A = ℕ} [])) → ltb 0 (x .block) ≡ isSome (settle judged h .standing)
+unfolding feedBy
+gives h x e = ap (λ (y : Found). ltb 0 (y .block)) e ∙ has-by (settle judged h .standing) (settle judged h .rest) (fed-whole h [] 0)

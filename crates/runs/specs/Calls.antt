@@ -1,20 +1,19 @@
 -- What Feed, Finish and Bytes answer and leave.
 -- Assumes nothing.
-use Prim.Native.Nat.{ℕ, zero, suc, _+_, _-_}
+use Prim.Native.Nat.{ℕ, _-_}
 use mathlib.Core.List.{List}
 use mathlib.Core.Option.{Option, none, some}
 use lib.ListN.{take}
-use Rattle.frame.specs.Settle.{finishLit}
-use Rattle.frame.specs.Feed.{Feeding, feedLit, stop}
-use Rattle.frame.specs.ReadRun.{blockAt}
+use Rattle.frame.specs.Frame.{idAt, numberOf, revisionOf}
+use Rattle.scan.specs.Settle.{settle, judgedLast}
+use Rattle.scan.specs.Feed.{Feeding, feedLit, stop}
 use Rattle.feed.specs.Hold.{restOf, numbersOf, holdOf}
-use Rattle.feed.specs.declared.Fed.{Fed}
 use Rattle.reader.specs.State.{limit}
 use Rattle.reader.specs.Said.{Report, Said, took, found, ended}
+use Rattle.reader.specs.Counting.{runBy, withRun}
 use Rattle.reader.specs.Outcome.{Outcome, unless, partUnless}
 use Rattle.reader.specs.declared.Phase.{Phase}
 use Rattle.reader.specs.declared.Phase.the-variants as phase
-use Rattle.reader.specs.declared.Counts.{Counts}
 use Rattle.reader.specs.declared.Run.{Run}
 use Rattle.reader.specs.declared.State.{State}
 use Rattle.runs.specs.Refusals.{feedRefusal, finishRefusal, bytesRefusal}
@@ -27,31 +26,15 @@ front r = r .counts .taken - r .held
 
 -- a block of n bytes at the front of v, at the place p
 abbrev pub reported : ℕ → ℕ → List ℕ → Report
-reported p n v = record { place = p; number = blockAt p n v .number; revision = blockAt p n v .revision; size = n }
+reported p n v = record { place = p; number = numberOf (idAt (take n v) 0); revision = revisionOf (idAt (take n v) 0); size = n }
 
 abbrev pub reportIf : Option ℕ → ℕ → List ℕ → Option Report
 reportIf none p v = none
 reportIf (some n) p v = some (reported p n v)
 
--- 1 for a block of so many bytes, 0 for none
-abbrev pub one : ℕ → ℕ
-one zero = 0
-one (suc n) = 1
-
--- what a call did is counted
-abbrev pub counted : Counts → Fed → Counts
-counted c f =
-    record { taken = c .taken + f .taken; blocks = c .blocks + one (f .standing); skipped = c .skipped + f .skipped }
-
 -- the run goes on in a phase by the numbers of what a call did
-abbrev pub runBy : Phase → Run → Fed → Run
-runBy x r f = record { phase = x; held = f .held; standing = f .standing; counts = counted (r .counts) f }
-
 abbrev pub runOn : Phase → Run → Feeding → Run
 runOn x r f = runBy x r (numbersOf f)
-
-abbrev pub withRun : State → Run → State
-withRun s r = record { run = r; «in_force» = s .«in_force»; waiting = s .waiting }
 
 -- "drops the block last reported. .. Answers the count taken, with Block (place, number, revision, length) or More."
 abbrev pub feedingBy : Feeding → State → List ℕ → Outcome
@@ -83,7 +66,7 @@ finishingBy f s hold =
     record { said = finishSaid (f .standing) r (f .held); state = withRun s r; lent = holdOf f hold }
 
 unfoldable pub finishingOf : State → List ℕ → Feeding
-finishingOf s hold = stop (finishLit (restOf hold (s .run .held) (s .run .standing)))
+finishingOf s hold = stop (settle judgedLast (restOf hold (s .run .held) (s .run .standing)))
 
 unfoldable pub finishOf : State → List ℕ → Outcome
 finishOf s hold = unless (finishRefusal s hold) s hold (finishingBy (finishingOf s hold) s hold)

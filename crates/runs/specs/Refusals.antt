@@ -6,7 +6,8 @@ use mathlib.Core.List.{List}
 use mathlib.Core.Option.{Option, none, some}
 use lib.ListN.{length}
 use lib.Dec.{ltb, eqb}
-use Rattle.frame.specs.Settle.{settle}
+use Rattle.frame.specs.Judge.{judged}
+use Rattle.scan.specs.Settle.{settle}
 use Rattle.feed.specs.Hold.{restOf}
 use Rattle.reader.specs.State.{limit, sound}
 use Rattle.reader.specs.Refusals.{need, isClosed, longHold}
@@ -28,7 +29,7 @@ unfoldable pub feedRefusal : State → List ℕ → List ℕ → Option ℕ
 feedRefusal s hold piece =
     need (sound s && longHold hold) 1
     (need (isFeeding (s .run .phase)) 2
-    (need (ltb (s .run .counts .taken) limit || (eqb (length piece) 0 || isSome (settle (restOf hold (s .run .held) (s .run .standing)) .standing))) 3 none))
+    (need (ltb (s .run .counts .taken) limit || (eqb (length piece) 0 || isSome (settle judged (restOf hold (s .run .held) (s .run .standing)) .standing))) 3 none))
 
 -- 2: "Finish without one"
 unfoldable pub finishRefusal : State → List ℕ → Option ℕ

@@ -1,19 +1,22 @@
 // A run that is open: Feed, Finish, and the bytes of the block just reported.
 ghost use mathlib.Core.Path.{_≡_};
 ghost use mathlib.Core.Option.{none};
+ghost use Prim.Native.Nat.{_≤_};
+ghost use lib.ListN.{length};
 ghost use Rattle.reader.specs.Said.{refusalOf};
 ghost use Rattle.reader.specs.Outcome.{outcome};
-ghost use Rattle.runs.specs.Said.{saidFed, saidFinished};
+ghost use Rattle.runs.specs.Said.{reportOf, saidFed, saidFinished};
 ghost use Rattle.runs.specs.Refusals.{feedRefusal, finishRefusal, bytesRefusal};
 ghost use Rattle.runs.specs.Calls.{feedingOf, feedingBy, feedOf, finishingOf, finishingBy, finishOf, bytesOf};
+ghost use Rattle.runs.specs.Code.{reportAt};
 
-mod after; // after.rt: the run, its counts and the block after a call
 mod refusals; // refusals.rt: the refusals of each call, in their order
 
 use reader::Check;
 use reader::Counts;
 use reader::Phase;
 use reader::State;
+use reader::after;
 use refusal::Refusal;
 
 // What is reported of a block.
@@ -48,6 +51,20 @@ pub struct FinishAnswer {
     pub state: State,
 }
 
+// The block of n bytes that stands at the front of the hold, at the place p.
+fn block_at(hold: &[u8], p: usize, n: usize) -> Block
+    requires { ⌜ 6 ≤ length (now hold) ⌝ }
+    ensures { λ r. ⌜ reportOf r ≡ reportAt (now (hold .entry)) p n ⌝ }
+{
+    let id = wire::u2(hold, 4);
+    Block {
+        place: p,
+        number: wire::number(id),
+        revision: wire::revision(id),
+        length: n,
+    }
+}
+
 fn feed_on(s: State, hold: &mut [u8], piece: &[u8]) -> FeedAnswer
     requires { ⌜ feedRefusal s (now hold) (now piece) ≡ none ⌝ }
     ensures { λ r. ⌜ outcome (saidFed (r .answer)) (r .state) (now (hold .exit)) ≡ feedingBy (feedingOf s (now (hold .entry)) (now (piece .entry))) s (now (hold .entry)) ⌝ }
@@ -67,7 +84,7 @@ fn feed_on(s: State, hold: &mut [u8], piece: &[u8]) -> FeedAnswer
             state,
         };
     }
-    let block = after::block_at(hold, next.counts.taken - next.held, len);
+    let block = block_at(hold, next.counts.taken - next.held, len);
     FeedAnswer {
         answer: Fed::Block(taken, block),
         state,
@@ -105,7 +122,7 @@ fn finish_on(s: State, hold: &mut [u8]) -> FinishAnswer
         };
     }
     let next = after::went_on(run, Phase::Finishing, f);
-    let block = after::block_at(hold, next.counts.taken - next.held, len);
+    let block = block_at(hold, next.counts.taken - next.held, len);
     FinishAnswer {
         answer: Finished::Block(block),
         state: after::with_run(s, next),

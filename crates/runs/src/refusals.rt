@@ -3,10 +3,10 @@ ghost use mathlib.Core.Path.{_≡_};
 ghost use Prim.Native.Nat.{_≤_};
 ghost use lib.ListN.{length};
 ghost use Rattle.feed.specs.Hold.{restOf};
-ghost use Rattle.frame.specs.Settle.{settle};
+ghost use Rattle.frame.specs.Judge.{judged};
+ghost use Rattle.scan.specs.Settle.{settle};
 ghost use Rattle.reader.specs.Said.{refusalOf};
 ghost use Rattle.runs.specs.Refusals.{isFeeding, isSome, feedRefusal, finishRefusal, bytesRefusal};
-use frame::Found;
 use reader::Check;
 use reader::Phase;
 use reader::State;
@@ -25,13 +25,10 @@ fn is_feeding(p: Phase) -> bool
 // Whether the held bytes, without the standing block, give a block.
 fn gives_block(hold: &[u8], held: usize, standing: usize) -> bool
     requires { ⌜ (standing ≤ held) × (held ≤ length (now hold)) ⌝ }
-    ensures { λ r. ⌜ r ≡ isSome (settle (restOf (now (hold .entry)) held standing) .standing) ⌝ }
+    ensures { λ r. ⌜ r ≡ isSome (settle judged (restOf (now (hold .entry)) held standing) .standing) ⌝ }
 {
-    let found = frame::scan(&hold[standing..held], b"");
-    match found {
-        Found::Block(_, _, _) => true,
-        Found::More(_) => false,
-    }
+    let found = scan::scan(&hold[standing..held], b"");
+    0 < found.block
 }
 
 // Feed: 1, 2, 3.

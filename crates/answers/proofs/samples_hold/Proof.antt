@@ -8,7 +8,7 @@ use Rattle.table.specs.Lists.{every, first, pick}
 use Rattle.rows.specs.Types.{sizeOf}
 use Rattle.table.specs.Lookup.{findRow}
 use Rattle.value.specs.Bits.{withSign, readAs, isDoNotUse, valueOf, fieldValue}
-use Rattle.record.specs.Block.{bodyFits, subsFit, seenRow, seen, seenSubRow, seenSub}
+use Rattle.block.specs.Block.{bodyFits, subsFit, seenRow, seen, seenSubRow, seenSub}
 use Rattle.record.specs.Calls.{fieldSaid, bodyField, subBytes, subField, subBlock, subBlockRefusal, stamp}
 use Rattle.answers.proofs.samples_hold.Statement.{statement}
 use Rattle.answers.proofs.samples_hold.Tie as tie

@@ -1,47 +1,128 @@
--- `feed::feed` meets its contract: the scan of what may be taken gives what feeding a byte at a time gives.
+-- `feed::feed` meets its contract: the scan of what may be taken gives what feeding a byte at a time gives, and says what is kept.
 -- Assumes nothing.
 use mathlib.Core.Path.{_≡_, sym, ap, _∙_}
-use Prim.Native.Nat.{ℕ}
+use mathlib.Core.List.{List}
+use Prim.Native.Nat.{ℕ, _-_, _+_, _≤_, min}
 use native.Mathlib.Omega.{arith}
-use lib.ListN.{length, take}
+use lib.ListN.{length, drop}
 use lib.Seq.{length-take-le}
-use Rattle.feed.proofs.Literally.{looked, as-told, as-kept}
+use Rattle.scan.specs.Feed.{Feeding, feedLit}
+use Rattle.scan.specs.Scan.{foundOf}
+use Rattle.feed.specs.Hold.{restOf}
+use Rattle.feed.proofs.Bounds.{Bytes, take-bytes, drop-bytes, fed-held}
+use Rattle.feed.proofs.Literally.{roomed, rest-length, sum, few, whole, told, kept}
 use borrow.Author.Needs.{needs}
 use Rattle.feed.proofs.feed.Statement.{statement}
 use Rattle.feed.proofs.feed.Tie as tie
 
+sub-n : tie.Need-sub-n
+sub-n c = search needs
+
 lesser-requires : tie.Need-lesser-requires
 lesser-requires c κs = search needs
 
-slice-aggregate-take-in : tie.Need-slice-aggregate-take-in
-slice-aggregate-take-in c =
-    let a = c .before .before .before .before .before .args in
-    sym (length-take-le (c .before .before .lesser .result) (a .piece .now) (omega arith))
+sub-scan : tie.Need-sub-scan
+sub-scan c = search needs
 
-take-in-requires : tie.Need-take-in-requires
-take-in-requires c κs = search needs
+part-scan-start : tie.Need-part-scan-start
+part-scan-start c = search needs
+
+part-scan-end : tie.Need-part-scan-end
+part-scan-end c = search needs
+
+slice-aggregate-scan : tie.Need-slice-aggregate-scan
+slice-aggregate-scan c =
+    let l = c .before .before .before in
+    sym (length-take-le (l .lesser .result) (l .before .before .before .args .piece .now) (omega arith))
+
+scan-requires : tie.Need-scan-requires
+scan-requires c κs = search needs
+
+abbrev entry : tie.After-scan → tie.Start
+entry s = s .before .before .before .before .before .before .before
+
+-- what is held without the standing block
+abbrev rest : tie.After-scan → List ℕ
+rest s = let a = entry s .args in restOf (a .hold .now) (a .held) (a .standing)
+
+-- what the rule gives
+abbrev fed : tie.After-scan → Feeding
+fed s = feedLit (rest s) (entry s .args .piece .now) (entry s .args .room)
+
+came : (s : tie.After-scan) → s .scan .result ≡ foundOf (fed s)
+unfolding restOf
+came s =
+    let a = entry s .args in
+    let l = s .before .before .before .before .lesser in
+    s .scan .ensures ∙ ap foundOf (roomed (rest s) (a .piece .now) (a .room) (l .result) (l .ensures))
+
+-- none is lost
+adds : (s : tie.After-scan)
+    → entry s .args .held - entry s .args .standing + s .scan .result .taken ≡ s .scan .result .passed .skipped + length (fed s .held)
+adds s = let a = entry s .args in sum (a .hold .now) (a .held) (a .standing) (a .piece .now) (a .room) (omega arith) (omega arith) (s .scan .result) (came s)
+
+takes : (s : tie.After-scan) → s .scan .result .taken ≤ min (entry s .args .room) (length (entry s .args .piece .now))
+takes s = let a = entry s .args in few (a .hold .now) (a .held) (a .standing) (a .piece .now) (a .room) (omega arith) (omega arith) (s .scan .result) (came s)
+
+byte-h : (s : tie.After-scan) → Bytes (entry s .args .hold .now)
+byte-h s i = omega (arith, s .before .before .before .before .before .before .slice-known .given i)
+
+byte-p : (s : tie.After-scan) → Bytes (entry s .args .piece .now)
+byte-p s i = omega (arith, s .before .before .before .before .before .shared-slice-known .given i)
+
+held-few : (s : tie.After-scan) → length (fed s .held) ≤ 65532
+unfolding restOf
+held-few s =
+    let a = entry s .args in
+    fed-held (a .piece .now) (a .room) (rest s)
+    (take-bytes (drop (a .standing) (a .hold .now)) (a .held - a .standing) (drop-bytes (a .hold .now) (a .standing) (byte-h s))) (byte-p s)
+    (omega (arith, rest-length (a .hold .now) (a .held) (a .standing) (omega arith) (omega arith)))
+
+add-m : tie.Need-add-m
+add-m c = omega (arith, takes (c .before))
+
+keep-requires : tie.Need-keep-requires
+keep-requires c κs =
+    let s = c .before .before in
+    let t = takes s in
+    let l = adds s in
+    let f = held-few s in
+    (omega arith, omega arith, omega arith, omega arith, omega arith)
+
+sub-t14 : tie.Need-sub-t14
+sub-t14 c = let l = adds (c .before .before .before .before .before) in omega arith
 
 same-length : tie.Need-same-length
 same-length c = search needs
 
 returns : tie.Need-returns
 returns c =
-    let t = c .before .before in
-    let a = t .before .before .before .before .before .before .args in
-    let m = t .before .before .before in
-    let z = m .lesser .result in
-    let ep : take z (a .piece .now) ≡ take (a .room) (a .piece .now) =
-    ap (λ (k : ℕ). take k (a .piece .now)) (m .lesser .ensures) ∙ looked (a .room) (a .piece .now) in
-    let lp : length (take z (a .piece .now)) ≡ z = length-take-le z (a .piece .now) (omega arith) in
-    let e = t .take-in .ensures in (
-      as-told (a .hold .now) (a .held) (a .standing) (a .piece .now) (a .room) (take z (a .piece .now)) (omega arith) (omega arith) ep (t .take-in .result) (e .0),
+    let s = c .before .before .before .before .before in
+    let a = entry s .args in
+    let t = takes s in
+    let l = adds s in
+    let f = held-few s in
+    let w = whole (a .hold .now) (a .held) (a .standing) (a .piece .now) (a .room) (omega arith) (omega arith) (s .scan .result) (came s) in (
+      told (a .hold .now) (a .held) (a .standing) (a .piece .now) (a .room) (omega arith) (omega arith) (s .scan .result) (came s),
       (
-        as-kept (a .hold .now) (a .held) (a .standing) (a .piece .now) (a .room) (take z (a .piece .now)) (omega arith) (omega arith) ep (t .take-in .result) (t .take-in .last .0) (e .0) (e .1 .0),
-        record { front = e .1 .1 .front; few = e .1 .1 .few; taken = omega (arith, e .1 .1 .taken, m .lesser .ensures) },
+        kept (a .hold .now) (a .held) (a .standing) (a .piece .now) (a .room) (omega arith) (omega arith) (s .scan .result) (came s) (c .before .before .keep .ensures),
+        record { front = omega arith; few = omega arith; taken = t },
       ),
     )
 
 pub feed-spec : {M : Type 1} → statement M
 feed-spec =
     tie.close
-    (tie.spec lesser-requires slice-aggregate-take-in take-in-requires same-length returns)
+    (tie.spec
+    sub-n
+    lesser-requires
+    sub-scan
+    part-scan-start
+    part-scan-end
+    slice-aggregate-scan
+    scan-requires
+    add-m
+    keep-requires
+    sub-t14
+    same-length
+    returns)

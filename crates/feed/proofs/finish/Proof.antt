@@ -1,15 +1,11 @@
 -- `feed::finish` meets its contract: the rule for the run's end, over the held bytes.
 -- Assumes nothing.
-use mathlib.Core.Path.{_≡_, ap, ap₂, _∙_}
-use Prim.Native.Nat.{ℕ, _-_, _+_, _≤_}
+use mathlib.Core.Path.{_≡_}
+use Prim.Native.Nat.{_-_, _≤_}
 use native.Mathlib.Omega.{arith}
-use lib.ListN.{drop}
-use lib.Seq.{paste}
-use Rattle.frame.specs.Settle.{finishLit}
-use Rattle.frame.specs.Session.{size}
-use Rattle.frame.specs.Ending.{endingOf}
-use Rattle.frame.specs.declared.Ending.{Ending}
-use Rattle.feed.specs.declared.Fed.{Fed}
+use Rattle.scan.specs.Settle.{settle, judgedLast}
+use Rattle.scan.specs.Feed.{stop}
+use Rattle.scan.specs.Scan.{foundOf}
 use Rattle.feed.specs.Hold.{restOf}
 use Rattle.feed.proofs.Literally.{end-few, end-front, end-told, end-kept}
 use borrow.Author.Needs.{needs}
@@ -31,46 +27,38 @@ last-requires c κs = search needs
 abbrev entry : tie.After-last → tie.Start
 entry s = s .before .before .before .before
 
-came : (s : tie.After-last) → s .last .result ≡ endingOf (finishLit (restOf (entry s .args .hold .now) (entry s .args .held) (entry s .args .standing)))
+came : (s : tie.After-last) → s .last .result ≡ foundOf (stop (settle judgedLast (restOf (entry s .args .hold .now) (entry s .args .held) (entry s .args .standing))))
 unfolding restOf
 came s = s .last .ensures
 
-few : (s : tie.After-last) → s .last .result .skipped ≤ entry s .args .held - entry s .args .standing
-few s =
-    let a = entry s .args in
-    omega (arith, ap (λ (e : Ending). e .skipped) (came s), end-few (a .hold .now) (a .held) (a .standing) (omega arith) (omega arith))
+few : (s : tie.After-last) → s .last .result .passed .skipped ≤ entry s .args .held - entry s .args .standing
+few s = let a = entry s .args in end-few (a .hold .now) (a .held) (a .standing) (omega arith) (omega arith) (s .last .result) (came s)
 
 sub-k : tie.Need-sub-k
 sub-k c = search needs
 
 sub-k-2 : tie.Need-sub-k-2
-sub-k-2 c = few c
+sub-k-2 c = few (c .before)
 
 add-move-down : tie.Need-add-move-down
-add-move-down c = omega (arith, few (c .before))
+add-move-down c = omega (arith, few (c .before .before))
 
 move-down-requires : tie.Need-move-down-requires
-move-down-requires c κs = omega (arith, few (c .before))
+move-down-requires c κs = omega (arith, few (c .before .before))
 
 same-length : tie.Need-same-length
 same-length c = search needs
 
 returns : tie.Need-returns
 returns c =
-    let s = c .before .before .before .before in
+    let s = c .before .before .before .before .before in
     let a = entry s .args in
-    let end = finishLit (restOf (a .hold .now) (a .held) (a .standing)) in
-    let es : s .last .result .skipped ≡ end .skipped = ap (λ (e : Ending). e .skipped) (came s) in
-    let eb : s .last .result .block ≡ size (end .standing) = ap (λ (e : Ending). e .block) (came s) in
     let f = few s in
-    let g = end-front (a .hold .now) (a .held) (a .standing) (omega arith) (omega arith) in (
-      ap₂ {C = Fed} (λ (i k : ℕ). record { taken = 0; skipped = i; held = a .held - a .standing - i; standing = k }) es eb
-          ∙ end-told (a .hold .now) (a .held) (a .standing) (omega arith) (omega arith),
+    let g = end-front (a .hold .now) (a .held) (a .standing) (omega arith) (omega arith) (s .last .result) (came s) in (
+      end-told (a .hold .now) (a .held) (a .standing) (omega arith) (omega arith) (s .last .result) (came s),
       (
-        c .before .before .move-down .ensures
-            ∙ ap (λ (i : ℕ). paste (a .hold .now) 0 (drop (a .standing + i) (a .hold .now)) (a .held - a .standing - i)) es
-            ∙ end-kept (a .hold .now) (a .held) (a .standing) (omega arith) (omega arith),
-        record { front = omega arith; few = omega arith; taken = omega arith },
+        end-kept (a .hold .now) (a .held) (a .standing) (omega arith) (omega arith) (s .last .result) (came s) (c .before .before .move-down .ensures),
+        record { front = g; few = omega arith; taken = omega arith },
       ),
     )
 

@@ -11,7 +11,8 @@ use lib.Dec.{eqb}
 use borrow.Author.Tests.{eq-eqb, ne-eqb, not-true, not-false}
 use Rattle.crc.specs.Crc.{crcOf}
 use Rattle.frame.specs.Frame.{lengthAt, allowed, crcRight}
-use Rattle.frame.specs.declared.Verdict.the-variants.{CrcWrong, Frame}
+use Rattle.frame.specs.declared.Reason.the-variants.{CrcWrong}
+use Rattle.frame.specs.declared.Verdict.the-variants.{NoFrame, Frame}
 use Rattle.frame.proofs.Cases.{empty, sync0, one, sync1, short, bad-length, part, good, bad}
 use Rattle.frame.proofs.View.{Head, allows}
 use borrow.Author.Needs.{needs}
@@ -148,7 +149,7 @@ returns-9 c =
     (bad (run (start u)) (omega (arith, d .eight)) (d .first) (d .second) (d .eight) (ok (c .before .before .before .before))
     (omega (arith, long (start u), c .before .before .before .if7 .left, u .pair-at .ensures))
     (sums (c .before) ∙ ne-eqb (c .before .pair-at2 .result) (c .before .before .crc-between .result) (c .if8 .left))
-    ∙ ap CrcWrong (sym (u .pair-at .ensures)))
+    ∙ ap (λ (k : ℕ). NoFrame (CrcWrong k)) (sym (u .pair-at .ensures)))
 
 pub judge-spec : {M : Type 1} → statement M
 judge-spec =

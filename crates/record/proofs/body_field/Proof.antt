@@ -1,7 +1,7 @@
 -- `record::body_field` meets its contract: each return is one law of `bodyField`.
 -- Assumes nothing.
 use native.Mathlib.Omega.{arith}
-use Rattle.record.proofs.Blocks.{fine-at}
+use Rattle.block.proofs.Blocks.{fine-at}
 use Rattle.record.proofs.Calls.{body-refused, body-9, body-says, body-ends}
 use borrow.Author.Needs.{needs}
 use Rattle.record.proofs.body_field.Statement.{statement}

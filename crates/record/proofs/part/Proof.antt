@@ -1,7 +1,8 @@
 -- `record::part` meets its contract: the slice is the sub-block, and two bytes have a small product.
 -- Assumes nothing.
 use native.Mathlib.Omega.{arith}
-use Rattle.record.proofs.Parts.{small, lies, part-is}
+use Rattle.block.proofs.Blocks.{small}
+use Rattle.record.proofs.Parts.{lies, part-is}
 use borrow.Author.Needs.{needs}
 use Rattle.record.proofs.part.Statement.{statement}
 use Rattle.record.proofs.part.Tie as tie

@@ -7,7 +7,7 @@ use mathlib.Core.Option.{Option, none, some}
 use Prim.Native.Nat.{ℕ, _-_, _≤_, min}
 use native.Mathlib.Omega.{arith}
 use lib.ListN.{length, drop, length-append, length-drop}
-use Rattle.frame.specs.Feed.{Feeding}
+use Rattle.scan.specs.Feed.{Feeding}
 use Rattle.feed.specs.Hold.{restOf, numbersOf, holdOf, Good}
 use Rattle.feed.specs.declared.Fed.{Fed}
 use Rattle.feed.proofs.Literally.{rest-length}
@@ -15,7 +15,8 @@ use Rattle.reader.specs.State.{limit, sound}
 use Rattle.reader.specs.Said.{Report, took}
 use Rattle.reader.specs.Refusals.{longHold}
 use Rattle.runs.specs.Refusals.{feedRefusal}
-use Rattle.runs.specs.Calls.{reported, reportIf, front, runBy, runOn, withRun, feedingOf}
+use Rattle.reader.specs.Counting.{runBy, withRun}
+use Rattle.runs.specs.Calls.{reported, reportIf, front, runOn, feedingOf}
 use Rattle.runs.specs.Code.{reportAt}
 use Rattle.reader.specs.declared.Phase.the-variants as phase
 use Rattle.reader.specs.declared.Run.{Run}

@@ -9,7 +9,7 @@ use Rattle.reader.specs.declared.State.{State}
 use Rattle.records.specs.Calls.{subBytesOf, subBytesRefusal}
 use Rattle.record.specs.Answer.{handedSays}
 use Rattle.refusal.specs.Numbers.{numberFor}
-use Rattle.record.specs.Block.{subLengthIn}
+use Rattle.block.specs.Block.{subLengthIn}
 use Rattle.record.proofs.Parts.{lies}
 use Rattle.cform.specs.State.{knownSays}
 use Rattle.cform.specs.Answer.{partC}

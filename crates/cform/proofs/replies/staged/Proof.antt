@@ -1,17 +1,45 @@
--- `cform::replies::staged` meets its contract.
+-- `cform::replies::staged` meets its contract: case by case.
 -- Assumes nothing.
+use mathlib.Core.Path.{ap}
+use Rattle.tables.specs.Said.{saidStaged}
+use Rattle.cform.proofs.Replying.{replied}
 use borrow.Author.Needs.{needs}
 use Rattle.cform.proofs.replies.staged.Statement.{statement}
 use Rattle.cform.proofs.replies.staged.Tie as tie
 
-state-c-requires : tie.Need-state-c-requires
-state-c-requires c κs = search needs
+enum-known-a : tie.Need-enum-known-a
+enum-known-a c = search needs
 
-staged-c-requires : tie.Need-staged-c-requires
-staged-c-requires c κs = search needs
+plain-requires : tie.Need-plain-requires
+plain-requires c κs = search needs
+
+reply-requires : tie.Need-reply-requires
+reply-requires c κs = search needs
+
+enum-known-a-2 : tie.Need-enum-known-a-2
+enum-known-a-2 c = search needs
+
+refused-by-requires : tie.Need-refused-by-requires
+refused-by-requires c κs = search needs
+
+reply-requires-2 : tie.Need-reply-requires-2
+reply-requires-2 c κs = search needs
 
 returns : tie.Need-returns
-returns c = rw (c .before .state-c .ensures, c .staged-c .ensures)
+returns c = replied (ap saidStaged (c .before .before .before .a .given .1)) (c .before .plain .ensures) (c .reply .ensures)
+
+returns-2 : tie.Need-returns-2
+returns-2 c = replied (ap saidStaged (c .before .before .before .a2 .given .1)) (c .before .refused-by .ensures) (c .reply2 .ensures)
 
 pub staged-spec : {M : Type 1} → statement M
-staged-spec = tie.close (tie.spec state-c-requires staged-c-requires returns)
+staged-spec =
+    tie.close
+    (tie.spec
+    enum-known-a
+    plain-requires
+    reply-requires
+    enum-known-a-2
+    refused-by-requires
+    reply-requires-2
+    returns
+    returns-2)

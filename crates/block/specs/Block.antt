@@ -1,0 +1,123 @@
+-- A block against a table: its row, or why it is refused (document 01, refusals 10, 6, 7 and 8, in this order).
+-- Assumes nothing.
+use Prim.Native.Nat.{ℕ, _+_, _*_, _≤_, _<_}
+use mathlib.Core.Path.{_≡_}
+use mathlib.Core.List.{List}
+use mathlib.Core.Bool.{Bool, true, not, _&&_, _||_, cond}
+use mathlib.Core.Option.{Option, none, some}
+use lib.ListN.{length, getD}
+use lib.Dec.{ltb, leb, eqb}
+use Rattle.frame.specs.Frame.{idAt, numberOf, revisionOf, wholeFrame}
+use Rattle.refusal.specs.Numbers.{numberFor}
+use Rattle.rows.specs.declared.FieldRow.{FieldRow}
+use Rattle.rows.specs.declared.Row.{Row}
+use Rattle.table.specs.Lists.{every}
+use Rattle.table.specs.Rows.{BlockRow, Table, ends}
+use Rattle.rows.specs.Places.{fieldCount}
+use Rattle.table.specs.Decode.{blockOf, decode}
+use Rattle.table.specs.Lookup.{carried, findRow}
+use Rattle.block.specs.declared.Looked.{Looked}
+use Rattle.block.specs.declared.Looked.the-variants as looked
+
+-- "The low thirteen bits of the ID are the block number, the top three its revision."
+abbrev pub numberIn : List ℕ → ℕ
+numberIn b = numberOf (idAt b 0)
+
+abbrev pub revisionIn : List ℕ → ℕ
+revisionIn b = revisionOf (idAt b 0)
+
+-- L: what is asked of it is asked of a whole frame, which has L bytes
+abbrev pub lengthIn : List ℕ → ℕ
+lengthIn b = length b
+
+-- "exactly two u1 rows at 14 and 15 (N and SBLength)"
+abbrev pub countIn : List ℕ → ℕ
+countIn b = getD b 14 0
+
+abbrev pub subLengthIn : List ℕ → ℕ
+subLengthIn b = getD b 15 0
+
+-- where the revision carries the field, it does not end past n
+abbrev pub endsBy : ℕ → ℕ → FieldRow → Bool
+endsBy revision n f = not (carried revision f) || leb (ends f) n
+
+-- refusal 7 is given where this fails: "a body field that its revision carries ends past L, or L is below 14"
+unfoldable pub bodyFits : List ℕ → BlockRow → Bool
+bodyFits b r = leb 14 (lengthIn b) && every (endsBy (revisionIn b) (lengthIn b)) (r .body)
+
+abbrev pub hasSubs : BlockRow → Bool
+hasSubs r = not (eqb (length (r .subs)) 0)
+
+-- refusal 8 is given where this fails: "the block's row has sub-fields, and either N is over 0 and a carried sub-field ends past SBLength,
+-- or 16 + N x SBLength is over L"
+unfoldable pub subsFit : List ℕ → BlockRow → Bool
+subsFit b r =
+    not (hasSubs r)
+    || (eqb (countIn b) 0 || every (endsBy (revisionIn b) (subLengthIn b)) (r .subs)) && leb (16 + countIn b * subLengthIn b) (lengthIn b)
+
+-- the row that a block is read by, or the number of a refusal
+pub data Seen : Type 0 where
+  refusedBy : ℕ → Seen
+  row : BlockRow → Seen
+
+-- 6: "the block's number is not in the table"; 7; 8
+unfoldable pub seenRow : List ℕ → Option BlockRow → Seen
+seenRow b none = refusedBy 6
+seenRow b (some r) = cond (bodyFits b r) (cond (subsFit b r) (row r) (refusedBy 8)) (refusedBy 7)
+
+-- 10: "the bytes given to a record call are not one whole frame"
+unfoldable pub seen : Table → List ℕ → Seen
+seen tab b = cond (wholeFrame b) (seenRow b (findRow tab (numberIn b))) (refusedBy 10)
+
+-- the sub-blocks of a block: N, where its row has sub-fields
+abbrev pub subCount : List ℕ → BlockRow → ℕ
+subCount b r = cond (hasSubs r) (countIn b) 0
+
+-- 9: "no such sub-block"
+unfoldable pub seenSubRow : List ℕ → ℕ → Seen → Seen
+seenSubRow b k (refusedBy n) = refusedBy n
+seenSubRow b k (row r) = cond (ltb k (subCount b r)) (row r) (refusedBy 9)
+
+unfoldable pub seenSub : Table → List ℕ → ℕ → Seen
+seenSub tab b k = seenSubRow b k (seen tab b)
+
+-- the row or the number that the code's answer means
+abbrev pub meant : List ℕ → Looked → Seen
+meant t (looked.At r) = row (blockOf t r)
+meant t (looked.Refused x) = refusedBy (numberFor x)
+
+-- what a caller may use of a row that was found: its field rows are there, N and SBLength too, and the block passed
+pub record Fine (t b : List ℕ) (r : Row) : Type 0 where
+  pub inside : r .start + r .bodies + r .subs ≤ fieldCount t
+  pub long : 16 ≤ length b
+  pub body : bodyFits b (blockOf t r) ≡ true
+  pub subs : subsFit b (blockOf t r) ≡ true
+
+abbrev pub FineIfAny : List ℕ → List ℕ → Looked → Type 0
+FineIfAny t b (looked.At r) = Fine t b r
+FineIfAny t b (looked.Refused x) = Unit
+
+-- of a row whose block is a whole frame: what refusals 7 and 8 make of it
+pub record Judging (t b : List ℕ) (r : Row) (l : Looked) : Type 0 where
+  pub is : meant t l ≡ seenRow b (some (blockOf t r))
+  pub fine : FineIfAny t b l
+
+pub record Looking (t b : List ℕ) (l : Looked) : Type 0 where
+  pub is : meant t l ≡ seen (decode t) b
+  pub fine : FineIfAny t b l
+
+-- of a sub-block that is there: it lies in the block, and its carried fields lie in it
+pub record SubFine (t b : List ℕ) (k : ℕ) (r : Row) : Type 0 where
+  pub inside : r .start + r .bodies + r .subs ≤ fieldCount t
+  pub long : 16 ≤ length b
+  pub within : 16 + k * subLengthIn b + subLengthIn b ≤ length b
+  pub few : k < 256
+  pub fields : every (endsBy (revisionIn b) (subLengthIn b)) (blockOf t r .subs) ≡ true
+
+abbrev pub SubFineIfAny : List ℕ → List ℕ → ℕ → Looked → Type 0
+SubFineIfAny t b k (looked.At r) = SubFine t b k r
+SubFineIfAny t b k (looked.Refused x) = Unit
+
+pub record SubLooking (t b : List ℕ) (k : ℕ) (l : Looked) : Type 0 where
+  pub is : meant t l ≡ seenSub (decode t) b k
+  pub fine : SubFineIfAny t b k l

@@ -1,0 +1,116 @@
+-- When a place is decided, while the run is fed and when it is finished.
+-- Assumes nothing.
+use mathlib.Core.Path.{_≡_, refl}
+use mathlib.Core.List.{List}
+use mathlib.Core.Bool.{Bool, true, false, cond, _&&_}
+use Prim.Native.Nat.{ℕ, _<_}
+use native.Mathlib.Omega.{arith}
+use lib.ListN.{length, getD, List·getD-eq-default}
+use lib.Dec.{ltb, eqb}
+use borrow.Author.Tests.{eq-eqb, ne-eqb, ltb-true, ltb-false}
+use Rattle.frame.specs.Frame.{syncAt, lengthAt}
+use Rattle.frame.specs.declared.Reason.the-variants.{NoSync, LengthNotAllowed, CrcWrong, FewLeft, PastEnd}
+use Rattle.frame.specs.declared.Verdict.{Verdict}
+use Rattle.frame.specs.declared.Verdict.the-variants.{NoFrame, Frame, Undecided}
+use Rattle.frame.proofs.Tests.{bool?, both-true, never}
+use Rattle.frame.proofs.View.{Head, View, waits-head, waits-body, at-sync0, at-sync1, at-length, at-bad, at-good, view}
+use Rattle.scan.specs.Settle.{lastBy, judgedLast}
+use Rattle.scan.proofs.Stable.{last-decides, frame-last, last-frame}
+use Rattle.framing.specs.Theorems.{Decided, first-wrong, second-wrong, length-wrong, all-there, DecidedExactly, LastRight}
+
+-- ---- while the run is fed
+
+once-by : (v : List ℕ) {x : Verdict} → View v x → Decided v → x ≡ Undecided → ⊥
+once-by v (waits-head h f s) (first-wrong l n) e = n (f l)
+once-by v (waits-head h f s) (second-wrong l n) e = n (s l)
+once-by v (waits-head h f s) (length-wrong l n) e = omega arith
+once-by v (waits-head h f s) (all-there l n) e = omega arith
+once-by v (waits-body h a l) (first-wrong m n) e = n (h .first)
+once-by v (waits-body h a l) (second-wrong m n) e = n (h .second)
+once-by v (waits-body h a l) (length-wrong m n) e = never a n
+once-by v (waits-body h a l) (all-there m n) e = omega arith
+once-by v (at-sync0 l a) d e = let z : _≡_ {A = ℕ} 0 1 = cc in omega arith
+once-by v (at-sync1 l a b) d e = let z : _≡_ {A = ℕ} 0 1 = cc in omega arith
+once-by v (at-length h a) d e = let z : _≡_ {A = ℕ} 0 1 = cc in omega arith
+once-by v (at-bad h a l q) d e = let z : _≡_ {A = ℕ} 0 1 = cc in omega arith
+once-by v (at-good h a l q) d e = let z : _≡_ {A = ℕ} 0 1 = cc in omega arith
+
+before-by : (v : List ℕ) {x : Verdict} → View v x → (x ≡ Undecided → ⊥) → Decided v
+before-by v (waits-head h f s) n = absurd (n refl)
+before-by v (waits-body h a l) n = absurd (n refl)
+before-by v (at-sync0 l a) n = first-wrong l a
+before-by v (at-sync1 l a b) n = second-wrong l b
+before-by v (at-length h a) n = length-wrong (h .eight) a
+before-by v (at-bad h a l q) n = all-there (h .eight) l
+before-by v (at-good h a l q) n = all-there (h .eight) l
+
+pub decided-exactly : DecidedExactly
+decided-exactly = record { once = λ v d. once-by v (view v) d; not-before = λ v n. before-by v (view v) n }
+
+-- ---- when it is finished
+
+and-false : (a : Bool) → (a && false) ≡ false
+and-false true = refl
+and-false false = refl
+
+paired : (v : List ℕ) → getD v 0 0 ≡ 0x24 → getD v 1 0 ≡ 0x40 → syncAt v 0 ≡ true
+unfolding syncAt
+paired v e f = both-true (eq-eqb (getD v 0 0) 0x24 e) (eq-eqb (getD v 1 0) 0x40 f)
+
+no-first : (v : List ℕ) → (getD v 0 0 ≡ 0x24 → ⊥) → syncAt v 0 ≡ false
+unfolding syncAt
+no-first v n = simp (ne-eqb (getD v 0 0) 0x24 n)
+
+no-second : (v : List ℕ) → (getD v 1 0 ≡ 0x40 → ⊥) → syncAt v 0 ≡ false
+unfolding syncAt
+no-second v n = simp (ne-eqb (getD v 1 0) 0x40 n) (and-false (eqb (getD v 0 0) 0x24))
+
+-- with the pair the reason is another, without it it is this
+pub record Pair (v : List ℕ) (x : Verdict) : Type 0 where
+  pub with : syncAt v 0 ≡ true → x ≡ NoFrame NoSync → ⊥
+  pub without : syncAt v 0 ≡ false → x ≡ NoFrame NoSync
+
+other : (v : List ℕ) (x : Verdict) → syncAt v 0 ≡ true → (x ≡ NoFrame NoSync → ⊥) → Pair v x
+other v x e n = record { with = λ q. n; without = λ q. never e q }
+
+this : (v : List ℕ) → syncAt v 0 ≡ false → Pair v (NoFrame NoSync)
+this v e = record { with = λ q. never q e; without = λ q. refl }
+
+head-pair : (v : List ℕ) → Head v → syncAt v 0 ≡ true
+head-pair v h = paired v (h .first) (h .second)
+
+few-by : (v : List ℕ) (a b : Bool) → ltb (length v) 2 ≡ a → (a ≡ true → syncAt v 0 ≡ false) → (a ≡ false → syncAt v 0 ≡ true)
+    → Pair v (NoFrame (cond a NoSync (cond b FewLeft PastEnd)))
+few-by v true b e f g = this v (f refl)
+few-by v false true e f g = other v (NoFrame FewLeft) (g refl) (λ q. let z : _≡_ {A = ℕ} 0 1 = cc in omega arith)
+few-by v false false e f g = other v (NoFrame PastEnd) (g refl) (λ q. let z : _≡_ {A = ℕ} 0 1 = cc in omega arith)
+
+lone : (v : List ℕ) → length v < 2 → syncAt v 0 ≡ false
+lone v l = no-second v (λ e. omega (arith, List·getD-eq-default v 0 {n = 1} (omega arith)))
+
+pair-by : (v : List ℕ) {x : Verdict} → View v x → Pair v (lastBy x v)
+pair-by v (waits-head h f s) =
+    few-by v (ltb (length v) 2) (ltb (length v) 8) refl (λ e. lone v (ltb-true (length v) 2 e))
+    (λ e. let l = ltb-false (length v) 2 e in paired v (f (omega arith)) (s (omega arith)))
+pair-by v (waits-body h a l) =
+    few-by v (ltb (length v) 2) (ltb (length v) 8) refl (λ e. let q = ltb-true (length v) 2 e in let z : ⊥ = omega (arith, h .eight) in absurd z)
+    (λ e. head-pair v h)
+pair-by v (at-sync0 l a) = this v (no-first v a)
+pair-by v (at-sync1 l a b) = this v (no-second v b)
+pair-by v (at-length h a) = other v (NoFrame LengthNotAllowed) (head-pair v h) (λ q. let z : _≡_ {A = ℕ} 0 1 = cc in omega arith)
+pair-by v (at-bad h a l q) = other v (NoFrame (CrcWrong (lengthAt v 0))) (head-pair v h) (λ q. let z : _≡_ {A = ℕ} 0 1 = cc in omega arith)
+pair-by v (at-good h a l q) = other v (Frame (lengthAt v 0)) (head-pair v h) (λ q. let z : _≡_ {A = ℕ} 0 1 = cc in omega arith)
+
+last-pair : (v : List ℕ) → Pair v (judgedLast v)
+unfolding judgedLast
+last-pair v = pair-by v (view v)
+
+pub last-right : LastRight
+last-right =
+    record {
+      decides = last-decides;
+      frame = frame-last;
+      stands = last-frame;
+      no-pair = λ v e. last-pair v .without e;
+      pair = λ v e. bool? (syncAt v 0) (λ t. absurd (last-pair v .with t e)) (λ f. f);
+    }

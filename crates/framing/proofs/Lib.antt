@@ -1,0 +1,4 @@
+pub mod Standing
+pub mod Deciding
+pub mod Reading
+pub mod Calls

@@ -1,0 +1,37 @@
+// What holds of the rules of framing, by proof: each theorem is a function with no code.
+ghost use Rattle.framing.specs.Theorems.{JudgedRight, DecidedExactly, DecidedStays, LastRight, ReadByTheRule, MoreDecidesAll, BlockDecidesNoMore};
+
+// A place is judged a frame exactly where one stands.
+pub fn judged_right()
+    ensures { λ _. ⌜ JudgedRight ⌝ }
+{}
+
+// A place is decided exactly when the bytes are there that the rule names.
+pub fn decided_exactly()
+    ensures { λ _. ⌜ DecidedExactly ⌝ }
+{}
+
+// Once a place is decided, bytes that follow do not change it.
+pub fn decided_stays()
+    ensures { λ _. ⌜ DecidedStays ⌝ }
+{}
+
+// When the run is finished all is decided: a frame where one was, and no sync pair where there is none.
+pub fn last_right()
+    ensures { λ _. ⌜ LastRight ⌝ }
+{}
+
+// A run is read by the rule of document 01.
+pub fn read_by_the_rule()
+    ensures { λ _. ⌜ ReadByTheRule ⌝ }
+{}
+
+// Where Feed answers More, all that can be decided has been.
+pub fn more_decides_all()
+    ensures { λ _. ⌜ MoreDecidesAll ⌝ }
+{}
+
+// Where Feed reports a block, nothing behind it has been decided.
+pub fn block_decides_no_more()
+    ensures { λ _. ⌜ BlockDecidesNoMore ⌝ }
+{}

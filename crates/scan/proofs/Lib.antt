@@ -1,0 +1,10 @@
+pub mod Judging
+pub mod Stable
+pub mod Settling
+pub mod Marks
+pub mod Calls
+pub mod Literal
+pub mod Scanning
+pub mod Eights
+pub mod Starts
+pub mod Places

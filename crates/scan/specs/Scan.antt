@@ -1,0 +1,74 @@
+-- What the code says of the bytes passed and of what it found, and working definitions for its scan, which only inner functions cite.
+-- Assumes nothing.
+use mathlib.Core.Path.{_≡_}
+use Prim.Native.Nat.{ℕ, _+_, _≤_, _<_, max}
+use mathlib.Core.List.{List, [], _∷_, _++_}
+use mathlib.Core.Option.{Option, none, some}
+use lib.ListN.{length, getD}
+use Rattle.scan.specs.Settle.{Settled}
+use Rattle.scan.specs.Feed.{Feeding, size}
+use Rattle.frame.specs.declared.Reason.{Reason}
+use Rattle.frame.specs.declared.Reason.the-variants.{NoSync, LengthNotAllowed, CrcWrong, FewLeft, PastEnd}
+use Rattle.frame.specs.declared.Verdict.{Verdict}
+use Rattle.scan.specs.declared.Passed.{Passed}
+use Rattle.scan.specs.declared.Found.{Found}
+use Rattle.scan.specs.declared.Part.{Part}
+use Rattle.scan.specs.declared.Part.the-variants.{Block, Waits, Through}
+
+-- ---- the bytes passed, counted
+
+-- one more is passed, for a reason
+abbrev pub count : Passed → Reason → Passed
+count a r = record { skipped = a .skipped + 1 }
+
+unfoldable pub countAll : Passed → List Reason → Passed
+countAll a [] = a
+countAll a (r ∷ rs) = countAll (count a r) rs
+
+abbrev pub counted : List Reason → Passed
+counted rs = countAll (record { skipped = 0 }) rs
+
+abbrev pub foundOf : Feeding → Found
+foundOf f = record { taken = f .taken; passed = counted (f .passed); block = size (f .standing) }
+
+-- ---- a part of the run
+
+-- a judge of the places of a part, with `rest` behind it
+abbrev pub behind : (List ℕ → Verdict) → List ℕ → List ℕ → Verdict
+behind judge rest v = judge (v ++ rest)
+
+-- how many bytes had to be taken to pass the place p, where m had to be before. Only a wrong CRC raises the mark: a block has at least
+-- the eight bytes that another verdict rests on
+abbrev pub raised : Reason → ℕ → ℕ → ℕ
+raised NoSync p m = m
+raised LengthNotAllowed p m = m
+raised (CrcWrong n) p m = max m (p + n)
+raised FewLeft p m = m
+raised PastEnd p m = m
+
+unfoldable pub marks : ℕ → ℕ → List Reason → ℕ
+marks p m [] = m
+marks p m (r ∷ rs) = marks (p + 1) (raised r p m) rs
+
+abbrev pub partBy : Option ℕ → List ℕ → Passed → ℕ → Part
+partBy (some n) v a m = Block a n (max m (a .skipped + n))
+partBy none (b ∷ bs) a m = Waits a
+partBy none [] a m = Through a m
+
+-- a part settled, where a was passed before and m bytes had to be taken
+abbrev pub partOf : Settled → Passed → ℕ → Part
+partOf s a m = partBy (s .standing) (s .rest) (countAll a (s .passed)) (marks (a .skipped) m (s .passed))
+
+-- ---- places where no frame can start
+
+-- from i up to r no first sync byte stands
+pub record NoDollar (s : List ℕ) (i r : ℕ) : Type 0 where
+  pub from : i ≤ r
+  pub within : r ≤ length s
+  pub none : (k : ℕ) → i ≤ k → k < r → getD s k 0 ≡ 0x24 → ⊥
+
+-- from i up to r no first sync byte stands with its second behind it, or with nothing behind it
+pub record NoStart (s : List ℕ) (i r : ℕ) : Type 0 where
+  pub from : i ≤ r
+  pub within : r ≤ length s
+  pub none : (k : ℕ) → i ≤ k → k < r → getD s k 0 ≡ 0x24 → (k + 1 < length s) × (getD s (k + 1) 0 ≡ 0x40 → ⊥)

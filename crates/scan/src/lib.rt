@@ -1,0 +1,187 @@
+// Reading a run from place to place, up to the first block. The run lies in two slices: the held bytes, then the piece.
+ghost use mathlib.Core.Path.{_≡_};
+ghost use Prim.Native.Nat.{max, _+_, _≤_, _<_};
+ghost use lib.ListN.{length};
+ghost use Rattle.frame.specs.Judge.{judged};
+ghost use Rattle.scan.specs.Settle.{settle, judgedLast};
+ghost use Rattle.scan.specs.Feed.{feedLit, stop};
+ghost use Rattle.scan.specs.Scan.{NoDollar, NoStart, foundOf, behind, partOf};
+use frame::Reason;
+use frame::Verdict;
+
+// What is known of the places passed over.
+pub struct Passed {
+    pub skipped: usize,
+}
+
+// What a scan comes to.
+pub struct Found {
+    // How many bytes of the piece had to be taken.
+    pub taken: usize,
+    pub passed: Passed,
+    // The length of the block behind the bytes passed, 0 for none.
+    pub block: usize,
+}
+
+// What the places of a part come to.
+pub enum Part {
+    // A block of so many bytes behind those passed, and how many bytes of the run had to be taken.
+    Block(Passed, usize, usize),
+    // The place behind those passed is not decided.
+    Waits(Passed),
+    // All are passed, and so many bytes had to be taken.
+    Through(Passed, usize),
+}
+
+fn greater(a: usize, b: usize) -> usize
+    ensures { λ r. ⌜ r ≡ max a b ⌝ }
+{
+    if a < b { b } else { a }
+}
+
+// Passes groups of eight bytes from i on, as long as no first sync byte stands in them: eight tests, one branch.
+fn skip_eights(s: &[u8], i: usize) -> usize
+    requires { ⌜ i ≤ length (now s) ⌝ }
+    ensures { λ r. ⌜ NoDollar (now (s .entry)) i r ⌝ }
+{
+    let mut k = i;
+    while 8 <= s.len() - k {
+        let low = (s[k] == 0x24) | (s[k + 1] == 0x24) | (s[k + 2] == 0x24) | (s[k + 3] == 0x24);
+        let high = (s[k + 4] == 0x24)
+            | (s[k + 5] == 0x24)
+            | (s[k + 6] == 0x24)
+            | (s[k + 7] == 0x24);
+        if low | high {
+            return k;
+        }
+        k += 8;
+    }
+    k
+}
+
+// The first place from i on that may be a frame's start, or the end: no sync stands at the places passed.
+fn start_from(s: &[u8], i: usize) -> usize
+    requires { ⌜ i ≤ length (now s) ⌝ }
+    ensures { λ r. ⌜ NoStart (now (s .entry)) i r ⌝ }
+{
+    let mut k = skip_eights(s, i);
+    while k < s.len() {
+        let next = k + 1;
+        if s[k] == 0x24 {
+            if next == s.len() {
+                return k;
+            }
+            if s[next] == 0x40 {
+                return k;
+            }
+            k = skip_eights(s, next);
+            continue;
+        }
+        k = next;
+    }
+    k
+}
+
+// The places of `s`, with `rest` behind it; `before` are passed, for which `mark` bytes had to be taken.
+fn scan_part(s: &[u8], rest: &[u8], before: Passed, mark: usize) -> Part
+    requires { ⌜ before .skipped + length (now s) + length (now rest) < 18446744073709551616 ⌝ }
+    ensures { λ r. ⌜ r ≡ partOf (settle (behind judged (now (rest .entry))) (now (s .entry))) before mark ⌝ }
+{
+    let from = before.skipped;
+    let mut k: usize = 0;
+    let mut m = mark;
+    while k < s.len() {
+        let p = start_from(s, k);
+        if p == s.len() {
+            return Part::Through(Passed { skipped: from + p }, m);
+        }
+        let v = frame::judge(&s[p..], rest);
+        match v {
+            Verdict::Frame(n) => {
+                return Part::Block(Passed { skipped: from + p }, n, greater(m, from + p + n));
+            }
+            Verdict::Undecided => {
+                return Part::Waits(Passed { skipped: from + p });
+            }
+            Verdict::NoFrame(why) => match why {
+                Reason::CrcWrong(n) => {
+                    m = greater(m, from + p + n);
+                    // And not p + n: a false header must not swallow the blocks behind it.
+                    k = 1 + p;
+                }
+                _ => {
+                    k = p + 1;
+                }
+            },
+        }
+    }
+    Part::Through(Passed { skipped: from + k }, m)
+}
+
+// The held bytes and then the piece, up to the first block or the place that is not decided; the promise is by the rule, a byte at a time.
+pub fn scan(held: &[u8], piece: &[u8]) -> Found
+    ensures { λ r. ⌜ r ≡ foundOf (feedLit (now (held .entry)) (now (piece .entry)) (length (now (piece .entry)))) ⌝ }
+{
+    let n = held.len();
+    let all = piece.len();
+    match scan_part(held, piece, Passed { skipped: 0 }, n) {
+        Part::Block(passed, len, m) => Found {
+            taken: m - n,
+            passed: passed,
+            block: len,
+        },
+        Part::Waits(passed) => Found {
+            taken: all,
+            passed: passed,
+            block: 0,
+        },
+        Part::Through(before, mark) => match scan_part(piece, b"", before, mark) {
+            Part::Block(passed, len, m) => Found {
+                taken: m - n,
+                passed: passed,
+                block: len,
+            },
+            Part::Waits(passed) => Found {
+                taken: all,
+                passed: passed,
+                block: 0,
+            },
+            Part::Through(passed, _) => Found {
+                taken: all,
+                passed: passed,
+                block: 0,
+            },
+        },
+    }
+}
+
+// The held bytes, which are the run's last, up to the first block.
+pub fn last(held: &[u8]) -> Found
+    ensures { λ r. ⌜ r ≡ foundOf (stop (settle judgedLast (now (held .entry)))) ⌝ }
+{
+    let mut k: usize = 0;
+    while k < held.len() {
+        let p = start_from(held, k);
+        if p == held.len() {
+            return Found {
+                taken: 0,
+                passed: Passed { skipped: p },
+                block: 0,
+            };
+        }
+        let v = frame::judge(&held[p..], b"");
+        if let Verdict::Frame(n) = v {
+            return Found {
+                taken: 0,
+                passed: Passed { skipped: p },
+                block: n,
+            };
+        }
+        k = p + 1;
+    }
+    Found {
+        taken: 0,
+        passed: Passed { skipped: k },
+        block: 0,
+    }
+}
