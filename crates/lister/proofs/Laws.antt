@@ -13,8 +13,9 @@ use Rattle.scan.proofs.Calls.{call}
 use Rattle.feed.specs.Hold.{restOf}
 use Rattle.reader.specs.State.{limit}
 use Rattle.reader.specs.Said.{Said, refused, version, took, found, ended, waited}
-use Rattle.reader.specs.Refusals.{feedRefusal}
-use Rattle.reader.specs.Calls.{Outcome, unless, feedingBy, feedingOf, feedOf}
+use Rattle.runs.specs.Refusals.{feedRefusal}
+use Rattle.reader.specs.Outcome.{Outcome, unless}
+use Rattle.runs.specs.Calls.{feedingBy, feedingOf, feedOf}
 use Rattle.reader.specs.declared.State.{State}
 
 -- how many bytes an answer says were taken
@@ -23,7 +24,7 @@ takenOf (refused n) = 0
 takenOf (version v) = 0
 takenOf (took t r) = t
 takenOf (found r) = 0
-takenOf (ended n b s) = 0
+takenOf (ended c) = 0
 takenOf (waited w) = 0
 
 few-by : (o : Option ℕ) (s : State) (hold piece h : List ℕ) (room : ℕ) → takenOf (unless o s hold (feedingBy (feedLit h piece room) s hold) .said) ≤ length piece
@@ -32,7 +33,7 @@ few-by none s hold piece h room = omega (arith, call judged (judging .fits) h pi
 
 pub taken-few : (s : State) (hold piece : List ℕ) → takenOf (feedOf s hold piece .said) ≤ length piece
 unfolding feedOf feedingOf
-taken-few s hold piece = few-by (feedRefusal s hold piece) s hold piece (restOf hold (s .run .held) (s .run .standing)) (limit - s .run .taken)
+taken-few s hold piece = few-by (feedRefusal s hold piece) s hold piece (restOf hold (s .run .held) (s .run .standing)) (limit - s .run .counts .taken)
 
 -- a place in a piece, and what is taken from there on
 pub within : (piece : List ℕ) (at t : ℕ) → at ≤ length piece → t ≤ length (take (length piece - at) (drop at piece)) → at + t ≤ length piece

@@ -2,23 +2,13 @@
 ghost use Prim.Native.Nat.{_+_, _≤_};
 ghost use lib.ListN.{length};
 ghost use mathlib.Core.Path.{_≡_};
-use libc::STDERR_FILENO;
-use libc::STDIN_FILENO;
-use libc::STDOUT_FILENO;
-use reader::Block;
-use reader::Fed;
-use reader::Finished;
-use reader::Opened;
+use console::Course;
+use reader::Counts;
 use reader::State;
-
-// Why reading stops.
-pub enum Course {
-    GoesOn,
-    InputEnded,
-    RunFull,
-    ReadFailed,
-    WriteFailed,
-}
+use runs::Block;
+use runs::Fed;
+use runs::Finished;
+use tables::Opened;
 
 // Between two calls: the reader's state, how many bytes of the output buffer wait to be written, and whether to go on.
 pub struct Listing {
@@ -32,40 +22,6 @@ pub struct Called {
     pub taken: usize,
     pub done: bool,
     pub listing: Listing,
-}
-
-// How many bytes wait after a line, and whether writing went well.
-pub struct Line {
-    pub filled: usize,
-    pub written: bool,
-}
-
-fn tell(words: &[u8]) {
-    io::write_all(STDERR_FILENO, words);
-}
-
-// Writes the first n bytes.
-fn write(out: &[u8], n: usize) -> bool
-    requires { ⌜ n ≤ length (now out) ⌝ }
-{
-    io::write_all(STDOUT_FILENO, &out[..n])
-}
-
-// Makes room for a line: writes out what waits where the buffer is nearly full.
-fn make_room(out: &[u8; 8192], filled: usize) -> Line
-    requires { ⌜ filled ≤ 8192 ⌝ }
-    ensures { λ r. ⌜ r .filled + 90 ≤ 8192 ⌝ }
-{
-    if filled <= 8192 - text::ROOM {
-        return Line {
-            filled,
-            written: true,
-        };
-    }
-    Line {
-        filled: 0,
-        written: write(out, filled),
-    }
 }
 
 fn so_far(state: State, filled: usize, course: Course) -> Listing
@@ -83,7 +39,7 @@ fn list_block(state: State, taken: usize, b: Block, out: &mut [u8; 8192], filled
     requires { ⌜ filled ≤ 8192 ⌝ }
     ensures { λ r. ⌜ (r .listing .filled ≤ 8192) × (r .taken ≡ taken) ⌝ }
 {
-    let room = make_room(out, filled);
+    let room = console::make_room(out, filled, text::ROOM);
     if !room.written {
         return Called {
             taken,
@@ -105,7 +61,7 @@ fn offer(state: State, hold: &mut [u8], piece: &[u8], out: &mut [u8; 8192], fill
     requires { ⌜ filled ≤ 8192 ⌝ }
     ensures { λ r. ⌜ (r .listing .filled ≤ 8192) × (r .taken ≤ length (now (piece .entry))) ⌝ }
 {
-    let fed = reader::runs::feed(state, hold, piece);
+    let fed = runs::feed(state, hold, piece);
     let answer = fed.answer;
     let next = fed.state;
     match answer {
@@ -118,7 +74,7 @@ fn offer(state: State, hold: &mut [u8], piece: &[u8], out: &mut [u8; 8192], fill
         Fed::Refused(_) => Called {
             taken: 0,
             done: true,
-            listing: so_far(next, filled, Course::RunFull),
+            listing: so_far(next, filled, Course::Stopped),
         },
     }
 }
@@ -150,28 +106,20 @@ fn drain(
 }
 
 // Reads once, and feeds what came.
-fn turn(l: Listing, hold: &mut [u8], buf: &mut [u8], out: &mut [u8; 8192]) -> Listing
+fn turn(l: Listing, hold: &mut [u8], buf: &mut [u8; 65536], out: &mut [u8; 8192]) -> Listing
     requires { ⌜ l .filled ≤ 8192 ⌝ }
     ensures { λ r. ⌜ r .filled ≤ 8192 ⌝ }
 {
-    let got = libc::read(STDIN_FILENO, buf);
+    let got = console::read(buf);
     let state = l.state;
     let filled = l.filled;
-    if got < 0 {
-        return so_far(state, filled, Course::ReadFailed);
+    let course = got.course;
+    if !console::goes_on(course) {
+        return so_far(state, filled, course);
     }
-    if got == 0 {
-        return so_far(state, filled, Course::InputEnded);
-    }
-    let n = io::count(got, buf);
-    drain(state, hold, &buf[..n], out, filled)
-}
-
-fn goes_on(c: Course) -> bool {
-    match c {
-        Course::GoesOn => true,
-        _ => false,
-    }
+    let n = got.count;
+    let all: &[u8] = buf;
+    drain(state, hold, &all[..n], out, filled)
 }
 
 // A proved loop has to end, and nothing says that the input does: it counts its turns down.
@@ -184,7 +132,7 @@ fn read_all(state: State, hold: &mut [u8], out: &mut [u8; 8192]) -> Listing
     while turns > 0 {
         now = turn(now, hold, &mut buf, out);
         let course = now.course;
-        if !goes_on(course) {
+        if !console::goes_on(course) {
             return now;
         }
         turns -= 1;
@@ -193,18 +141,11 @@ fn read_all(state: State, hold: &mut [u8], out: &mut [u8; 8192]) -> Listing
 }
 
 // The run's end: its line is the last.
-fn list_end(
-    state: State,
-    out: &mut [u8; 8192],
-    filled: usize,
-    bytes: usize,
-    blocks: usize,
-    skipped: usize,
-) -> Called
+fn list_end(state: State, out: &mut [u8; 8192], filled: usize, c: Counts) -> Called
     requires { ⌜ filled ≤ 8192 ⌝ }
     ensures { λ r. ⌜ r .listing .filled ≤ 8192 ⌝ }
 {
-    let room = make_room(out, filled);
+    let room = console::make_room(out, filled, text::ROOM);
     if !room.written {
         return Called {
             taken: 0,
@@ -212,7 +153,7 @@ fn list_end(
             listing: so_far(state, 0, Course::WriteFailed),
         };
     }
-    let n = text::end_line(out, room.filled, bytes, blocks, skipped);
+    let n = text::end_line(out, room.filled, c);
     Called {
         taken: 0,
         done: true,
@@ -224,19 +165,12 @@ fn close(state: State, hold: &mut [u8], out: &mut [u8; 8192], filled: usize) -> 
     requires { ⌜ filled ≤ 8192 ⌝ }
     ensures { λ r. ⌜ r .listing .filled ≤ 8192 ⌝ }
 {
-    let closed = reader::runs::finish(state, hold);
+    let closed = runs::finish(state, hold);
     let answer = closed.answer;
     let next = closed.state;
     match answer {
         Finished::Block(b) => list_block(next, 0, b, out, filled),
-        Finished::End(bytes, blocks, skipped) => list_end(
-            next,
-            out,
-            filled,
-            bytes,
-            blocks,
-            skipped,
-        ),
+        Finished::End(c) => list_end(next, out, filled, c),
         Finished::Refused(_) => Called {
             taken: 0,
             done: true,
@@ -263,21 +197,12 @@ fn close_all(l: Listing, hold: &mut [u8], out: &mut [u8; 8192]) -> Listing
     now
 }
 
-// Writes out what waits, unless writing has failed already, and tells on standard error what went wrong.
+// Writes out what waits.
 fn write_out(l: Listing, out: &[u8; 8192])
     requires { ⌜ l .filled ≤ 8192 ⌝ }
 {
-    let filled = l.filled;
     let course = l.course;
-    let written = write(out, filled);
-    match course {
-        Course::ReadFailed => tell(b"lister: cannot read standard input\n"),
-        Course::WriteFailed => tell(b"lister: cannot write to standard output\n"),
-        _ => {}
-    }
-    if !written {
-        tell(b"lister: cannot write to standard output\n");
-    }
+    console::write_out(b"lister", course, out, l.filled);
 }
 
 // Reads the run and lists it. Without its end, where reading or writing fails.
@@ -288,8 +213,8 @@ fn list(state: State) {
     let course = read.course;
     match course {
         Course::ReadFailed | Course::WriteFailed => write_out(read, &out),
-        Course::RunFull => {
-            tell(b"lister: the run is full at 4294967295 bytes\n");
+        Course::Stopped => {
+            console::tell(b"lister: the run is full at 4294967295 bytes\n");
             write_out(close_all(read, &mut hold, &mut out), &out);
         }
         _ => write_out(close_all(read, &mut hold, &mut out), &out),
@@ -301,11 +226,11 @@ fn main() {
     let mut in_force = [0u8; 8192];
     let mut waiting = [0u8; 8192];
     let rows = shipped::table();
-    let staged = reader::tables::stage(reader::new(), &mut waiting, &rows);
-    let opened = reader::runs::open(staged.state, &mut in_force, &waiting);
+    let staged = tables::stage(reader::new(), &mut waiting, &rows);
+    let opened = tables::open(staged.state, &mut in_force, &waiting);
     let answer = opened.answer;
     match answer {
         Opened::Version(_) => list(opened.state),
-        Opened::Refused(_) => tell(b"lister: the rows shipped are refused\n"),
+        Opened::Refused(_) => console::tell(b"lister: the rows shipped are refused\n"),
     }
 }

@@ -7,6 +7,7 @@ use mathlib.Core.List.{List, [], _∷_, _++_}
 use lib.Dec.{ltb}
 use Rattle.io.specs.Digits.{digits}
 use Rattle.reader.specs.Said.{Report}
+use Rattle.reader.specs.declared.Counts.{Counts}
 
 -- how many decimal digits a number takes, if no more than 1 + `most`
 abbrev pub places : ℕ → ℕ → ℕ
@@ -40,5 +41,12 @@ blockWords r = wordBlock ++ spaced (r .place) ++ spaced (r .number) ++ spaced (r
 abbrev pub blockLine : Report → List ℕ
 blockLine r = blockWords r ++ newline
 
-abbrev pub endLine : ℕ → ℕ → ℕ → List ℕ
-endLine bytes blocks skipped = wordEnd ++ spaced bytes ++ spaced blocks ++ spaced skipped ++ newline
+-- "`end BYTES BLOCKS SKIPPED`": a run's counts, wherever they are printed
+abbrev pub countsText : Counts → List ℕ
+countsText c = spaced (c .taken) ++ spaced (c .blocks) ++ spaced (c .skipped)
+
+abbrev pub endWords : Counts → List ℕ
+endWords c = wordEnd ++ countsText c
+
+abbrev pub endLine : Counts → List ℕ
+endLine c = endWords c ++ newline

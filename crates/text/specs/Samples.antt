@@ -13,7 +13,7 @@ SampleBlock =
 
 -- "end 10 1 2"
 abbrev SampleEnd : Type 0
-SampleEnd = endLine 10 1 2 ≡ 101 ∷ 110 ∷ 100 ∷ 32 ∷ 49 ∷ 48 ∷ 32 ∷ 49 ∷ 32 ∷ 50 ∷ 10 ∷ []
+SampleEnd = endLine (record { taken = 10; blocks = 1; skipped = 2 }) ≡ 101 ∷ 110 ∷ 100 ∷ 32 ∷ 49 ∷ 48 ∷ 32 ∷ 49 ∷ 32 ∷ 50 ∷ 10 ∷ []
 
 -- 9999, and the most bytes of a run, 4294967295
 abbrev SampleNumbers : Type 0

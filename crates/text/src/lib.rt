@@ -1,16 +1,15 @@
-// Text: words, numbers and the lister's lines, collected in a buffer for standard output; and words read.
+// Text: words, numbers and the lister's lines, collected in a buffer for standard output.
 ghost use Prim.Native.Nat.{_+_, _≤_};
 ghost use lib.ListN.{length, take};
 ghost use mathlib.Core.Path.{_≡_};
 ghost use mathlib.Core.List.{_++_};
-ghost use Rattle.reader.specs.Said.{reportOf};
-ghost use Rattle.text.specs.Lines.{decimal, spaced, fourHex, blockWords, blockLine, endLine};
+ghost use Rattle.runs.specs.Said.{reportOf};
+ghost use Rattle.text.specs.Lines.{decimal, spaced, fourHex, blockWords, blockLine, countsText, endWords, endLine};
 ghost use Rattle.text.specs.Samples.{Samples};
-use reader::Block;
+use reader::Counts;
+use runs::Block;
 
-pub mod words; // words.rt: where a word ends, decimal numbers, bytes in hex
-
-// The lister's longest line: a word of at most five bytes, four numbers with a space before each, and the line's end.
+// The lister's longest line: the word `block`, four numbers with a space before each, and the line's end.
 pub const ROOM: usize = 90;
 
 // A word goes to the place `at`; answers the place behind it.
@@ -55,6 +54,16 @@ pub fn number(out: &mut [u8; 8192], at: usize, n: u64) -> usize
     decimal_digits(out, from, n)
 }
 
+// A word and a number.
+pub fn told(out: &mut [u8; 8192], at: usize, word: &[u8], n: u64) -> usize
+    requires { ⌜ at + length (now word) + 21 ≤ 8192 ⌝ }
+    ensures { λ r. ⌜ r ≤ at + length (now (word .entry)) + 21 ⌝ }
+    ensures { λ r. ⌜ take r (now (out .exit)) ≡ take at (now (out .entry)) ++ (now (word .entry) ++ spaced n) ⌝ }
+{
+    let name = put(out, at, word);
+    number(out, name, n)
+}
+
 // Four hex digits, in lower case.
 pub fn hex_digits(out: &mut [u8; 8192], at: usize, n: u16) -> usize
     requires { ⌜ at + 4 ≤ 8192 ⌝ }
@@ -88,22 +97,34 @@ pub fn block_line(out: &mut [u8; 8192], at: usize, b: Block) -> usize
     put(out, words, b"\n")
 }
 
-pub fn end_line(
-    out: &mut [u8; 8192],
-    at: usize,
-    bytes: usize,
-    blocks: usize,
-    skipped: usize,
-) -> usize
-    requires { ⌜ at + 90 ≤ 8192 ⌝ }
-    ensures { λ r. ⌜ r ≤ at + 90 ⌝ }
-    ensures { λ r. ⌜ take r (now (out .exit)) ≡ take at (now (out .entry)) ++ endLine bytes blocks skipped ⌝ }
+// The counts of a run: bytes, blocks, skipped bytes.
+pub fn counts(out: &mut [u8; 8192], at: usize, c: Counts) -> usize
+    requires { ⌜ at + 63 ≤ 8192 ⌝ }
+    ensures { λ r. ⌜ r ≤ at + 63 ⌝ }
+    ensures { λ r. ⌜ take r (now (out .exit)) ≡ take at (now (out .entry)) ++ countsText c ⌝ }
+{
+    let taken = number(out, at, c.taken as u64);
+    let blocks = number(out, taken, c.blocks as u64);
+    number(out, blocks, c.skipped as u64)
+}
+
+// What is said of a run's end, with no line's end.
+pub fn end_words(out: &mut [u8; 8192], at: usize, c: Counts) -> usize
+    requires { ⌜ at + 66 ≤ 8192 ⌝ }
+    ensures { λ r. ⌜ r ≤ at + 66 ⌝ }
+    ensures { λ r. ⌜ take r (now (out .exit)) ≡ take at (now (out .entry)) ++ endWords c ⌝ }
 {
     let word = put(out, at, b"end");
-    let first = number(out, word, bytes as u64);
-    let second = number(out, first, blocks as u64);
-    let third = number(out, second, skipped as u64);
-    put(out, third, b"\n")
+    counts(out, word, c)
+}
+
+pub fn end_line(out: &mut [u8; 8192], at: usize, c: Counts) -> usize
+    requires { ⌜ at + 67 ≤ 8192 ⌝ }
+    ensures { λ r. ⌜ r ≤ at + 67 ⌝ }
+    ensures { λ r. ⌜ take r (now (out .exit)) ≡ take at (now (out .entry)) ++ endLine c ⌝ }
+{
+    let words = end_words(out, at, c);
+    put(out, words, b"\n")
 }
 
 // The lines of document 01's sample are these.

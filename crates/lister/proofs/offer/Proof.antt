@@ -4,9 +4,10 @@ use mathlib.Core.Path.{_≡_, sym, ap, _∙_}
 use Prim.Native.Nat.{ℕ, _≤_}
 use native.Mathlib.Omega.{arith}
 use lib.ListN.{length}
-use Rattle.reader.specs.Said.{saidFed}
-use Rattle.reader.specs.Calls.{Outcome, feedOf}
-use Rattle.reader.specs.declared.Fed.{Fed}
+use Rattle.runs.specs.Said.{saidFed}
+use Rattle.reader.specs.Outcome.{Outcome}
+use Rattle.runs.specs.Calls.{feedOf}
+use Rattle.runs.specs.declared.Fed.{Fed}
 use Rattle.lister.proofs.Laws.{takenOf, taken-few}
 use borrow.Author.Needs.{needs}
 use Rattle.lister.proofs.offer.Statement.{statement}

@@ -8,7 +8,7 @@ use Rattle.lister.proofs.read_all.Statement.{statement}
 use Rattle.lister.proofs.read_all.Tie as tie
 
 abbrev Inv-loop : tie.InvT-loop
-Inv-loop hold₀ out₀ buf₀ now₀ turns₀ hold out buf now turns = (now .filled ≤ 8192) × (length hold ≡ length hold₀) × (length buf ≡ 65536)
+Inv-loop hold₀ out₀ buf₀ now₀ turns₀ hold out buf now turns = (now .filled ≤ 8192) × (length hold ≡ length hold₀)
 
 abbrev μ-loop : tie.MeasureT-loop
 μ-loop hold₀ out₀ buf₀ now₀ turns₀ hold out buf now turns = turns
@@ -21,9 +21,6 @@ so-far-requires c κs = search needs
 
 loop-holds : tie.Need-loop-holds Inv-loop μ-loop
 loop-holds c = search needs
-
-slice-aggregate-turn : tie.Need-slice-aggregate-turn Inv-loop μ-loop
-slice-aggregate-turn c = search needs
 
 turn-requires : tie.Need-turn-requires Inv-loop μ-loop
 turn-requires c κs = search needs
@@ -61,7 +58,6 @@ read-all-spec =
     large-buffer-requires
     so-far-requires
     loop-holds
-    slice-aggregate-turn
     turn-requires
     goes-on-requires
     same-length

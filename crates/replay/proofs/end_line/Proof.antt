@@ -13,11 +13,8 @@ wrapping-add-u64-requires c κs = search needs
 make-room-requires : tie.Need-make-room-requires
 make-room-requires c κs = search needs
 
-quiet-requires : tie.Need-quiet-requires
-quiet-requires c κs = search needs
-
-after-line-requires : tie.Need-after-line-requires
-after-line-requires c κs = search needs
+so-far-requires : tie.Need-so-far-requires
+so-far-requires c κs = search needs
 
 returns : tie.Need-returns
 returns c = search needs
@@ -25,39 +22,21 @@ returns c = search needs
 tell-bad-requires : tie.Need-tell-bad-requires
 tell-bad-requires c κs = search needs
 
-quiet-requires-2 : tie.Need-quiet-requires-2
-quiet-requires-2 c κs = search needs
-
-after-line-requires-2 : tie.Need-after-line-requires-2
-after-line-requires-2 c κs = search needs
+so-far-requires-2 : tie.Need-so-far-requires-2
+so-far-requires-2 c κs = search needs
 
 returns-2 : tie.Need-returns-2
 returns-2 c = search needs
 
 slice-aggregate-play-line : tie.Need-slice-aggregate-play-line
 slice-aggregate-play-line c =
-    let a = c .before .before .before .before .before .before .before .before .before .before .before .before .args in
-    sym (length-take-le (a .s .length) (a .line .now) (omega arith))
+    let a = c .before .before .before .before .before .before .before .before .before .args in
+    sym (length-take-le (a .n) (a .line .now) (omega arith))
 
 play-line-requires : tie.Need-play-line-requires
 play-line-requires c κs =
-    let a = c .before .before .before .before .before .before .before .before .before .before .before .before .before .before .before .before .before .args in
-    (omega (arith, length-take-le (a .s .length) (a .line .now) (omega arith), c .before .before .before .before .before .before .before .if2 .left), c .before .before .before .before .before .before .before .before .before .before .make-room .ensures)
-
-tell-bad-requires-2 : tie.Need-tell-bad-requires-2
-tell-bad-requires-2 c κs = search needs
-
-after-line-requires-3 : tie.Need-after-line-requires-3
-after-line-requires-3 c κs = search needs
-
-same-length : tie.Need-same-length
-same-length c = search needs
-
-same-length-2 : tie.Need-same-length-2
-same-length-2 c = search needs
-
-same-length-3 : tie.Need-same-length-3
-same-length-3 c = search needs
+    let a = c .before .before .before .before .before .before .before .before .before .before .before .before .before .before .args in
+    (omega (arith, length-take-le (a .n) (a .line .now) (omega arith)), omega arith)
 
 returns-3 : tie.Need-returns-3
 returns-3 c = search needs
@@ -68,18 +47,11 @@ end-line-spec =
     (tie.spec
     wrapping-add-u64-requires
     make-room-requires
-    quiet-requires
-    after-line-requires
+    so-far-requires
     returns
     tell-bad-requires
-    quiet-requires-2
-    after-line-requires-2
+    so-far-requires-2
     returns-2
     slice-aggregate-play-line
     play-line-requires
-    tell-bad-requires-2
-    after-line-requires-3
-    same-length
-    same-length-2
-    same-length-3
     returns-3)

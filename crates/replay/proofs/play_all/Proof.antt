@@ -1,45 +1,49 @@
 -- `replay::play_all` ends: the turns left fall.
 -- Assumes nothing.
-use mathlib.Core.Path.{_≡_}
 use Prim.Native.Nat.{_≤_}
-use lib.ListN.{length}
 use borrow.Author.Needs.{needs}
 use Rattle.replay.proofs.play_all.Statement.{statement}
 use Rattle.replay.proofs.play_all.Tie as tie
 
 abbrev Inv-loop : tie.InvT-loop
-Inv-loop line₀ given₀ hold₀ force₀ waiting₀ out₀ buf₀ now₀ turns₀ line given hold force waiting out buf now turns =
-    (now .length ≤ 270001) × (now .filled ≤ 8192) × (length hold ≡ length hold₀) × (length force ≡ length force₀) × (length waiting ≡ length waiting₀) × (length buf ≡ 65536)
+Inv-loop buf₀ line₀ given₀ hold₀ force₀ waiting₀ out₀ now₀ reading₀ turns₀ buf line given hold force waiting out now reading turns =
+    (now .filled ≤ 8192) × (reading .at ≤ reading .count) × (reading .count ≤ 65536)
 
 abbrev μ-loop : tie.MeasureT-loop
-μ-loop line₀ given₀ hold₀ force₀ waiting₀ out₀ buf₀ now₀ turns₀ line given hold force waiting out buf now turns = turns
+μ-loop buf₀ line₀ given₀ hold₀ force₀ waiting₀ out₀ now₀ reading₀ turns₀ buf line given hold force waiting out now reading turns = turns
 
-large-buffer-requires : tie.Need-large-buffer-requires Inv-loop μ-loop
-large-buffer-requires c κs = search needs
+new-requires : tie.Need-new-requires Inv-loop μ-loop
+new-requires c κs = search needs
+
+after-requires : tie.Need-after-requires Inv-loop μ-loop
+after-requires c κs = search needs
+
+so-far-requires : tie.Need-so-far-requires Inv-loop μ-loop
+so-far-requires c κs = search needs
+
+start-requires : tie.Need-start-requires Inv-loop μ-loop
+start-requires c κs = search needs
 
 loop-holds : tie.Need-loop-holds Inv-loop μ-loop
 loop-holds c = search needs
 
-slice-aggregate-read-once : tie.Need-slice-aggregate-read-once Inv-loop μ-loop
-slice-aggregate-read-once c = search needs
+next-line-requires : tie.Need-next-line-requires Inv-loop μ-loop
+next-line-requires c κs = search needs
 
-read-once-requires : tie.Need-read-once-requires Inv-loop μ-loop
-read-once-requires c κs = search needs
+so-far-requires-2 : tie.Need-so-far-requires-2 Inv-loop μ-loop
+so-far-requires-2 c κs = search needs
+
+returns : tie.Need-returns Inv-loop μ-loop
+returns c = search needs
+
+end-line-requires : tie.Need-end-line-requires Inv-loop μ-loop
+end-line-requires c κs = search needs
 
 goes-on-requires : tie.Need-goes-on-requires Inv-loop μ-loop
 goes-on-requires c κs = search needs
 
-same-length : tie.Need-same-length Inv-loop μ-loop
-same-length c = search needs
-
-same-length-2 : tie.Need-same-length-2 Inv-loop μ-loop
-same-length-2 c = search needs
-
-same-length-3 : tie.Need-same-length-3 Inv-loop μ-loop
-same-length-3 c = search needs
-
-returns : tie.Need-returns Inv-loop μ-loop
-returns c = search needs
+returns-2 : tie.Need-returns-2 Inv-loop μ-loop
+returns-2 c = search needs
 
 sub-turns : tie.Need-sub-turns Inv-loop μ-loop
 sub-turns c = search needs
@@ -50,17 +54,8 @@ loop-less c = search needs
 loop-again : tie.Need-loop-again Inv-loop μ-loop
 loop-again c = search needs
 
-same-length-4 : tie.Need-same-length-4 Inv-loop μ-loop
-same-length-4 c = search needs
-
-same-length-5 : tie.Need-same-length-5 Inv-loop μ-loop
-same-length-5 c = search needs
-
-same-length-6 : tie.Need-same-length-6 Inv-loop μ-loop
-same-length-6 c = search needs
-
-returns-2 : tie.Need-returns-2 Inv-loop μ-loop
-returns-2 c = search needs
+returns-3 : tie.Need-returns-3 Inv-loop μ-loop
+returns-3 c = search needs
 
 pub play-all-spec : {M : Type 1} → statement M
 play-all-spec =
@@ -68,19 +63,18 @@ play-all-spec =
     (tie.spec
     Inv-loop
     μ-loop
-    large-buffer-requires
+    new-requires
+    after-requires
+    so-far-requires
+    start-requires
     loop-holds
-    slice-aggregate-read-once
-    read-once-requires
-    goes-on-requires
-    same-length
-    same-length-2
-    same-length-3
+    next-line-requires
+    so-far-requires-2
     returns
+    end-line-requires
+    goes-on-requires
+    returns-2
     sub-turns
     loop-less
     loop-again
-    same-length-4
-    same-length-5
-    same-length-6
-    returns-2)
+    returns-3)

@@ -10,22 +10,25 @@ use Rattle.replay.proofs.play_line.Tie as tie
 read-requires : tie.Need-read-requires
 read-requires c κs = search needs
 
-slice-aggregate-play-call : tie.Need-slice-aggregate-play-call
-slice-aggregate-play-call c =
+slice-aggregate-call : tie.Need-slice-aggregate-call
+slice-aggregate-call c =
     let r = c .before .before .before .read in
     sym (length-take-le (r .result .count) (r .last .1 .0) (omega (arith, r .ensures)))
 
-play-call-requires : tie.Need-play-call-requires
-play-call-requires c κs = search needs
+call-requires : tie.Need-call-requires
+call-requires c κs = search needs
 
-same-length : tie.Need-same-length
-same-length c = search needs
+is-bad-requires : tie.Need-is-bad-requires
+is-bad-requires c κs = search needs
 
-same-length-2 : tie.Need-same-length-2
-same-length-2 c = search needs
+tell-bad-requires : tie.Need-tell-bad-requires
+tell-bad-requires c κs = search needs
 
-same-length-3 : tie.Need-same-length-3
-same-length-3 c = search needs
+print-requires : tie.Need-print-requires
+print-requires c κs = search needs
+
+so-far-requires : tie.Need-so-far-requires
+so-far-requires c κs = search needs
 
 returns : tie.Need-returns
 returns c = search needs
@@ -35,9 +38,10 @@ play-line-spec =
     tie.close
     (tie.spec
     read-requires
-    slice-aggregate-play-call
-    play-call-requires
-    same-length
-    same-length-2
-    same-length-3
+    slice-aggregate-call
+    call-requires
+    is-bad-requires
+    tell-bad-requires
+    print-requires
+    so-far-requires
     returns)

@@ -1,0 +1,57 @@
+-- What a field answers, byte by byte: "`unsigned N`; `signed Z`", and so on.
+-- Assumes nothing.
+use Prim.Native.Nat.{ℕ, suc}
+use mathlib.Core.List.{List, [], _∷_, _++_}
+use lib.IntN.{ℤ, pos, negsuc}
+use Rattle.text.specs.Lines.{decimal, spaced}
+use Rattle.value.specs.Said as field
+
+-- `unsigned`
+abbrev pub wordUnsigned : List ℕ
+wordUnsigned = 117 ∷ 110 ∷ 115 ∷ 105 ∷ 103 ∷ 110 ∷ 101 ∷ 100 ∷ []
+
+-- `signed`
+abbrev pub wordSigned : List ℕ
+wordSigned = 115 ∷ 105 ∷ 103 ∷ 110 ∷ 101 ∷ 100 ∷ []
+
+-- `single`
+abbrev pub wordSingle : List ℕ
+wordSingle = 115 ∷ 105 ∷ 110 ∷ 103 ∷ 108 ∷ 101 ∷ []
+
+-- `double`
+abbrev pub wordDouble : List ℕ
+wordDouble = 100 ∷ 111 ∷ 117 ∷ 98 ∷ 108 ∷ 101 ∷ []
+
+-- `do-not-use`
+abbrev pub wordDoNotUse : List ℕ
+wordDoNotUse = 100 ∷ 111 ∷ 45 ∷ 110 ∷ 111 ∷ 116 ∷ 45 ∷ 117 ∷ 115 ∷ 101 ∷ []
+
+-- `not-in-this-revision`
+abbrev pub wordNotInRevision : List ℕ
+wordNotInRevision = 110 ∷ 111 ∷ 116 ∷ 45 ∷ 105 ∷ 110 ∷ 45 ∷ 116 ∷ 104 ∷ 105 ∷ 115 ∷ 45 ∷ 114 ∷ 101 ∷ 118 ∷ 105 ∷ 115 ∷ 105 ∷ 111 ∷ 110 ∷ []
+
+-- `refused`
+abbrev pub wordRefused : List ℕ
+wordRefused = 114 ∷ 101 ∷ 102 ∷ 117 ∷ 115 ∷ 101 ∷ 100 ∷ []
+
+-- `-`
+abbrev pub wordMinus : List ℕ
+wordMinus = 32 ∷ 45 ∷ []
+
+abbrev pub refusedText : ℕ → List ℕ
+refusedText n = wordRefused ++ spaced n
+
+-- "negative ones with a leading `-`"
+abbrev pub integerText : ℤ → List ℕ
+integerText (pos n) = spaced n
+integerText (negsuc n) = wordMinus ++ decimal (suc n)
+
+-- what a field says: "`single BITS`; `double BITS` (bits in decimal)"
+abbrev pub fieldText : field.Said → List ℕ
+fieldText (field.unsigned n) = wordUnsigned ++ spaced n
+fieldText (field.signed z) = wordSigned ++ integerText z
+fieldText (field.single b) = wordSingle ++ spaced b
+fieldText (field.double b) = wordDouble ++ spaced b
+fieldText field.doNotUse = wordDoNotUse
+fieldText field.notInRevision = wordNotInRevision
+fieldText (field.refused n) = refusedText n

@@ -1,0 +1,34 @@
+-- `show::ask_line` meets its contract: the reply, the state, what stands for the CRCs.
+-- Assumes nothing.
+use mathlib.Core.List.{_++_}
+use native.Mathlib.Omega.{arith}
+use lib.ListN.{take}
+use Rattle.text.proofs.Joins.{joined}
+use Rattle.show.specs.Lines.{askText, stateText, wordNoCrcs}
+use borrow.Author.Needs.{needs}
+use Rattle.show.proofs.ask_line.Statement.{statement}
+use Rattle.show.proofs.ask_line.Tie as tie
+
+ask-reply-requires : tie.Need-ask-reply-requires
+ask-reply-requires c κs = search needs
+
+state-of-requires : tie.Need-state-of-requires
+state-of-requires c κs = search needs
+
+no-crcs-requires : tie.Need-no-crcs-requires
+no-crcs-requires c κs = search needs
+
+returns : tie.Need-returns
+returns c =
+    let b = c .before .before .before .before .before .before in
+    let a = b .args in
+    let w = c .before .before .before .before .ask-reply .ensures in
+    let n = c .before .before .state-of .ensures in
+    let x = take (a .at) (a .out .now) in
+    let y = askText (a .reply) in (
+      omega (arith, c .no-crcs .ensures .0, n .0, w .0, b .pre),
+      joined x (y ++ stateText (a .state)) (wordNoCrcs) (joined x y (stateText (a .state)) (w .1) (n .1)) (c .no-crcs .ensures .1),
+    )
+
+pub ask-line-spec : {M : Type 1} → statement M
+ask-line-spec = tie.close (tie.spec ask-reply-requires state-of-requires no-crcs-requires returns)

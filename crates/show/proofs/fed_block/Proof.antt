@@ -1,0 +1,49 @@
+-- `show::fed_block` meets its contract: the count, then the block.
+-- Assumes nothing.
+use mathlib.Core.List.{_++_}
+use native.Mathlib.Omega.{arith}
+use lib.ListN.{take}
+use Rattle.text.proofs.Joins.{joined}
+use Rattle.text.specs.Lines.{blockWords}
+use Rattle.runs.specs.Said.{reportOf}
+use Rattle.show.specs.Lines.{wordGap, fedText}
+use borrow.Author.Needs.{needs}
+use Rattle.show.proofs.fed_block.Statement.{statement}
+use Rattle.show.proofs.fed_block.Tie as tie
+
+slice-aggregate-told : tie.Need-slice-aggregate-told
+slice-aggregate-told c = search needs
+
+told-requires : tie.Need-told-requires
+told-requires c κs = search needs
+
+slice-aggregate-put : tie.Need-slice-aggregate-put
+slice-aggregate-put c = search needs
+
+put-requires : tie.Need-put-requires
+put-requires c κs = search needs
+
+block-words-requires : tie.Need-block-words-requires
+block-words-requires c κs = search needs
+
+returns : tie.Need-returns
+returns c =
+    let b = c .before .before .before .before .before .before .before .before in
+    let w = c .before .before .before .before .before .told .ensures in
+    let g = c .before .before .put .ensures in
+    let x = take (b .args .at) (b .args .out .now) in
+    let f = fedText (b .args .taken) in (
+      omega (arith, c .block-words .ensures .0, g .0, w .0, b .pre),
+      joined x (f ++ wordGap) (blockWords (reportOf (b .args .b))) (joined x f wordGap (w .1) (g .1)) (c .block-words .ensures .1),
+    )
+
+pub fed-block-spec : {M : Type 1} → statement M
+fed-block-spec =
+    tie.close
+    (tie.spec
+    slice-aggregate-told
+    told-requires
+    slice-aggregate-put
+    put-requires
+    block-words-requires
+    returns)

@@ -1,0 +1,181 @@
+// The words of a line: where one ends, its key, decimal numbers, bytes in hex.
+ghost use Prim.Native.Nat.{_+_, _≤_, _<_};
+ghost use mathlib.Core.Path.{_≡_};
+ghost use lib.ListN.{length, take, drop};
+ghost use Rattle.io.specs.Counts.{Counts};
+ghost use Rattle.words.specs.Words.{upTo, keyOf, numberSays, addDigit, numberIn, hexDigit, bytesSay, bytesFrom, bytesIn};
+
+// Where the word at the front of a text ends: at its first space, or with it.
+pub fn word_end(text: &[u8]) -> usize
+    ensures { λ r. ⌜ r ≡ upTo 32 (now (text .entry)) ⌝ }
+    ensures { λ r. ⌜ Counts r (now (text .entry)) ⌝ }
+{
+    let mut i: usize = 0;
+    while i < text.len() {
+        if text[i] == 32 {
+            return i;
+        }
+        i += 1;
+    }
+    i
+}
+
+fn wide(c: u8) -> u64
+    ensures { λ r. ⌜ (r ≡ c) × (r < 256) ⌝ }
+{
+    c as u64
+}
+
+// A word as one number, so that words are told apart by one `match`; 0 for a word that has no key.
+pub fn key(word: &[u8]) -> u64
+    ensures { λ r. ⌜ r ≡ keyOf (now (word .entry)) ⌝ }
+{
+    if 8 < word.len() {
+        return 0;
+    }
+    let mut k: u64 = 0;
+    let mut i: usize = 0;
+    while i < word.len() {
+        let c = word[i];
+        if c == 0 {
+            return 0;
+        }
+        k = k * 256 + wide(c);
+        i += 1;
+    }
+    k
+}
+
+pub enum Decimal {
+    Value(u64),
+    NoNumber,
+}
+
+// A number with one more digit, where that is a digit and the number still fits 64 bits.
+fn add_digit(v: u64, c: u8) -> Decimal
+    ensures { λ r. ⌜ numberSays r ≡ addDigit v c ⌝ }
+{
+    if c < 48 {
+        return Decimal::NoNumber;
+    }
+    if 57 < c {
+        return Decimal::NoNumber;
+    }
+    let d = (c - 48) as u64;
+    if (0xffff_ffff_ffff_ffff - d) / 10 < v {
+        return Decimal::NoNumber;
+    }
+    Decimal::Value(v * 10 + d)
+}
+
+// A word as a decimal number.
+pub fn number(word: &[u8]) -> Decimal
+    ensures { λ r. ⌜ numberSays r ≡ numberIn (now (word .entry)) ⌝ }
+{
+    if word.len() == 0 {
+        return Decimal::NoNumber;
+    }
+    let mut v: u64 = 0;
+    let mut i: usize = 0;
+    while i < word.len() {
+        let more = add_digit(v, word[i]);
+        match more {
+            Decimal::NoNumber => return Decimal::NoNumber,
+            Decimal::Value(n) => v = n,
+        }
+        i += 1;
+    }
+    Decimal::Value(v)
+}
+
+// The value of a hex digit in either case; 16 where it is none.
+fn hex_digit(c: u8) -> u8
+    ensures { λ r. ⌜ (r ≡ hexDigit c) × (r ≤ 16) ⌝ }
+{
+    if c < 48 {
+        return 16;
+    }
+    if c <= 57 {
+        return c - 48;
+    }
+    if c < 65 {
+        return 16;
+    }
+    if c <= 70 {
+        return c - 55;
+    }
+    if c < 97 {
+        return 16;
+    }
+    if c <= 102 {
+        return c - 87;
+    }
+    16
+}
+
+// How many bytes a word in hex has, or that it is none.
+pub struct Decoded {
+    pub is_hex: bool,
+    pub count: usize,
+}
+
+// Pairs of hex digits, as bytes at the start of `given`.
+fn decode(word: &[u8], given: &mut [u8]) -> Decoded
+    requires { ⌜ length (now word) ≤ length (now given) + length (now given) ⌝ }
+    ensures { λ r. ⌜ bytesSay (r .«is_hex») (take (r .count) (now (given .exit))) ≡ bytesFrom (now (word .entry)) ⌝ }
+    ensures { λ r. ⌜ r .count ≤ length (now (given .entry)) ⌝ }
+{
+    let mut count: usize = 0;
+    let mut at: usize = 0;
+    while at < word.len() {
+        let second = at + 1;
+        if second == word.len() {
+            return Decoded {
+                is_hex: false,
+                count: 0,
+            };
+        }
+        let high = hex_digit(word[at]);
+        let low = hex_digit(word[second]);
+        if 15 < high {
+            return Decoded {
+                is_hex: false,
+                count: 0,
+            };
+        }
+        if 15 < low {
+            return Decoded {
+                is_hex: false,
+                count: 0,
+            };
+        }
+        given[count] = high * 16 + low;
+        count += 1;
+        at += 2;
+    }
+    Decoded {
+        is_hex: true,
+        count,
+    }
+}
+
+// A word as bytes: `-` for none, else hex.
+pub fn bytes(word: &[u8], given: &mut [u8; 135000]) -> Decoded
+    requires { ⌜ length (now word) ≤ 270000 ⌝ }
+    ensures { λ r. ⌜ bytesSay (r .«is_hex») (take (r .count) (now (given .exit))) ≡ bytesIn (now (word .entry)) ⌝ }
+    ensures { λ r. ⌜ r .count ≤ 135000 ⌝ }
+{
+    if word.len() == 0 {
+        return Decoded {
+            is_hex: false,
+            count: 0,
+        };
+    }
+    if word.len() == 1 {
+        return Decoded {
+            is_hex: word[0] == 45,
+            count: 0,
+        };
+    }
+    decode(word, given)
+}
