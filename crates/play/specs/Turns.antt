@@ -1,7 +1,7 @@
 -- What a line came to carries no NaN as a float.
 -- Assumes nothing.
 use mathlib.Core.Bool.{Bool, true}
-use Rattle.bench.specs.Plain.{plainly}
+use Rattle.desk.specs.Plain.{plainly}
 use Rattle.play.specs.declared.Turn.{Turn}
 use Rattle.play.specs.declared.Turn.the-variants.{Quiet, Bad, Ran, Asked}
 

@@ -1,16 +1,16 @@
-// One call, played with the reader's own on the buffers of the bench.
+// One call, played with the reader's own on the buffers of the desk.
 ghost use Prim.Native.Nat.{_≤_};
 ghost use mathlib.Core.Path.{_≡_};
 ghost use lib.Dec.{T};
 ghost use lib.ListN.{length};
 ghost use Rattle.crc.specs.Crc.{crcOf};
-ghost use Rattle.bench.specs.Plain.{noNanIn, plainly};
+ghost use Rattle.desk.specs.Plain.{noNanIn, plainly};
 ghost use Rattle.play.specs.Turns.{plain};
-use bench::AskReply;
-use bench::Bench;
-use bench::Bytes;
-use bench::Crcs;
-use bench::RunReply;
+use desk::AskReply;
+use desk::Bytes;
+use desk::Crcs;
+use desk::Desk;
+use desk::RunReply;
 use reader::Check;
 use reader::State;
 use record::Handed;
@@ -27,9 +27,9 @@ pub enum Turn {
     Asked(AskReply),
 }
 
-// The bench after a line, and what the line came to.
+// The desk after a line, and what the line came to.
 pub struct Played {
-    pub bench: Bench,
+    pub desk: Desk,
     pub turn: Turn,
 }
 
@@ -39,9 +39,9 @@ struct Done {
     reply: RunReply,
 }
 
-fn open(b: Bench, force: &mut [u8], waiting: &[u8]) -> Done {
-    let f = bench::lent(b.in_force, force);
-    let w = bench::lent(b.waiting, waiting);
+fn open(b: Desk, force: &mut [u8], waiting: &[u8]) -> Done {
+    let f = desk::lent(b.in_force, force);
+    let w = desk::lent(b.waiting, waiting);
     let opened = tables::open(b.state, &mut force[..f], &waiting[..w]);
     let answer = opened.answer;
     let state = opened.state;
@@ -51,8 +51,8 @@ fn open(b: Bench, force: &mut [u8], waiting: &[u8]) -> Done {
     }
 }
 
-fn feed(b: Bench, given: &[u8], hold: &mut [u8]) -> Done {
-    let n = bench::lent(b.hold, hold);
+fn feed(b: Desk, given: &[u8], hold: &mut [u8]) -> Done {
+    let n = desk::lent(b.hold, hold);
     let fed = runs::feed(b.state, &mut hold[..n], given);
     let answer = fed.answer;
     let state = fed.state;
@@ -62,8 +62,8 @@ fn feed(b: Bench, given: &[u8], hold: &mut [u8]) -> Done {
     }
 }
 
-fn finish(b: Bench, hold: &mut [u8]) -> Done {
-    let n = bench::lent(b.hold, hold);
+fn finish(b: Desk, hold: &mut [u8]) -> Done {
+    let n = desk::lent(b.hold, hold);
     let finished = runs::finish(b.state, &mut hold[..n]);
     let answer = finished.answer;
     let state = finished.state;
@@ -73,8 +73,8 @@ fn finish(b: Bench, hold: &mut [u8]) -> Done {
     }
 }
 
-fn stage(b: Bench, given: &[u8], waiting: &mut [u8]) -> Done {
-    let w = bench::lent(b.waiting, waiting);
+fn stage(b: Desk, given: &[u8], waiting: &mut [u8]) -> Done {
+    let w = desk::lent(b.waiting, waiting);
     let staged = tables::stage(b.state, &mut waiting[..w], given);
     let answer = staged.answer;
     let state = staged.state;
@@ -84,7 +84,7 @@ fn stage(b: Bench, given: &[u8], waiting: &mut [u8]) -> Done {
     }
 }
 
-fn withdraw(b: Bench) -> Done {
+fn withdraw(b: Desk) -> Done {
     let withdrawn = tables::withdraw(b.state);
     let answer = withdrawn.answer;
     let state = withdrawn.state;
@@ -96,7 +96,7 @@ fn withdraw(b: Bench) -> Done {
 
 // A call that may write.
 fn run_call(
-    b: Bench,
+    b: Desk,
     run: Run,
     given: &[u8],
     hold: &mut [u8; 65536],
@@ -133,10 +133,10 @@ fn handed(bytes: &[u8]) -> Bytes
     }
 }
 
-fn bytes(b: Bench, hold: &[u8]) -> AskReply
+fn bytes(b: Desk, hold: &[u8]) -> AskReply
     ensures { λ r. ⌜ T (plainly r) ⌝ }
 {
-    let n = bench::lent(b.hold, hold);
+    let n = desk::lent(b.hold, hold);
     let lent = &hold[..n];
     let check = runs::bytes_refused(b.state, lent);
     match check {
@@ -145,24 +145,24 @@ fn bytes(b: Bench, hold: &[u8]) -> AskReply
     }
 }
 
-fn body(b: Bench, i: u64, given: &[u8], force: &[u8]) -> AskReply
+fn body(b: Desk, i: u64, given: &[u8], force: &[u8]) -> AskReply
     ensures { λ r. ⌜ T (plainly r) ⌝ }
 {
-    let f = bench::lent(b.in_force, force);
+    let f = desk::lent(b.in_force, force);
     AskReply::Field(records::body(b.state, &force[..f], given, i as usize))
 }
 
-fn sub(b: Bench, k: u64, j: u64, given: &[u8], force: &[u8]) -> AskReply
+fn sub(b: Desk, k: u64, j: u64, given: &[u8], force: &[u8]) -> AskReply
     ensures { λ r. ⌜ T (plainly r) ⌝ }
 {
-    let f = bench::lent(b.in_force, force);
+    let f = desk::lent(b.in_force, force);
     AskReply::Field(records::sub(b.state, &force[..f], given, k as usize, j as usize))
 }
 
-fn sub_bytes(b: Bench, k: u64, given: &[u8], force: &[u8]) -> AskReply
+fn sub_bytes(b: Desk, k: u64, given: &[u8], force: &[u8]) -> AskReply
     ensures { λ r. ⌜ T (plainly r) ⌝ }
 {
-    let f = bench::lent(b.in_force, force);
+    let f = desk::lent(b.in_force, force);
     let lent = &force[..f];
     let refused = records::sub_bytes_refused(b.state, lent, given, k as usize);
     match refused {
@@ -176,20 +176,20 @@ fn sub_bytes(b: Bench, k: u64, given: &[u8], force: &[u8]) -> AskReply
     }
 }
 
-fn tow(b: Bench, given: &[u8]) -> AskReply
+fn tow(b: Desk, given: &[u8]) -> AskReply
     ensures { λ r. ⌜ T (plainly r) ⌝ }
 {
     AskReply::Field(records::tow(b.state, given))
 }
 
-fn wnc(b: Bench, given: &[u8]) -> AskReply
+fn wnc(b: Desk, given: &[u8]) -> AskReply
     ensures { λ r. ⌜ T (plainly r) ⌝ }
 {
     AskReply::Field(records::wnc(b.state, given))
 }
 
 // A call that is lent nothing to write.
-fn ask_call(b: Bench, ask: Ask, given: &[u8], hold: &[u8], force: &[u8]) -> AskReply
+fn ask_call(b: Desk, ask: Ask, given: &[u8], hold: &[u8], force: &[u8]) -> AskReply
     ensures { λ r. ⌜ T (plainly r) ⌝ }
 {
     match ask {
@@ -202,27 +202,27 @@ fn ask_call(b: Bench, ask: Ask, given: &[u8], hold: &[u8], force: &[u8]) -> AskR
     }
 }
 
-fn quiet(bench: Bench) -> Played
+fn quiet(desk: Desk) -> Played
     ensures { λ r. ⌜ T (plain (r .turn)) ⌝ }
 {
     Played {
-        bench,
+        desk,
         turn: Turn::Quiet,
     }
 }
 
-fn bad(bench: Bench) -> Played
+fn bad(desk: Desk) -> Played
     ensures { λ r. ⌜ T (plain (r .turn)) ⌝ }
 {
     Played {
-        bench,
+        desk,
         turn: Turn::Bad,
     }
 }
 
 // `put`: a bad line, where the bytes would end past the buffer.
 fn put(
-    b: Bench,
+    b: Desk,
     buffer: Buffer,
     offset: usize,
     given: &[u8],
@@ -233,9 +233,9 @@ fn put(
     ensures { λ r. ⌜ T (plain (r .turn)) ⌝ }
 {
     let fits = match buffer {
-        Buffer::Hold => bench::written(hold, offset, given),
-        Buffer::InForce => bench::written(force, offset, given),
-        Buffer::Waiting => bench::written(waiting, offset, given),
+        Buffer::Hold => desk::written(hold, offset, given),
+        Buffer::InForce => desk::written(force, offset, given),
+        Buffer::Waiting => desk::written(waiting, offset, given),
         Buffer::Unknown => false,
     };
     if fits { quiet(b) } else { bad(b) }
@@ -248,7 +248,7 @@ fn ran(done: Done) -> Played
     let state = done.state;
     let reply = done.reply;
     Played {
-        bench: bench::after(state),
+        desk: desk::after(state),
         turn: Turn::Ran(reply),
     }
 }
@@ -258,26 +258,26 @@ fn asked(state: State, reply: AskReply) -> Played
     ensures { λ r. ⌜ T (plain (r .turn)) ⌝ }
 {
     Played {
-        bench: bench::after(state),
+        desk: desk::after(state),
         turn: Turn::Asked(reply),
     }
 }
 
 // A line that asks the reader nothing and is lent no buffer.
-fn set(b: Bench, call: Call) -> Played
+fn set(b: Desk, call: Call) -> Played
     ensures { λ r. ⌜ T (plain (r .turn)) ⌝ }
 {
     match call {
         Call::Pass => quiet(b),
-        Call::Poke(part, v) => quiet(bench::poked(b, part, v as usize)),
-        Call::Size(buffer, n) => quiet(bench::sized(b, buffer, n as usize)),
+        Call::Poke(part, v) => quiet(desk::poked(b, part, v as usize)),
+        Call::Size(buffer, n) => quiet(desk::sized(b, buffer, n as usize)),
         _ => bad(b),
     }
 }
 
 // Plays one call.
 pub fn call(
-    b: Bench,
+    b: Desk,
     call: Call,
     given: &[u8],
     hold: &mut [u8; 65536],

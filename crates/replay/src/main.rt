@@ -7,16 +7,16 @@ ghost use Rattle.play.specs.Turns.{plain};
 
 mod input; // input.rt: the next line of standard input
 
-use bench::Bench;
 use console::Course;
+use desk::Desk;
 use input::Reading;
 use libc::STDERR_FILENO;
 use play::Turn;
 
-// Between two lines: the bench, how many lines have ended, how many bytes of the output buffer wait to be written, and whether
+// Between two lines: the desk, how many lines have ended, how many bytes of the output buffer wait to be written, and whether
 // to go on.
 pub struct Script {
-    pub bench: Bench,
+    pub desk: Desk,
     pub ended: u64,
     pub filled: usize,
     pub course: Course,
@@ -37,7 +37,7 @@ fn is_bad(t: Turn) -> bool {
 
 // What a line came to, as text.
 fn print(
-    bench: Bench,
+    desk: Desk,
     turn: Turn,
     hold: &[u8; 65536],
     force: &[u8; 8192],
@@ -49,7 +49,7 @@ fn print(
     requires { ⌜ at + 320 ≤ 8192 ⌝ }
     ensures { λ r. ⌜ r ≤ 8192 ⌝ }
 {
-    let state = bench.state;
+    let state = desk.state;
     match turn {
         Turn::Ran(reply) => show::run_line(out, at, reply, state, play::crcs(hold, force, waiting)),
         Turn::Asked(reply) => show::ask_line(out, at, reply, state),
@@ -57,11 +57,11 @@ fn print(
     }
 }
 
-fn so_far(bench: Bench, ended: u64, filled: usize, course: Course) -> Script
+fn so_far(desk: Desk, ended: u64, filled: usize, course: Course) -> Script
     ensures { λ r. ⌜ r .filled ≡ filled ⌝ }
 {
     Script {
-        bench,
+        desk,
         ended,
         filled,
         course,
@@ -70,7 +70,7 @@ fn so_far(bench: Bench, ended: u64, filled: usize, course: Course) -> Script
 
 // Reads a line as a call, plays it and prints what it came to.
 fn play_line(
-    b: Bench,
+    b: Desk,
     ended: u64,
     line: &[u8],
     given: &mut [u8; 135000],
@@ -88,13 +88,13 @@ fn play_line(
     let count = asked.count;
     let all: &[u8] = given;
     let played = play::call(b, call, &all[..count], hold, force, waiting);
-    let bench = played.bench;
+    let desk = played.desk;
     let turn = played.turn;
     if is_bad(turn) {
         tell_bad(ended);
     }
-    let filled = print(bench, turn, hold, force, waiting, out, at);
-    so_far(bench, ended, filled, Course::GoesOn)
+    let filled = print(desk, turn, hold, force, waiting, out, at);
+    so_far(desk, ended, filled, Course::GoesOn)
 }
 
 // A line of n bytes has ended: plays it, unless it is too long. Nothing is played on where writing failed.
@@ -113,18 +113,18 @@ fn end_line(
 {
     // 2^64 lines are never read.
     let ended = std::num::wrapping_add_u64(s.ended, 1);
-    let bench = s.bench;
+    let desk = s.desk;
     let room = console::make_room(out, s.filled, show::ROOM);
     if !room.written {
-        return so_far(bench, ended, 0, Course::WriteFailed);
+        return so_far(desk, ended, 0, Course::WriteFailed);
     }
     if script::lines::LONGEST < n {
         tell_bad(ended);
-        return so_far(bench, ended, room.filled, Course::GoesOn);
+        return so_far(desk, ended, room.filled, Course::GoesOn);
     }
     let all: &[u8] = line;
     play_line(
-        bench,
+        desk,
         ended,
         &all[..n],
         given,
@@ -148,15 +148,15 @@ fn play_all(
 ) -> Script
     ensures { λ r. ⌜ r .filled ≤ 8192 ⌝ }
 {
-    let mut now = so_far(bench::after(reader::new()), 0, 0, Course::GoesOn);
+    let mut now = so_far(desk::after(reader::new()), 0, 0, Course::GoesOn);
     let mut reading = input::start();
     let mut turns: u64 = 0xffff_ffff_ffff_ffff;
     while turns > 0 {
         reading = input::next_line(reading, buf, line);
         if !reading.found {
-            let bench = now.bench;
+            let desk = now.desk;
             let stop = reading.course;
-            return so_far(bench, now.ended, now.filled, stop);
+            return so_far(desk, now.ended, now.filled, stop);
         }
         now = end_line(now, reading.length, line, given, hold, force, waiting, out);
         let course = now.course;

@@ -14,12 +14,12 @@ use Rattle.tables.specs.Said.{saidOpened, saidStaged, saidWithdrawn}
 use Rattle.reader.specs.declared.Phase.{Phase}
 use Rattle.reader.specs.declared.Phase.the-variants.{Closed, Feeding, Finishing}
 use Rattle.reader.specs.declared.State.{State}
-use Rattle.bench.specs.declared.Bytes.{Bytes}
-use Rattle.bench.specs.declared.Crcs.{Crcs}
-use Rattle.bench.specs.declared.RunReply.{RunReply}
-use Rattle.bench.specs.declared.RunReply.the-variants as run
-use Rattle.bench.specs.declared.AskReply.{AskReply}
-use Rattle.bench.specs.declared.AskReply.the-variants as ask
+use Rattle.desk.specs.declared.Bytes.{Bytes}
+use Rattle.desk.specs.declared.Crcs.{Crcs}
+use Rattle.desk.specs.declared.RunReply.{RunReply}
+use Rattle.desk.specs.declared.RunReply.the-variants as run
+use Rattle.desk.specs.declared.AskReply.{AskReply}
+use Rattle.desk.specs.declared.AskReply.the-variants as ask
 
 -- `opened`
 abbrev pub wordOpened : List ℕ

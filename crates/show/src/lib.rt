@@ -8,12 +8,12 @@ ghost use lib.ListN.{take};
 ghost use Rattle.reader.specs.Said.{took};
 ghost use Rattle.runs.specs.Said.{reportOf, saidFed, saidFinished};
 ghost use Rattle.tables.specs.Said.{saidOpened, saidStaged, saidWithdrawn};
-ghost use Rattle.bench.specs.Plain.{plainly};
+ghost use Rattle.desk.specs.Plain.{plainly};
 ghost use Rattle.show.specs.Lines.{oneFor, wordOpened, wordStaged, wordFed, wordNoCrcs, saidText, bytesText, phaseFor, fourText, stateText, crcText, crcsText, runText, askText};
-use bench::AskReply;
-use bench::Bytes;
-use bench::Crcs;
-use bench::RunReply;
+use desk::AskReply;
+use desk::Bytes;
+use desk::Crcs;
+use desk::RunReply;
 use reader::Phase;
 use reader::State;
 use runs::Block;
@@ -33,7 +33,7 @@ fn opened(out: &mut [u8; 8192], at: usize, a: Opened) -> usize
 {
     match a {
         Opened::Version(v) => text::told(out, at, b"opened", v as u64),
-        Opened::Refused(why) => fields::refused(out, at, why),
+        Opened::Refused(why) => wording::refused(out, at, why),
     }
 }
 
@@ -44,7 +44,7 @@ fn staged(out: &mut [u8; 8192], at: usize, a: Staged) -> usize
 {
     match a {
         Staged::Version(v) => text::told(out, at, b"staged", v as u64),
-        Staged::Refused(why) => fields::refused(out, at, why),
+        Staged::Refused(why) => wording::refused(out, at, why),
     }
 }
 
@@ -55,7 +55,7 @@ fn withdrawn(out: &mut [u8; 8192], at: usize, a: Withdrawn) -> usize
 {
     match a {
         Withdrawn::Waited(one) => text::told(out, at, b"withdrawn", one_for(one)),
-        Withdrawn::Refused(why) => fields::refused(out, at, why),
+        Withdrawn::Refused(why) => wording::refused(out, at, why),
     }
 }
 
@@ -92,7 +92,7 @@ fn was_fed(out: &mut [u8; 8192], at: usize, a: Fed) -> usize
     match a {
         Fed::Block(taken, b) => fed_block(out, at, taken, b),
         Fed::More(taken) => more(out, at, taken),
-        Fed::Refused(why) => fields::refused(out, at, why),
+        Fed::Refused(why) => wording::refused(out, at, why),
     }
 }
 
@@ -104,7 +104,7 @@ fn was_finished(out: &mut [u8; 8192], at: usize, a: Finished) -> usize
     match a {
         Finished::Block(b) => text::block_words(out, at, b),
         Finished::End(c) => text::end_words(out, at, c),
-        Finished::Refused(why) => fields::refused(out, at, why),
+        Finished::Refused(why) => wording::refused(out, at, why),
     }
 }
 
@@ -215,9 +215,9 @@ fn ask_reply(out: &mut [u8; 8192], at: usize, reply: AskReply) -> usize
     ensures { λ r. ⌜ take r (now (out .exit)) ≡ take at (now (out .entry)) ++ askText reply ⌝ }
 {
     match reply {
-        AskReply::Field(a) => fields::field(out, at, a),
+        AskReply::Field(a) => wording::field(out, at, a),
         AskReply::Bytes(b) => bytes(out, at, b),
-        AskReply::Refused(why) => fields::refused(out, at, why),
+        AskReply::Refused(why) => wording::refused(out, at, why),
     }
 }
 

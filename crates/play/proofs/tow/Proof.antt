@@ -1,6 +1,6 @@
 -- `play::tow` meets its contract: no answer of the reader carries a NaN as a float.
 -- Assumes nothing.
-use Rattle.bench.proofs.Floats.{answers-plain}
+use Rattle.desk.proofs.Floats.{answers-plain}
 use borrow.Author.Needs.{needs}
 use Rattle.play.proofs.tow.Statement.{statement}
 use Rattle.play.proofs.tow.Tie as tie

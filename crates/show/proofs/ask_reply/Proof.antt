@@ -3,8 +3,8 @@
 use mathlib.Core.Path.{subst}
 use native.Mathlib.Omega.{arith}
 use lib.Dec.{T}
-use Rattle.bench.specs.Plain.{plainly}
-use Rattle.bench.specs.declared.AskReply.{AskReply}
+use Rattle.desk.specs.Plain.{plainly}
+use Rattle.desk.specs.declared.AskReply.{AskReply}
 use borrow.Author.Needs.{needs}
 use Rattle.show.proofs.ask_reply.Statement.{statement}
 use Rattle.show.proofs.ask_reply.Tie as tie

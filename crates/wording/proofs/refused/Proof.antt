@@ -1,4 +1,4 @@
--- `fields::refused` meets its contract: the word and the refusal's number.
+-- `wording::refused` meets its contract: the word and the refusal's number.
 -- Assumes nothing.
 use mathlib.Core.Path.{ap, _∙_}
 use mathlib.Core.List.{_++_}

@@ -1,10 +1,10 @@
--- `fields::field` meets its contract: a value or a refusal.
+-- `wording::field` meets its contract: a value or a refusal.
 -- Assumes nothing.
 use mathlib.Core.Path.{subst}
 use native.Mathlib.Omega.{arith}
 use lib.Dec.{T}
 use Rattle.record.specs.declared.Answer.{Answer}
-use Rattle.bench.specs.Plain.{noNanIn}
+use Rattle.desk.specs.Plain.{noNanIn}
 use borrow.Author.Needs.{needs}
 use Rattle.fields.proofs.field.Statement.{statement}
 use Rattle.fields.proofs.field.Tie as tie

@@ -6,8 +6,8 @@ use Rattle.value.specs.declared.Value.{Value}
 use Rattle.value.specs.declared.Value.the-variants as value
 use Rattle.record.specs.declared.Answer.{Answer}
 use Rattle.record.specs.declared.Answer.the-variants as answer
-use Rattle.bench.specs.declared.AskReply.{AskReply}
-use Rattle.bench.specs.declared.AskReply.the-variants as reply
+use Rattle.desk.specs.declared.AskReply.{AskReply}
+use Rattle.desk.specs.declared.AskReply.the-variants as reply
 
 abbrev pub noNan : Value → Bool
 noNan (value.Unsigned n) = true

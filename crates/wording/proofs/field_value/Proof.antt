@@ -1,4 +1,4 @@
--- `fields::field_value` meets its contract: each case is one word, most with a number.
+-- `wording::field_value` meets its contract: each case is one word, most with a number.
 -- Assumes nothing.
 use mathlib.Core.Path.{ap, _∙_, subst}
 use mathlib.Core.List.{_++_}
@@ -10,7 +10,7 @@ use lib.IntN.{ℤ}
 use mir.Syntax.{w64}
 use mir.ValLaws.{toZ-ofZ}
 use Rattle.value.specs.declared.Value.{Value}
-use Rattle.bench.specs.Plain.{noNan}
+use Rattle.desk.specs.Plain.{noNan}
 use Rattle.fields.specs.Values.{wordSingle, wordSigned, integerText}
 use Rattle.text.specs.Lines.{spaced}
 use borrow.Author.Needs.{needs}

@@ -1,11 +1,11 @@
--- `bench::lent` meets its contract: the smaller of the two.
+-- `desk::lent` meets its contract: the smaller of the two.
 -- Assumes nothing.
 use mathlib.Core.Path.{sym}
 use native.Mathlib.Omega.{arith}
 use lib.ListN.{length}
 use lib.Seq.{length-take-le}
-use Rattle.bench.proofs.lent.Statement.{statement}
-use Rattle.bench.proofs.lent.Tie as tie
+use Rattle.desk.proofs.lent.Statement.{statement}
+use Rattle.desk.proofs.lent.Tie as tie
 
 returns : tie.Need-returns
 returns c =

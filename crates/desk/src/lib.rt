@@ -1,4 +1,4 @@
-// What lies on the bench between two calls: the reader's state, and how much of each buffer the next call is lent; and what a call
+// What lies on the desk between two calls: the reader's state, and how much of each buffer the next call is lent; and what a call
 // replies, as values.
 ghost use Prim.Native.Nat.{_+_, _≤_};
 ghost use mathlib.Core.Path.{_≡_};
@@ -20,7 +20,7 @@ use tables::Withdrawn;
 // More than any buffer has: all of it is lent.
 const WHOLE: usize = 0xffff_ffff_ffff_ffff;
 
-pub struct Bench {
+pub struct Desk {
     pub state: State,
     pub hold: usize,
     pub in_force: usize,
@@ -57,8 +57,8 @@ pub struct Crcs {
 }
 
 // After a call every buffer is lent whole again.
-pub fn after(state: State) -> Bench {
-    Bench {
+pub fn after(state: State) -> Desk {
+    Desk {
         state,
         hold: WHOLE,
         in_force: WHOLE,
@@ -74,22 +74,22 @@ pub fn lent(n: usize, buffer: &[u8]) -> usize
 }
 
 // `size`: what the next call is lent.
-pub fn sized(b: Bench, buffer: Buffer, n: usize) -> Bench {
+pub fn sized(b: Desk, buffer: Buffer, n: usize) -> Desk {
     let state = b.state;
     match buffer {
-        Buffer::Hold => Bench {
+        Buffer::Hold => Desk {
             state,
             hold: n,
             in_force: b.in_force,
             waiting: b.waiting,
         },
-        Buffer::InForce => Bench {
+        Buffer::InForce => Desk {
             state,
             hold: b.hold,
             in_force: n,
             waiting: b.waiting,
         },
-        Buffer::Waiting => Bench {
+        Buffer::Waiting => Desk {
             state,
             hold: b.hold,
             in_force: b.in_force,
@@ -184,8 +184,8 @@ fn poked_state(s: State, part: Part, v: usize) -> State {
 }
 
 // `poke`: a number of the state is set, whether the reader would or not.
-pub fn poked(b: Bench, part: Part, v: usize) -> Bench {
-    Bench {
+pub fn poked(b: Desk, part: Part, v: usize) -> Desk {
+    Desk {
         state: poked_state(b.state, part, v),
         hold: b.hold,
         in_force: b.in_force,

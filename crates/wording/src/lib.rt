@@ -9,7 +9,7 @@ ghost use lib.Ieee.{binary32, isNan, toBits};
 ghost use lib.ListN.{take};
 ghost use Rattle.refusal.specs.Numbers.{numberFor};
 ghost use Rattle.record.specs.Answer.{answerSays, valueSays};
-ghost use Rattle.bench.specs.Plain.{noNan, noNanIn};
+ghost use Rattle.desk.specs.Plain.{noNan, noNanIn};
 ghost use Rattle.fields.specs.Values.{refusedText, integerText, fieldText};
 use record::Answer;
 use refusal::Refusal;

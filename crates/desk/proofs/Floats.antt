@@ -9,7 +9,7 @@ use lib.Ieee.Bits.{nanBits-is}
 use Rattle.record.specs.Answer.{Said, unsigned, signed, single, double, doNotUse, notInRevision, refused, Answers, caseFor}
 use Rattle.value.specs.declared.Value.the-variants as value
 use Rattle.record.specs.declared.Answer.{Answer}
-use Rattle.bench.specs.Plain.{noNan, noNanIn}
+use Rattle.desk.specs.Plain.{noNan, noNanIn}
 
 plain : (f : Format) (b : ℕ) → nanBits f b ≡ false → T (not (isNan (ofBits f b)))
 plain f b e = subst (λ (x : Bool). T (not x)) (sym e ∙ nanBits-is f b) tt

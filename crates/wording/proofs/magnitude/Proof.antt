@@ -1,4 +1,4 @@
--- `fields::magnitude` meets its contract: a negative number is told from its distance below -1.
+-- `wording::magnitude` meets its contract: a negative number is told from its distance below -1.
 -- Assumes nothing.
 use native.Mathlib.Omega.{arith}
 use mathlib.Core.Bool.{true, false}

@@ -1,4 +1,4 @@
--- `fields::signed` meets its contract: the word, then the number.
+-- `wording::signed` meets its contract: the word, then the number.
 -- Assumes nothing.
 use mathlib.Core.Path.{ap, _∙_}
 use mathlib.Core.List.{_++_}

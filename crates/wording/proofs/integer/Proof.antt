@@ -1,4 +1,4 @@
--- `fields::integer` meets its contract: a minus before a negative number.
+-- `wording::integer` meets its contract: a minus before a negative number.
 -- Assumes nothing.
 use mathlib.Core.Path.{sym, ap, _∙_}
 use mathlib.Core.List.{List, _++_}
