@@ -7,7 +7,7 @@ use mathlib.Core.Option.{none, some}
 use Rattle.text.specs.Lines.{spaced, fourHex, newline, blockWords, countsText, endWords}
 use Rattle.refusal.specs.Numbers.{numberFor}
 use Rattle.record.specs.Answer.{answerSays}
-use Rattle.fields.specs.Values.{refusedText, fieldText}
+use Rattle.wording.specs.Values.{refusedText, fieldText}
 use Rattle.reader.specs.Said.{Said, refused, version, took, found, ended, waited}
 use Rattle.runs.specs.Said.{saidFed, saidFinished}
 use Rattle.tables.specs.Said.{saidOpened, saidStaged, saidWithdrawn}

@@ -9,9 +9,10 @@ fn closes(t: &[u8]) -> bool
     requires { ⌜ 2 ≤ length (now t) ⌝ }
     ensures { λ r. ⌜ r ≡ closingOk (now (t .entry)) ⌝ }
 {
+    let mark = b"BT";
     let n = t.len();
-    let low = t[n - 2] == b'B';
-    let high = t[n - 1] == b'T';
+    let low = t[n - 2] == mark[0];
+    let high = t[n - 1] == mark[1];
     low & high
 }
 

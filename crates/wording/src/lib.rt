@@ -10,7 +10,7 @@ ghost use lib.ListN.{take};
 ghost use Rattle.refusal.specs.Numbers.{numberFor};
 ghost use Rattle.record.specs.Answer.{answerSays, valueSays};
 ghost use Rattle.desk.specs.Plain.{noNan, noNanIn};
-ghost use Rattle.fields.specs.Values.{refusedText, integerText, fieldText};
+ghost use Rattle.wording.specs.Values.{refusedText, integerText, fieldText};
 use record::Answer;
 use refusal::Refusal;
 use value::Value;

@@ -6,8 +6,8 @@ use lib.Dec.{T}
 use Rattle.record.specs.declared.Answer.{Answer}
 use Rattle.desk.specs.Plain.{noNanIn}
 use borrow.Author.Needs.{needs}
-use Rattle.fields.proofs.field.Statement.{statement}
-use Rattle.fields.proofs.field.Tie as tie
+use Rattle.wording.proofs.field.Statement.{statement}
+use Rattle.wording.proofs.field.Tie as tie
 
 enum-known-a : tie.Need-enum-known-a
 enum-known-a c = search needs

@@ -11,11 +11,11 @@ use mir.Syntax.{w64}
 use mir.ValLaws.{toZ-ofZ}
 use Rattle.value.specs.declared.Value.{Value}
 use Rattle.desk.specs.Plain.{noNan}
-use Rattle.fields.specs.Values.{wordSingle, wordSigned, integerText}
+use Rattle.wording.specs.Values.{wordSingle, wordSigned, integerText}
 use Rattle.text.specs.Lines.{spaced}
 use borrow.Author.Needs.{needs}
-use Rattle.fields.proofs.field_value.Statement.{statement}
-use Rattle.fields.proofs.field_value.Tie as tie
+use Rattle.wording.proofs.field_value.Statement.{statement}
+use Rattle.wording.proofs.field_value.Tie as tie
 
 enum-known-v : tie.Need-enum-known-v
 enum-known-v c = search needs

@@ -6,10 +6,10 @@ use Prim.Native.Nat.{ℕ}
 use native.Mathlib.Omega.{arith}
 use lib.ListN.{take}
 use Rattle.text.specs.Lines.{spaced}
-use Rattle.fields.specs.Values.{wordRefused}
+use Rattle.wording.specs.Values.{wordRefused}
 use borrow.Author.Needs.{needs}
-use Rattle.fields.proofs.refused.Statement.{statement}
-use Rattle.fields.proofs.refused.Tie as tie
+use Rattle.wording.proofs.refused.Statement.{statement}
+use Rattle.wording.proofs.refused.Tie as tie
 
 slice-aggregate-told : tie.Need-slice-aggregate-told
 slice-aggregate-told c = search needs

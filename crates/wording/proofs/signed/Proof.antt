@@ -5,13 +5,13 @@ use mathlib.Core.List.{_++_}
 use native.Mathlib.Omega.{arith}
 use lib.ListN.{take}
 use Rattle.text.proofs.Joins.{joined}
-use Rattle.fields.specs.Values.{wordSigned, integerText}
+use Rattle.wording.specs.Values.{wordSigned, integerText}
 use lib.IntN.{ℤ}
 use mir.Syntax.{w64}
 use mir.ValLaws.{toZ-ofZ}
 use borrow.Author.Needs.{needs}
-use Rattle.fields.proofs.signed.Statement.{statement}
-use Rattle.fields.proofs.signed.Tie as tie
+use Rattle.wording.proofs.signed.Statement.{statement}
+use Rattle.wording.proofs.signed.Tie as tie
 
 slice-aggregate-put : tie.Need-slice-aggregate-put
 slice-aggregate-put c = search needs
