@@ -57,7 +57,13 @@ fn list_block(state: State, taken: usize, b: Block, out: &mut [u8; 8192], filled
 
 // Offers a piece once. It is done with when all of it is taken and gives no more blocks. In a run that is open and fed by
 // this program the one refusal left is a full run's.
-fn offer(state: State, hold: &mut [u8], piece: &[u8], out: &mut [u8; 8192], filled: usize) -> Called
+fn offer(
+    state: State,
+    hold: &mut [u8; 65536],
+    piece: &[u8],
+    out: &mut [u8; 8192],
+    filled: usize,
+) -> Called
     requires { ⌜ filled ≤ 8192 ⌝ }
     ensures { λ r. ⌜ (r .listing .filled ≤ 8192) × (r .taken ≤ length (now (piece .entry))) ⌝ }
 {
@@ -82,7 +88,7 @@ fn offer(state: State, hold: &mut [u8], piece: &[u8], out: &mut [u8; 8192], fill
 // Offers a piece until it is done with. Nothing says here that the offers end: the loop counts them down.
 fn drain(
     state: State,
-    hold: &mut [u8],
+    hold: &mut [u8; 65536],
     piece: &[u8],
     out: &mut [u8; 8192],
     filled: usize,
@@ -106,7 +112,7 @@ fn drain(
 }
 
 // Reads once, and feeds what came.
-fn turn(l: Listing, hold: &mut [u8], buf: &mut [u8; 65536], out: &mut [u8; 8192]) -> Listing
+fn turn(l: Listing, hold: &mut [u8; 65536], buf: &mut [u8; 65536], out: &mut [u8; 8192]) -> Listing
     requires { ⌜ l .filled ≤ 8192 ⌝ }
     ensures { λ r. ⌜ r .filled ≤ 8192 ⌝ }
 {
@@ -123,7 +129,7 @@ fn turn(l: Listing, hold: &mut [u8], buf: &mut [u8; 65536], out: &mut [u8; 8192]
 }
 
 // A proved loop has to end, and nothing says that the input does: it counts its turns down.
-fn read_all(state: State, hold: &mut [u8], out: &mut [u8; 8192]) -> Listing
+fn read_all(state: State, hold: &mut [u8; 65536], out: &mut [u8; 8192]) -> Listing
     ensures { λ r. ⌜ r .filled ≤ 8192 ⌝ }
 {
     let mut buf = io::large_buffer();
@@ -161,7 +167,7 @@ fn list_end(state: State, out: &mut [u8; 8192], filled: usize, c: Counts) -> Cal
     }
 }
 
-fn close(state: State, hold: &mut [u8], out: &mut [u8; 8192], filled: usize) -> Called
+fn close(state: State, hold: &mut [u8; 65536], out: &mut [u8; 8192], filled: usize) -> Called
     requires { ⌜ filled ≤ 8192 ⌝ }
     ensures { λ r. ⌜ r .listing .filled ≤ 8192 ⌝ }
 {
@@ -180,7 +186,7 @@ fn close(state: State, hold: &mut [u8], out: &mut [u8; 8192], filled: usize) -> 
 }
 
 // Finishes the run: the blocks that were held back, then the end.
-fn close_all(l: Listing, hold: &mut [u8], out: &mut [u8; 8192]) -> Listing
+fn close_all(l: Listing, hold: &mut [u8; 65536], out: &mut [u8; 8192]) -> Listing
     requires { ⌜ l .filled ≤ 8192 ⌝ }
     ensures { λ r. ⌜ r .filled ≤ 8192 ⌝ }
 {

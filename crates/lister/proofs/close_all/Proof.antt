@@ -1,14 +1,12 @@
 -- `lister::close_all` ends: the calls left fall.
 -- Assumes nothing.
-use mathlib.Core.Path.{_≡_}
 use Prim.Native.Nat.{_≤_}
-use lib.ListN.{length}
 use borrow.Author.Needs.{needs}
 use Rattle.lister.proofs.close_all.Statement.{statement}
 use Rattle.lister.proofs.close_all.Tie as tie
 
 abbrev Inv-loop : tie.InvT-loop
-Inv-loop hold₀ out₀ now₀ turns₀ hold out now turns = (now .filled ≤ 8192) × (length hold ≡ length hold₀)
+Inv-loop hold₀ out₀ now₀ turns₀ hold out now turns = (now .filled ≤ 8192)
 
 abbrev μ-loop : tie.MeasureT-loop
 μ-loop hold₀ out₀ now₀ turns₀ hold out now turns = turns
@@ -18,9 +16,6 @@ loop-holds c = search needs
 
 close-requires : tie.Need-close-requires Inv-loop μ-loop
 close-requires c κs = search needs
-
-same-length : tie.Need-same-length Inv-loop μ-loop
-same-length c = search needs
 
 returns : tie.Need-returns Inv-loop μ-loop
 returns c = search needs
@@ -34,9 +29,6 @@ loop-less c = search needs
 loop-again : tie.Need-loop-again Inv-loop μ-loop
 loop-again c = search needs
 
-same-length-2 : tie.Need-same-length-2 Inv-loop μ-loop
-same-length-2 c = search needs
-
 returns-2 : tie.Need-returns-2 Inv-loop μ-loop
 returns-2 c = search needs
 
@@ -48,10 +40,8 @@ close-all-spec =
     μ-loop
     loop-holds
     close-requires
-    same-length
     returns
     sub-turns
     loop-less
     loop-again
-    same-length-2
     returns-2)

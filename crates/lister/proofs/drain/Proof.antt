@@ -1,6 +1,5 @@
 -- `lister::drain` ends: the offers left fall. No offer is past the piece.
 -- Assumes nothing.
-use mathlib.Core.Path.{_≡_}
 use Prim.Native.Nat.{_≤_}
 use native.Mathlib.Omega.{arith}
 use lib.ListN.{length}
@@ -10,7 +9,7 @@ use Rattle.lister.proofs.drain.Statement.{statement}
 use Rattle.lister.proofs.drain.Tie as tie
 
 abbrev Inv-loop : tie.InvT-loop
-Inv-loop hold₀ piece out₀ filled now₀ at₀ turns₀ hold out now at turns = (now .filled ≤ 8192) × (at ≤ length piece) × (length hold ≡ length hold₀)
+Inv-loop hold₀ piece out₀ filled now₀ at₀ turns₀ hold out now at turns = (now .filled ≤ 8192) × (at ≤ length piece)
 
 abbrev μ-loop : tie.MeasureT-loop
 μ-loop hold₀ piece out₀ filled now₀ at₀ turns₀ hold out now at turns = turns
@@ -35,13 +34,10 @@ offer-requires c κs = search needs
 
 add-at : tie.Need-add-at Inv-loop μ-loop
 add-at c =
-    let b = c .before .before .before .before .before .before .before .before .before .before .before .before in
-    let l = c .before .before .before .before .before .before .before .before .loop in
-    let o = c .before .before .before .offer in
+    let b = c .before .before .before .before .before .before .before .before .before in
+    let l = c .before .before .before .before .before .before .loop in
+    let o = c .before .offer in
     omega (arith, within (b .args .piece .now) (l .at) (o .result .taken) (l .inv .1) (o .ensures .1), b .good .1 .1 .0 .0)
-
-same-length : tie.Need-same-length Inv-loop μ-loop
-same-length c = search needs
 
 returns : tie.Need-returns Inv-loop μ-loop
 returns c = search needs
@@ -54,9 +50,6 @@ loop-less c = search needs
 
 loop-again : tie.Need-loop-again Inv-loop μ-loop
 loop-again c = search needs
-
-same-length-2 : tie.Need-same-length-2 Inv-loop μ-loop
-same-length-2 c = search needs
 
 returns-2 : tie.Need-returns-2 Inv-loop μ-loop
 returns-2 c = search needs
@@ -74,10 +67,8 @@ drain-spec =
     part-offer-end
     offer-requires
     add-at
-    same-length
     returns
     sub-turns
     loop-less
     loop-again
-    same-length-2
     returns-2)

@@ -13,9 +13,9 @@ use borrow.Author.Needs.{needs}
 use Rattle.lister.proofs.offer.Statement.{statement}
 use Rattle.lister.proofs.offer.Tie as tie
 
-few : (d : tie.After-feed) → takenOf (saidFed (d .feed .result .answer)) ≤ length (d .before .before .before .before .args .piece .now)
+few : (d : tie.After-feed) → takenOf (saidFed (d .feed .result .answer)) ≤ length (d .before .before .before .args .piece .now)
 few d =
-    let a = d .before .before .before .before .args in
+    let a = d .before .before .before .args in
     omega (arith, ap (λ (o : Outcome). takenOf (o .said)) (d .feed .ensures), taken-few (a .state) (a .hold .now) (a .piece .now))
 
 feed-requires : tie.Need-feed-requires
@@ -39,24 +39,15 @@ enum-told c = search needs
 so-far-requires-2 : tie.Need-so-far-requires-2
 so-far-requires-2 c κs = search needs
 
-same-length : tie.Need-same-length
-same-length c = search needs
-
 returns : tie.Need-returns
 returns c =
     let e = ap (λ (x : Fed). takenOf (saidFed x)) (c .before .before .before .answer .given .1) in
-    (c .list-block .ensures .0, omega (arith, few (c .before .before .before .before .before .before .before .before), e, c .list-block .ensures .1))
-
-same-length-2 : tie.Need-same-length-2
-same-length-2 c = search needs
+    (c .list-block .ensures .0, omega (arith, few (c .before .before .before .before .before .before), e, c .list-block .ensures .1))
 
 returns-2 : tie.Need-returns-2
 returns-2 c =
     let e = ap (λ (x : Fed). takenOf (saidFed x)) (c .before .before .answer2 .given .1) in
-    (omega (arith, c .so-far .ensures, c .before .before .before .before .before .before .before .before .before .before .before .pre), omega (arith, few (c .before .before .before .before .before .before .before), e))
-
-same-length-3 : tie.Need-same-length-3
-same-length-3 c = search needs
+    (omega (arith, c .so-far .ensures, c .before .before .before .before .before .before .before .before .pre), omega (arith, few (c .before .before .before .before .before), e))
 
 returns-3 : tie.Need-returns-3
 returns-3 c = search needs
@@ -72,9 +63,6 @@ offer-spec =
     so-far-requires
     enum-told
     so-far-requires-2
-    same-length
     returns
-    same-length-2
     returns-2
-    same-length-3
     returns-3)

@@ -1,14 +1,12 @@
 -- `lister::read_all` ends: the turns left fall.
 -- Assumes nothing.
-use mathlib.Core.Path.{_≡_}
 use Prim.Native.Nat.{_≤_}
-use lib.ListN.{length}
 use borrow.Author.Needs.{needs}
 use Rattle.lister.proofs.read_all.Statement.{statement}
 use Rattle.lister.proofs.read_all.Tie as tie
 
 abbrev Inv-loop : tie.InvT-loop
-Inv-loop hold₀ out₀ buf₀ now₀ turns₀ hold out buf now turns = (now .filled ≤ 8192) × (length hold ≡ length hold₀)
+Inv-loop hold₀ out₀ buf₀ now₀ turns₀ hold out buf now turns = (now .filled ≤ 8192)
 
 abbrev μ-loop : tie.MeasureT-loop
 μ-loop hold₀ out₀ buf₀ now₀ turns₀ hold out buf now turns = turns
@@ -28,9 +26,6 @@ turn-requires c κs = search needs
 goes-on-requires : tie.Need-goes-on-requires Inv-loop μ-loop
 goes-on-requires c κs = search needs
 
-same-length : tie.Need-same-length Inv-loop μ-loop
-same-length c = search needs
-
 returns : tie.Need-returns Inv-loop μ-loop
 returns c = search needs
 
@@ -42,9 +37,6 @@ loop-less c = search needs
 
 loop-again : tie.Need-loop-again Inv-loop μ-loop
 loop-again c = search needs
-
-same-length-2 : tie.Need-same-length-2 Inv-loop μ-loop
-same-length-2 c = search needs
 
 returns-2 : tie.Need-returns-2 Inv-loop μ-loop
 returns-2 c = search needs
@@ -60,10 +52,8 @@ read-all-spec =
     loop-holds
     turn-requires
     goes-on-requires
-    same-length
     returns
     sub-turns
     loop-less
     loop-again
-    same-length-2
     returns-2)
