@@ -56,13 +56,18 @@ def functions(document, text):
             CASES.expect(f"{document}: {crate}::{name}", found, f"crates/{crate}/src has no such item")
 
 
+def defines(file, name):
+    """Whether a file of code or of definitions has a line that says what a name is, and not only one that uses it."""
+    start = r"(fn|struct|enum|const|mod)" if file.endswith(".rt") else r"^(?!use\b)\s*(unfoldable|abbrev)?\s*(pub)?\s*(record|data)?"
+    return re.search(rf"{start}\s*\b{name}(?![\w·])", read(os.path.join("crates", file)), re.M)
+
+
 def definitions(document, text):
-    """`name`, `name` in `crate/../File`: the file has each name."""
+    """`name`, `name` in `crate/../File`: the file says what each is."""
     for names, file in re.findall(r"((?:`[^`\s/]+`(?:, | and )?)+) (?:in|of) `(?:crates/)?(\w+/(?:src|specs|proofs)/[\w/]+\.\w+)`", text):
         for name in re.findall(r"`(\w+)`", names):
             if there(os.path.join("crates", file)):
-                CASES.expect(f"{document}: {name} in {file}", re.search(rf"(?<!\w){name}(?!\w)", read(os.path.join("crates", file))),
-                             "the file does not have the name")
+                CASES.expect(f"{document}: {name} in {file}", defines(file, name), "it is not defined there")
 
 
 def wrong_programs():
@@ -75,6 +80,16 @@ def wrong_programs():
         CASES.expect(f"docs/WRONG-PROGRAMS.md: {edit}", edit in edits, "there is no such edit")
 
 
+def in_must_fail():
+    """must-fail/ has those wrong programs that decision 78 names, and README counts all."""
+    named = set(re.findall(r"`(\w+/\w+)`", re.search(r"\*\*78\. .*", read("docs/DECISIONS.md"))[0]))
+    found = {f"{name.split(os.sep)[-3]}/{os.path.basename(name)[:-5]}" for name in glob.glob(os.path.join(TOP, "crates", "*", "must-fail", "*.edit"))}
+    for edit in sorted(named | found):
+        CASES.expect(f"docs/DECISIONS.md, 78: {edit}", edit in named and edit in found, "it stands in must-fail/ or in the text alone")
+    edits = glob.glob(os.path.join(TOP, "crates", "*", "must-fail", "*.edit")) + glob.glob(os.path.join(TOP, "crates", "*", "wrong", "*.edit"))
+    CASES.expect("README.md: the number of wrong programs", f"- {len(edits)} wrong programs" in read("README.md"), f"there are {len(edits)}")
+
+
 for document in DOCUMENTS:
     text = read(document)
     paths(document, text)
@@ -82,6 +97,7 @@ for document in DOCUMENTS:
     functions(document, text)
     definitions(document, text)
 wrong_programs()
+in_must_fail()
 for crate in CRATES:
     CASES.expect(f"README.md: the crate {crate}", f"| `{crate}` |" in read("README.md"), "its table of crates has no row for it")
 sys.exit(CASES.tally())

@@ -50,6 +50,8 @@ REFUSALS = [
     ("needs in another order", 1, error("expected type `x.tie.Need-add`, but this has type `x.tie.Need-returns`"), False),
     ("unfit in a second line of the error", 1, error("`f-spec`:\n  it has no need\n  that can be named from here"), False),
     ("unfit only in a later error", 1, FACT + error("`size` is not in scope"), True),
+    ("an edit that writes no definition", 1, "crates/x/specs/Y.antt:3:1: error: expected a type\n" + NOT_PROVED, False),
+    ("a check that did not end", 124, "the check did not end in 600 s", False),
 ]
 
 EDITS = [
