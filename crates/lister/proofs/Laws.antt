@@ -35,6 +35,6 @@ pub taken-few : (s : State) (hold piece : List ℕ) → takenOf (feedOf s hold p
 unfolding feedOf feedingOf
 taken-few s hold piece = few-by (feedRefusal s hold piece) s hold piece (restOf hold (s .run .held) (s .run .standing)) (limit - s .run .counts .taken)
 
--- a place in a piece, and what is taken from there on
-pub within : (piece : List ℕ) (at t : ℕ) → at ≤ length piece → t ≤ length (take (length piece - at) (drop at piece)) → at + t ≤ length piece
-within piece at t a b = omega (arith, length-take-le (length piece - at) (drop at piece) (omega (arith, length-drop at piece)))
+-- a place in the first n bytes, and what is taken from there on
+pub within : (b : List ℕ) (at n t : ℕ) → at ≤ n → n ≤ length b → t ≤ length (take (n - at) (drop at b)) → at + t ≤ n
+within b at n t a h l = omega (arith, length-take-le (n - at) (drop at b) (omega (arith, length-drop at b)))

@@ -6,16 +6,19 @@ use Rattle.lister.proofs.close_all.Statement.{statement}
 use Rattle.lister.proofs.close_all.Tie as tie
 
 abbrev Inv-loop : tie.InvT-loop
-Inv-loop hold₀ out₀ now₀ turns₀ hold out now turns = (now .filled ≤ 8192)
+Inv-loop closings hold₀ out₀ now₀ turns₀ hold out now turns = (now .filled ≤ 8192)
 
 abbrev μ-loop : tie.MeasureT-loop
-μ-loop hold₀ out₀ now₀ turns₀ hold out now turns = turns
+μ-loop closings hold₀ out₀ now₀ turns₀ hold out now turns = turns
 
 loop-holds : tie.Need-loop-holds Inv-loop μ-loop
 loop-holds c = search needs
 
 close-requires : tie.Need-close-requires Inv-loop μ-loop
 close-requires c κs = search needs
+
+list-line-requires : tie.Need-list-line-requires Inv-loop μ-loop
+list-line-requires c κs = search needs
 
 returns : tie.Need-returns Inv-loop μ-loop
 returns c = search needs
@@ -40,6 +43,7 @@ close-all-spec =
     μ-loop
     loop-holds
     close-requires
+    list-line-requires
     returns
     sub-turns
     loop-less

@@ -1,4 +1,4 @@
--- `lister::drain` ends: the offers left fall. No offer is past the piece.
+-- `lister::drain` ends: the offers left fall. No offer is past the bytes that were read.
 -- Assumes nothing.
 use Prim.Native.Nat.{_≤_}
 use native.Mathlib.Omega.{arith}
@@ -9,13 +9,10 @@ use Rattle.lister.proofs.drain.Statement.{statement}
 use Rattle.lister.proofs.drain.Tie as tie
 
 abbrev Inv-loop : tie.InvT-loop
-Inv-loop hold₀ piece out₀ filled now₀ at₀ turns₀ hold out now at turns = (now .filled ≤ 8192) × (at ≤ length piece)
+Inv-loop hold₀ buf n out₀ all now₀ at₀ turns₀ hold out now at turns = (now .filled ≤ 8192) × (at ≤ n) × (n ≤ length all) × (n ≤ 65536)
 
 abbrev μ-loop : tie.MeasureT-loop
-μ-loop hold₀ piece out₀ filled now₀ at₀ turns₀ hold out now at turns = turns
-
-so-far-requires : tie.Need-so-far-requires Inv-loop μ-loop
-so-far-requires c κs = search needs
+μ-loop hold₀ buf n out₀ all now₀ at₀ turns₀ hold out now at turns = turns
 
 loop-holds : tie.Need-loop-holds Inv-loop μ-loop
 loop-holds c = search needs
@@ -34,10 +31,12 @@ offer-requires c κs = search needs
 
 add-at : tie.Need-add-at Inv-loop μ-loop
 add-at c =
-    let b = c .before .before .before .before .before .before .before .before .before in
-    let l = c .before .before .before .before .before .before .loop in
+    let l = c .before .before .before .before .before .loop in
     let o = c .before .offer in
-    omega (arith, within (b .args .piece .now) (l .at) (o .result .taken) (l .inv .1) (o .ensures .1), b .good .1 .1 .0 .0)
+    omega (arith, within _ (l .at) _ (o .result .taken) (l .inv .1) (l .inv .2) (o .ensures), l .inv .3)
+
+list-line-requires : tie.Need-list-line-requires Inv-loop μ-loop
+list-line-requires c κs = search needs
 
 returns : tie.Need-returns Inv-loop μ-loop
 returns c = search needs
@@ -60,13 +59,13 @@ drain-spec =
     (tie.spec
     Inv-loop
     μ-loop
-    so-far-requires
     loop-holds
     sub-offer
     part-offer-start
     part-offer-end
     offer-requires
     add-at
+    list-line-requires
     returns
     sub-turns
     loop-less

@@ -24,30 +24,21 @@ feed-requires c κs = search needs
 enum-known-answer : tie.Need-enum-known-answer
 enum-known-answer c = search needs
 
-list-block-requires : tie.Need-list-block-requires
-list-block-requires c κs = search needs
-
 enum-known-answer-2 : tie.Need-enum-known-answer-2
 enum-known-answer-2 c = search needs
-
-so-far-requires : tie.Need-so-far-requires
-so-far-requires c κs = search needs
 
 enum-told : tie.Need-enum-told
 enum-told c = search needs
 
-so-far-requires-2 : tie.Need-so-far-requires-2
-so-far-requires-2 c κs = search needs
-
 returns : tie.Need-returns
 returns c =
-    let e = ap (λ (x : Fed). takenOf (saidFed x)) (c .before .before .before .answer .given .1) in
-    (c .list-block .ensures .0, omega (arith, few (c .before .before .before .before .before .before), e, c .list-block .ensures .1))
+    let e = ap (λ (x : Fed). takenOf (saidFed x)) (c .before .answer .given .1) in
+    omega (arith, few (c .before .before .before .before), e)
 
 returns-2 : tie.Need-returns-2
 returns-2 c =
-    let e = ap (λ (x : Fed). takenOf (saidFed x)) (c .before .before .answer2 .given .1) in
-    (omega (arith, c .so-far .ensures, c .before .before .before .before .before .before .before .before .pre), omega (arith, few (c .before .before .before .before .before), e))
+    let e = ap (λ (x : Fed). takenOf (saidFed x)) (c .before .answer2 .given .1) in
+    omega (arith, few (c .before .before .before .before), e)
 
 returns-3 : tie.Need-returns-3
 returns-3 c = search needs
@@ -58,11 +49,8 @@ offer-spec =
     (tie.spec
     feed-requires
     enum-known-answer
-    list-block-requires
     enum-known-answer-2
-    so-far-requires
     enum-told
-    so-far-requires-2
     returns
     returns-2
     returns-3)

@@ -14,9 +14,6 @@ abbrev μ-loop : tie.MeasureT-loop
 large-buffer-requires : tie.Need-large-buffer-requires Inv-loop μ-loop
 large-buffer-requires c κs = search needs
 
-so-far-requires : tie.Need-so-far-requires Inv-loop μ-loop
-so-far-requires c κs = search needs
-
 loop-holds : tie.Need-loop-holds Inv-loop μ-loop
 loop-holds c = search needs
 
@@ -48,7 +45,6 @@ read-all-spec =
     Inv-loop
     μ-loop
     large-buffer-requires
-    so-far-requires
     loop-holds
     turn-requires
     goes-on-requires
