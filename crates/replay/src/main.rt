@@ -52,7 +52,7 @@ fn print(
     let state = desk.state;
     match turn {
         Turn::Ran(reply) => show::run_line(out, at, reply, state, play::crcs(hold, force, waiting)),
-        Turn::Asked(reply) => show::ask_line(out, at, reply, state),
+        Turn::Asked(reply) => wording::ask_line(out, at, reply, state),
         _ => at,
     }
 }

@@ -1,7 +1,6 @@
-// A script's lines: each is read as a call. Its first word says which, and the rest of the line is read as that call asks.
+// A script's lines: each is read as a call. Its first word says which, and the words behind it are read as that call asks.
 ghost use Prim.Native.Nat.{_≤_};
 ghost use lib.ListN.{length};
-ghost use mathlib.Core.Path.{_≡_};
 use words::Decimal;
 
 pub mod lines; // lines.rt: lines out of pieces of input
@@ -62,104 +61,56 @@ pub struct Asked {
     pub count: usize,
 }
 
-// A call as far as it is read without its bytes: whether it is given some, and where their word begins.
-struct Head {
-    call: Call,
-    given: bool,
-    rest: usize,
+// A word of a line: its key, its value as a number, and where the text behind its space begins. `leads` says that it is a number with
+// more behind it, `ends` that it is one and the line ends with it.
+struct Word {
+    key: u64,
+    number: u64,
+    next: usize,
+    is_last: bool,
+    leads: bool,
+    ends: bool,
 }
 
-// A call that is given no bytes, or none at all.
-fn whole(call: Call) -> Head
-    ensures { λ r. ⌜ r .rest ≡ 0 ⌝ }
-{
-    Head {
-        call,
-        given: false,
-        rest: 0,
+fn is_number(d: Decimal) -> bool {
+    match d {
+        Decimal::Value(_) => true,
+        Decimal::NoNumber => false,
     }
 }
 
-// A call whose bytes begin at a place.
-fn until(call: Call, rest: usize) -> Head
-    ensures { λ r. ⌜ r .rest ≡ rest ⌝ }
-{
-    Head {
-        call,
-        given: true,
-        rest,
+fn value_of(d: Decimal) -> u64 {
+    match d {
+        Decimal::Value(n) => n,
+        Decimal::NoNumber => 0,
     }
 }
 
-// The number at the front of a text, and where the text behind its space begins.
-struct Lead {
-    number: Decimal,
-    rest: usize,
+// Behind the space at the end of a word, or the end of the line.
+fn behind(end: usize, length: usize) -> usize
+    requires { ⌜ end ≤ length ⌝ }
+    ensures { λ r. ⌜ (end ≤ r) × (r ≤ length) ⌝ }
+{
+    if end < length { end + 1 } else { length }
 }
 
-fn leading(text: &[u8]) -> Lead
-    ensures { λ r. ⌜ r .rest ≤ length (now (text .entry)) ⌝ }
+fn word_at(line: &[u8], from: usize) -> Word
+    requires { ⌜ from ≤ length (now line) ⌝ }
+    ensures { λ r. ⌜ (from ≤ r .next) × (r .next ≤ length (now (line .entry))) ⌝ }
 {
+    let text = &line[from..];
     let e = words::word_end(text);
-    if e == text.len() {
-        return Lead {
-            number: Decimal::NoNumber,
-            rest: e,
-        };
+    let told = words::number(&text[..e]);
+    let numeric = is_number(told);
+    let is_last = e == text.len();
+    Word {
+        key: words::key(&text[..e]),
+        number: value_of(told),
+        next: behind(from + e, line.len()),
+        is_last,
+        leads: numeric & !is_last,
+        ends: numeric & is_last,
     }
-    Lead {
-        number: words::number(&text[..e]),
-        rest: e + 1,
-    }
-}
-
-// `body FIELD HEX`
-fn body(text: &[u8]) -> Head
-    ensures { λ r. ⌜ r .rest ≤ length (now (text .entry)) ⌝ }
-{
-    let lead = leading(text);
-    let field = lead.number;
-    match field {
-        Decimal::NoNumber => whole(Call::Bad),
-        Decimal::Value(i) => until(Call::Ask(Ask::Body(i)), lead.rest),
-    }
-}
-
-// `subbytes SUBBLOCK HEX`
-fn sub_bytes(text: &[u8]) -> Head
-    ensures { λ r. ⌜ r .rest ≤ length (now (text .entry)) ⌝ }
-{
-    let lead = leading(text);
-    let block = lead.number;
-    match block {
-        Decimal::NoNumber => whole(Call::Bad),
-        Decimal::Value(k) => until(Call::Ask(Ask::SubBytes(k)), lead.rest),
-    }
-}
-
-// `SUBBLOCK FIELD`, as two numbers
-fn sub_field(block: Decimal, field: Decimal, rest: usize) -> Head
-    ensures { λ r. ⌜ r .rest ≤ rest ⌝ }
-{
-    match block {
-        Decimal::NoNumber => whole(Call::Bad),
-        Decimal::Value(k) => match field {
-            Decimal::NoNumber => whole(Call::Bad),
-            Decimal::Value(j) => until(Call::Ask(Ask::Sub(k, j)), rest),
-        },
-    }
-}
-
-// `sub SUBBLOCK FIELD HEX`
-fn sub(text: &[u8]) -> Head
-    ensures { λ r. ⌜ r .rest ≤ length (now (text .entry)) ⌝ }
-{
-    let first = leading(text);
-    let from = first.rest;
-    let second = leading(&text[from..]);
-    let block = first.number;
-    let field = second.number;
-    sub_field(block, field, from + second.rest)
 }
 
 fn buffer_of(key: u64) -> Buffer {
@@ -185,122 +136,75 @@ fn part_of(key: u64) -> Part {
     }
 }
 
+fn is_known(b: Buffer) -> bool {
+    match b {
+        Buffer::Unknown => false,
+        _ => true,
+    }
+}
+
 // A phase is 0, 1 or 2.
-fn poke_with(part: Part, v: u64) -> Call {
+fn can_poke(part: Part, v: u64) -> bool {
     match part {
-        Part::Unknown => Call::Bad,
-        Part::Phase => {
-            if 2 < v {
-                return Call::Bad;
-            }
-            Call::Poke(part, v)
-        }
-        _ => Call::Poke(part, v),
+        Part::Unknown => false,
+        Part::Phase => v <= 2,
+        _ => true,
     }
 }
 
-fn size_with(buffer: Buffer, n: u64) -> Call {
-    match buffer {
-        Buffer::Unknown => Call::Bad,
-        _ => Call::Size(buffer, n),
+// A call as far as it is read without its bytes: behind how many words they begin, 0 where it is given none.
+struct Head {
+    call: Call,
+    words: u8,
+}
+
+fn whether(holds: bool, call: Call, words: u8) -> Head {
+    if holds {
+        return Head { call, words };
+    }
+    Head {
+        call: Call::Bad,
+        words: 0,
     }
 }
 
-// A word and a number behind it, which is the last word: the word's key, and the number.
-struct Named {
-    key: u64,
-    number: Decimal,
-}
-
-fn word_and_number(text: &[u8]) -> Named {
-    let e = words::word_end(text);
-    if e == text.len() {
-        return Named {
-            key: 0,
-            number: Decimal::NoNumber,
-        };
-    }
-    let from = e + 1;
-    Named {
-        key: words::key(&text[..e]),
-        number: words::number(&text[from..]),
-    }
-}
-
-// `poke NAME VALUE`
-fn poke(text: &[u8]) -> Call {
-    let told = word_and_number(text);
-    let value = told.number;
-    match value {
-        Decimal::NoNumber => Call::Bad,
-        Decimal::Value(v) => poke_with(part_of(told.key), v),
-    }
-}
-
-// `size hold|force|waiting N`
-fn size(text: &[u8]) -> Call {
-    let told = word_and_number(text);
-    let count = told.number;
-    match count {
-        Decimal::NoNumber => Call::Bad,
-        Decimal::Value(n) => size_with(buffer_of(told.key), n),
-    }
-}
-
-// A buffer and an offset, and where the bytes for it begin
-fn put_at(buffer: Buffer, offset: Decimal, rest: usize) -> Head
-    ensures { λ r. ⌜ r .rest ≤ rest ⌝ }
-{
-    match buffer {
-        Buffer::Unknown => whole(Call::Bad),
-        _ => match offset {
-            Decimal::NoNumber => whole(Call::Bad),
-            Decimal::Value(n) => until(Call::Put(buffer, n), rest),
-        },
-    }
-}
-
-// `put hold|force|waiting OFFSET HEX`
-fn put(text: &[u8]) -> Head
-    ensures { λ r. ⌜ r .rest ≤ length (now (text .entry)) ⌝ }
-{
-    let e = words::word_end(text);
-    if e == text.len() {
-        return whole(Call::Bad);
-    }
-    let from = e + 1;
-    let lead = leading(&text[from..]);
-    let offset = lead.number;
-    put_at(buffer_of(words::key(&text[..e])), offset, from + lead.rest)
-}
-
-// A call of one word.
-fn alone(key: u64) -> Call {
+// A call by its first word, with the two words behind it as that call asks: `body FIELD HEX`, `sub SUBBLOCK FIELD HEX`,
+// `subbytes SUBBLOCK HEX`, `poke NAME VALUE`, `put hold|force|waiting OFFSET HEX`, `size hold|force|waiting N`.
+fn begun(first: Word, second: Word, third: Word) -> Head {
+    let key = first.key;
+    let alone = first.is_last;
+    let part = part_of(second.key);
+    let buffer = buffer_of(second.key);
+    let n = second.number;
+    let m = third.number;
     match key {
-        0x6f70656e => Call::Run(Run::Open), // open
-        0x66696e697368 => Call::Run(Run::Finish), // finish
-        0x7769746864726177 => Call::Run(Run::Withdraw), // withdraw
-        0x6279746573 => Call::Ask(Ask::Bytes), // bytes
-        _ => Call::Bad,
+        0x6f70656e => whether(alone, Call::Run(Run::Open), 0), // open
+        0x66696e697368 => whether(alone, Call::Run(Run::Finish), 0), // finish
+        0x7769746864726177 => whether(alone, Call::Run(Run::Withdraw), 0), // withdraw
+        0x6279746573 => whether(alone, Call::Ask(Ask::Bytes), 0), // bytes
+        0x66656564 => whether(!alone, Call::Run(Run::Feed), 1), // feed
+        0x7374616765 => whether(!alone, Call::Run(Run::Stage), 1), // stage
+        0x746f77 => whether(!alone, Call::Ask(Ask::Tow), 1), // tow
+        0x776e63 => whether(!alone, Call::Ask(Ask::Wnc), 1), // wnc
+        0x626f6479 => whether(second.leads, Call::Ask(Ask::Body(n)), 2), // body
+        0x7375626279746573 => whether(second.leads, Call::Ask(Ask::SubBytes(n)), 2), // subbytes
+        0x737562 => whether(second.leads & third.leads, Call::Ask(Ask::Sub(n, m)), 3), // sub
+        0x706f6b65 => whether(third.ends & can_poke(part, m), Call::Poke(part, m), 0), // poke
+        0x707574 => whether(third.leads & is_known(buffer), Call::Put(buffer, m), 3), // put
+        0x73697a65 => whether(third.ends & is_known(buffer), Call::Size(buffer, m), 0), // size
+        _ => whether(false, Call::Bad, 0),
     }
 }
 
-// A call of several words: the first by its key, and the text behind it.
-fn begun(key: u64, text: &[u8]) -> Head
-    ensures { λ r. ⌜ r .rest ≤ length (now (text .entry)) ⌝ }
+// Where the bytes begin: behind the first word, the second or the third.
+fn start(words: u8, first: usize, second: usize, third: usize) -> usize
+    requires { ⌜ (first ≤ second) × (second ≤ third) ⌝ }
+    ensures { λ r. ⌜ r ≤ third ⌝ }
 {
-    match key {
-        0x66656564 => until(Call::Run(Run::Feed), 0), // feed
-        0x7374616765 => until(Call::Run(Run::Stage), 0), // stage
-        0x746f77 => until(Call::Ask(Ask::Tow), 0), // tow
-        0x776e63 => until(Call::Ask(Ask::Wnc), 0), // wnc
-        0x626f6479 => body(text), // body
-        0x737562 => sub(text), // sub
-        0x7375626279746573 => sub_bytes(text), // subbytes
-        0x706f6b65 => whole(poke(text)), // poke
-        0x707574 => put(text), // put
-        0x73697a65 => whole(size(text)), // size
-        _ => whole(Call::Bad),
+    match words {
+        1 => first,
+        2 => second,
+        _ => third,
     }
 }
 
@@ -326,20 +230,6 @@ fn with_bytes(call: Call, word: &[u8], given: &mut [u8; 135000]) -> Asked
     bare(Call::Bad)
 }
 
-// The rest of a line, behind its first word and the space.
-fn with_rest(key: u64, text: &[u8], given: &mut [u8; 135000]) -> Asked
-    requires { ⌜ length (now text) ≤ 270000 ⌝ }
-    ensures { λ r. ⌜ r .count ≤ 135000 ⌝ }
-{
-    let first = begun(key, text);
-    let call = first.call;
-    if !first.given {
-        return bare(call);
-    }
-    let from = first.rest;
-    with_bytes(call, &text[from..], given)
-}
-
 // A line without its line feed; the bytes that the call is given go to the start of `given`.
 pub fn read(line: &[u8], given: &mut [u8; 135000]) -> Asked
     requires { ⌜ length (now line) ≤ 270000 ⌝ }
@@ -351,11 +241,14 @@ pub fn read(line: &[u8], given: &mut [u8; 135000]) -> Asked
     if line[0] == b'#' {
         return bare(Call::Pass);
     }
-    let e = words::word_end(line);
-    let key = words::key(&line[..e]);
-    if e == line.len() {
-        return bare(alone(key));
+    let first = word_at(line, 0);
+    let second = word_at(line, first.next);
+    let third = word_at(line, second.next);
+    let head = begun(first, second, third);
+    let call = head.call;
+    if head.words == 0 {
+        return bare(call);
     }
-    let from = e + 1;
-    with_rest(key, &line[from..], given)
+    let from = start(head.words, first.next, second.next, third.next);
+    with_bytes(call, &line[from..], given)
 }

@@ -6,7 +6,10 @@ ghost use lib.ListN.{length};
 // The longest line, without its line feed.
 pub const LONGEST: usize = 270000;
 
-// How long the line is so far, LONGEST + 1 standing for any longer one; where the piece is read on; whether the line ended.
+// The length of any longer line.
+const TOO_LONG: usize = 270001;
+
+// How long the line is so far, TOO_LONG standing for any longer one; where the piece is read on; whether the line ended.
 pub struct Gathered {
     pub length: usize,
     pub next: usize,
@@ -32,9 +35,9 @@ pub fn gather(line: &mut [u8; 270000], so_far: usize, piece: &[u8], from: usize)
         }
         if n < LONGEST {
             line[n] = b;
-        }
-        if n <= LONGEST {
             n += 1;
+        } else {
+            n = TOO_LONG;
         }
     }
     Gathered {

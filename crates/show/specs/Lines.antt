@@ -1,25 +1,20 @@
--- The lines that replay prints, byte by byte: "ANSWER | phase force waits held stands taken blocks skipped | H F W".
+-- The lines of the calls that may write, byte by byte: "ANSWER | phase force waits held stands taken blocks skipped | H F W".
 -- Assumes nothing.
 use Prim.Native.Nat.{ℕ}
 use mathlib.Core.Bool.{Bool, true, false}
 use mathlib.Core.List.{List, [], _∷_, _++_}
 use mathlib.Core.Option.{none, some}
-use Rattle.text.specs.Lines.{spaced, fourHex, newline, blockWords, countsText, endWords}
+use Rattle.text.specs.Lines.{spaced, newline, blockWords, endWords}
+use Rattle.text.specs.Replies.{refusedText, wordBar, crcText}
 use Rattle.refusal.specs.Numbers.{numberFor}
-use Rattle.record.specs.Answer.{answerSays}
-use Rattle.wording.specs.Values.{refusedText, fieldText}
 use Rattle.reader.specs.Said.{Said, refused, version, took, found, ended, waited}
-use Rattle.runs.specs.Said.{saidFed, saidFinished}
+use Rattle.runs.specs.Said.{reportOf, saidFed, saidFinished}
 use Rattle.tables.specs.Said.{saidOpened, saidStaged, saidWithdrawn}
-use Rattle.reader.specs.declared.Phase.{Phase}
-use Rattle.reader.specs.declared.Phase.the-variants.{Closed, Feeding, Finishing}
-use Rattle.reader.specs.declared.State.{State}
-use Rattle.desk.specs.declared.Bytes.{Bytes}
 use Rattle.desk.specs.declared.Crcs.{Crcs}
 use Rattle.desk.specs.declared.RunReply.{RunReply}
 use Rattle.desk.specs.declared.RunReply.the-variants as run
-use Rattle.desk.specs.declared.AskReply.{AskReply}
-use Rattle.desk.specs.declared.AskReply.the-variants as ask
+use Rattle.show.specs.declared.Says.{Says}
+use Rattle.show.specs.declared.Says.the-variants as says
 
 -- `opened`
 abbrev pub wordOpened : List ℕ
@@ -41,21 +36,9 @@ wordFed = 102 ∷ 101 ∷ 100 ∷ []
 abbrev pub wordMore : List ℕ
 wordMore = 32 ∷ 109 ∷ 111 ∷ 114 ∷ 101 ∷ []
 
--- `part`
-abbrev pub wordPart : List ℕ
-wordPart = 112 ∷ 97 ∷ 114 ∷ 116 ∷ []
-
 -- ` `
 abbrev pub wordGap : List ℕ
 wordGap = 32 ∷ []
-
--- `|`
-abbrev pub wordBar : List ℕ
-wordBar = 32 ∷ 124 ∷ []
-
--- ` | - - -`, and the line's end
-abbrev pub wordNoCrcs : List ℕ
-wordNoCrcs = 32 ∷ 124 ∷ 32 ∷ 45 ∷ 32 ∷ 45 ∷ 32 ∷ 45 ∷ 10 ∷ []
 
 abbrev pub fedText : ℕ → List ℕ
 fedText t = wordFed ++ spaced t
@@ -74,35 +57,11 @@ saidText w (found r) = blockWords r
 saidText w (ended c) = endWords c
 saidText w (waited b) = wordWithdrawn ++ spaced (oneFor b)
 
--- "phase 0 closed, 1 feeding, 2 after the first Finish"
-abbrev pub phaseFor : Phase → ℕ
-phaseFor Closed = 0
-phaseFor Feeding = 1
-phaseFor Finishing = 2
-
-abbrev pub fourText : ℕ → ℕ → ℕ → ℕ → List ℕ
-fourText a b c d = spaced a ++ spaced b ++ spaced c ++ spaced d
-
--- "phase force waits held stands taken blocks skipped"
-abbrev pub stateText : State → List ℕ
-stateText s =
-    wordBar
-    ++ spaced (phaseFor (s .run .phase))
-    ++ fourText (s .«in_force») (s .waiting) (s .run .held) (s .run .standing)
-    ++ countsText (s .run .counts)
-
-abbrev pub crcText : ℕ → List ℕ
-crcText n = wordGap ++ fourHex n
-
--- "`part LENGTH CRC` (of the part handed back, four hex digits)"
-abbrev pub bytesText : Bytes → List ℕ
-bytesText b = wordPart ++ spaced (b .count) ++ crcText (b .crc)
-
 -- "H, F, W the CRCs of the whole three buffers in four hex digits", and the line's end
 abbrev pub crcsText : Crcs → List ℕ
 crcsText c = wordBar ++ crcText (c .hold) ++ crcText (c .«in_force») ++ crcText (c .waiting) ++ newline
 
--- what a call replies that may write
+-- what the call replies
 abbrev pub runText : RunReply → List ℕ
 runText (run.Opened a) = saidText wordOpened (saidOpened a)
 runText (run.Fed a) = saidText wordFed (saidFed a)
@@ -110,8 +69,13 @@ runText (run.Finished a) = saidText wordFed (saidFinished a)
 runText (run.Staged a) = saidText wordStaged (saidStaged a)
 runText (run.Withdrawn a) = saidText wordStaged (saidWithdrawn a)
 
--- what a call replies that is lent nothing to write
-abbrev pub askText : AskReply → List ℕ
-askText (ask.Field a) = fieldText (answerSays a)
-askText (ask.Bytes b) = bytesText b
-askText (ask.Refused r) = refusedText (numberFor r)
+-- the same, told apart by what is said and not by the call
+abbrev pub textOf : Says → List ℕ
+textOf (says.Opened v) = saidText wordOpened (version v)
+textOf (says.Staged v) = saidText wordStaged (version v)
+textOf (says.Withdrawn b) = saidText wordStaged (waited b)
+textOf (says.More t) = saidText wordFed (took t none)
+textOf (says.Fed t b) = saidText wordFed (took t (some (reportOf b)))
+textOf (says.Block b) = saidText wordFed (found (reportOf b))
+textOf (says.End c) = saidText wordFed (ended c)
+textOf (says.Refused r) = saidText wordFed (refused (numberFor r))

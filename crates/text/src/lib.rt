@@ -1,12 +1,17 @@
-// Text: words, numbers and the lister's lines, collected in a buffer for standard output.
+// Text: words, numbers, the lister's lines and what all of replay's lines have, collected in a buffer for standard output.
 ghost use Prim.Native.Nat.{_+_, _≤_};
 ghost use lib.ListN.{length, take};
 ghost use mathlib.Core.Path.{_≡_};
 ghost use mathlib.Core.List.{_++_};
+ghost use Rattle.refusal.specs.Numbers.{numberFor};
 ghost use Rattle.runs.specs.Said.{reportOf};
-ghost use Rattle.text.specs.Lines.{decimal, spaced, fourHex, blockWords, blockLine, countsText, endWords, endLine};
+ghost use Rattle.text.specs.Lines.{decimal, spaced, blockWords, blockLine, countsText, endWords, endLine};
+ghost use Rattle.text.specs.Replies.{refusedText, phaseFor, stateText, crcText};
 ghost use Rattle.text.specs.Samples.{Samples};
 use reader::Counts;
+use reader::Phase;
+use reader::State;
+use refusal::Refusal;
 use runs::Block;
 
 // The lister's longest line: the word `block`, four numbers with a space before each, and the line's end.
@@ -64,15 +69,25 @@ pub fn told(out: &mut [u8; 8192], at: usize, word: &[u8], n: u64) -> usize
     number(out, name, n)
 }
 
-// Four hex digits, in lower case.
-pub fn hex_digits(out: &mut [u8; 8192], at: usize, n: u16) -> usize
-    requires { ⌜ at + 4 ≤ 8192 ⌝ }
-    ensures { λ r. ⌜ r ≡ at + 4 ⌝ }
-    ensures { λ r. ⌜ take r (now (out .exit)) ≡ take at (now (out .entry)) ++ fourHex n ⌝ }
+// A space and a CRC: four hex digits, in lower case.
+pub fn crc(out: &mut [u8; 8192], at: usize, n: u16) -> usize
+    requires { ⌜ at + 5 ≤ 8192 ⌝ }
+    ensures { λ r. ⌜ r ≡ at + 5 ⌝ }
+    ensures { λ r. ⌜ take r (now (out .exit)) ≡ take at (now (out .entry)) ++ crcText n ⌝ }
 {
     let mut digits = [0u8; 16];
     let k = io::hex(n as u64, 4, &mut digits);
-    put(out, at, &digits[..k])
+    let gap = put(out, at, b" ");
+    put(out, gap, &digits[..k])
+}
+
+// A refusal, by its number.
+pub fn refused(out: &mut [u8; 8192], at: usize, why: Refusal) -> usize
+    requires { ⌜ at + 28 ≤ 8192 ⌝ }
+    ensures { λ r. ⌜ r ≤ at + 28 ⌝ }
+    ensures { λ r. ⌜ take r (now (out .exit)) ≡ take at (now (out .entry)) ++ refusedText (numberFor why) ⌝ }
+{
+    told(out, at, b"refused", refusal::number(why) as u64)
 }
 
 // What is said of a block, with no line's end.
@@ -125,6 +140,33 @@ pub fn end_line(out: &mut [u8; 8192], at: usize, c: Counts) -> usize
 {
     let words = end_words(out, at, c);
     put(out, words, b"\n")
+}
+
+fn number_for(p: Phase) -> u64
+    ensures { λ r. ⌜ r ≡ phaseFor p ⌝ }
+{
+    match p {
+        Phase::Closed => 0,
+        Phase::Feeding => 1,
+        Phase::Finishing => 2,
+    }
+}
+
+// The state's eight numbers, behind a bar.
+pub fn state_of(out: &mut [u8; 8192], at: usize, s: State) -> usize
+    requires { ⌜ at + 170 ≤ 8192 ⌝ }
+    ensures { λ r. ⌜ r ≤ at + 170 ⌝ }
+    ensures { λ r. ⌜ take r (now (out .exit)) ≡ take at (now (out .entry)) ++ stateText s ⌝ }
+{
+    let run = s.run;
+    let phase = run.phase;
+    let sums = run.counts;
+    let bar = told(out, at, b" |", number_for(phase));
+    let force = number(out, bar, s.in_force as u64);
+    let waiting = number(out, force, s.waiting as u64);
+    let held = number(out, waiting, run.held as u64);
+    let standing = number(out, held, run.standing as u64);
+    counts(out, standing, sums)
 }
 
 // The lines of document 01's sample are these.

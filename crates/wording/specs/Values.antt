@@ -4,6 +4,7 @@ use Prim.Native.Nat.{ℕ, suc}
 use mathlib.Core.List.{List, [], _∷_, _++_}
 use lib.IntN.{ℤ, pos, negsuc}
 use Rattle.text.specs.Lines.{decimal, spaced}
+use Rattle.text.specs.Replies.{refusedText}
 use Rattle.value.specs.Said as field
 
 -- `unsigned`
@@ -30,16 +31,9 @@ wordDoNotUse = 100 ∷ 111 ∷ 45 ∷ 110 ∷ 111 ∷ 116 ∷ 45 ∷ 117 ∷ 115
 abbrev pub wordNotInRevision : List ℕ
 wordNotInRevision = 110 ∷ 111 ∷ 116 ∷ 45 ∷ 105 ∷ 110 ∷ 45 ∷ 116 ∷ 104 ∷ 105 ∷ 115 ∷ 45 ∷ 114 ∷ 101 ∷ 118 ∷ 105 ∷ 115 ∷ 105 ∷ 111 ∷ 110 ∷ []
 
--- `refused`
-abbrev pub wordRefused : List ℕ
-wordRefused = 114 ∷ 101 ∷ 102 ∷ 117 ∷ 115 ∷ 101 ∷ 100 ∷ []
-
 -- `-`
 abbrev pub wordMinus : List ℕ
 wordMinus = 32 ∷ 45 ∷ []
-
-abbrev pub refusedText : ℕ → List ℕ
-refusedText n = wordRefused ++ spaced n
 
 -- "negative ones with a leading `-`"
 abbrev pub integerText : ℤ → List ℕ

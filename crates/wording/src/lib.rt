@@ -1,4 +1,4 @@
-// What a field answers, as text: a value of its type, or a refusal.
+// The lines of the calls that are lent nothing to write: what a field answers, or how many bytes were handed back.
 ghost use Prim.Native.Nat.{_+_, _≤_};
 ghost use mathlib.Core.Path.{_≡_};
 ghost use mathlib.Core.List.{_++_};
@@ -7,22 +7,16 @@ ghost use lib.Dec.{T};
 ghost use lib.IntN.{natAbs};
 ghost use lib.Ieee.{binary32, isNan, toBits};
 ghost use lib.ListN.{take};
-ghost use Rattle.refusal.specs.Numbers.{numberFor};
 ghost use Rattle.record.specs.Answer.{answerSays, valueSays};
-ghost use Rattle.desk.specs.Plain.{noNan, noNanIn};
-ghost use Rattle.wording.specs.Values.{refusedText, integerText, fieldText};
+ghost use Rattle.desk.specs.Plain.{noNan, noNanIn, plainly};
+ghost use Rattle.text.specs.Replies.{stateText};
+ghost use Rattle.wording.specs.Values.{integerText, fieldText};
+ghost use Rattle.wording.specs.Lines.{bytesText, askText, wordNoCrcs};
+use desk::AskReply;
+use desk::Bytes;
+use reader::State;
 use record::Answer;
-use refusal::Refusal;
 use value::Value;
-
-// A refusal, by its number.
-pub fn refused(out: &mut [u8; 8192], at: usize, why: Refusal) -> usize
-    requires { ⌜ at + 120 ≤ 8192 ⌝ }
-    ensures { λ r. ⌜ r ≤ at + 120 ⌝ }
-    ensures { λ r. ⌜ take r (now (out .exit)) ≡ take at (now (out .entry)) ++ refusedText (numberFor why) ⌝ }
-{
-    text::told(out, at, b"refused", refusal::number(why) as u64)
-}
 
 fn magnitude(z: i64) -> u64
     ensures { λ r. ⌜ r ≡ natAbs z ⌝ }
@@ -83,7 +77,7 @@ fn field_value(out: &mut [u8; 8192], at: usize, v: Value) -> usize
 }
 
 // What a field answers.
-pub fn field(out: &mut [u8; 8192], at: usize, a: Answer) -> usize
+fn field(out: &mut [u8; 8192], at: usize, a: Answer) -> usize
     requires { ⌜ T (noNanIn a) ⌝ }
     requires { ⌜ at + 120 ≤ 8192 ⌝ }
     ensures { λ r. ⌜ r ≤ at + 120 ⌝ }
@@ -91,6 +85,42 @@ pub fn field(out: &mut [u8; 8192], at: usize, a: Answer) -> usize
 {
     match a {
         Answer::Field(v) => field_value(out, at, v),
-        Answer::Refused(why) => refused(out, at, why),
+        Answer::Refused(why) => text::refused(out, at, why),
     }
+}
+
+// Bytes that were handed back: how many, and their CRC.
+fn bytes(out: &mut [u8; 8192], at: usize, b: Bytes) -> usize
+    requires { ⌜ at + 120 ≤ 8192 ⌝ }
+    ensures { λ r. ⌜ r ≤ at + 120 ⌝ }
+    ensures { λ r. ⌜ take r (now (out .exit)) ≡ take at (now (out .entry)) ++ bytesText b ⌝ }
+{
+    let count = text::told(out, at, b"part", b.count as u64);
+    text::crc(out, count, b.crc)
+}
+
+// What a call replies that is lent nothing to write.
+fn ask_reply(out: &mut [u8; 8192], at: usize, reply: AskReply) -> usize
+    requires { ⌜ T (plainly reply) ⌝ }
+    requires { ⌜ at + 120 ≤ 8192 ⌝ }
+    ensures { λ r. ⌜ r ≤ at + 120 ⌝ }
+    ensures { λ r. ⌜ take r (now (out .exit)) ≡ take at (now (out .entry)) ++ askText reply ⌝ }
+{
+    match reply {
+        AskReply::Field(a) => field(out, at, a),
+        AskReply::Bytes(b) => bytes(out, at, b),
+        AskReply::Refused(why) => text::refused(out, at, why),
+    }
+}
+
+// The line of a call that is lent nothing to write.
+pub fn ask_line(out: &mut [u8; 8192], at: usize, reply: AskReply, state: State) -> usize
+    requires { ⌜ T (plainly reply) ⌝ }
+    requires { ⌜ at + 320 ≤ 8192 ⌝ }
+    ensures { λ r. ⌜ r ≤ at + 320 ⌝ }
+    ensures { λ r. ⌜ take r (now (out .exit)) ≡ take at (now (out .entry)) ++ (askText reply ++ stateText state ++ wordNoCrcs) ⌝ }
+{
+    let said = ask_reply(out, at, reply);
+    let numbers = text::state_of(out, said, state);
+    text::put(out, numbers, b" | - - -\n")
 }

@@ -5,7 +5,7 @@ use native.Mathlib.Omega.{arith}
 use lib.ListN.{take}
 use Rattle.text.proofs.Joins.{joined}
 use Rattle.text.specs.Lines.{newline}
-use Rattle.show.specs.Lines.{wordBar, crcText}
+use Rattle.text.specs.Replies.{wordBar, crcText}
 use borrow.Author.Needs.{needs}
 use Rattle.show.proofs.crcs.Statement.{statement}
 use Rattle.show.proofs.crcs.Tie as tie

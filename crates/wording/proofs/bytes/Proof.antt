@@ -1,14 +1,15 @@
--- `show::bytes` meets its contract: the count, then the CRC.
+-- `wording::bytes` meets its contract: the count, then the CRC.
 -- Assumes nothing.
 use mathlib.Core.List.{_++_}
 use native.Mathlib.Omega.{arith}
 use lib.ListN.{take}
 use Rattle.text.proofs.Joins.{joined}
 use Rattle.text.specs.Lines.{spaced}
-use Rattle.show.specs.Lines.{wordPart, crcText}
+use Rattle.text.specs.Replies.{crcText}
+use Rattle.wording.specs.Lines.{wordPart}
 use borrow.Author.Needs.{needs}
-use Rattle.show.proofs.bytes.Statement.{statement}
-use Rattle.show.proofs.bytes.Tie as tie
+use Rattle.wording.proofs.bytes.Statement.{statement}
+use Rattle.wording.proofs.bytes.Tie as tie
 
 slice-aggregate-told : tie.Need-slice-aggregate-told
 slice-aggregate-told c = search needs

@@ -1,4 +1,4 @@
--- `show::ask_reply` meets its contract: one text for each reply.
+-- `wording::ask_reply` meets its contract: one text for each reply.
 -- Assumes nothing.
 use mathlib.Core.Path.{subst}
 use native.Mathlib.Omega.{arith}
@@ -6,8 +6,8 @@ use lib.Dec.{T}
 use Rattle.desk.specs.Plain.{plainly}
 use Rattle.desk.specs.declared.AskReply.{AskReply}
 use borrow.Author.Needs.{needs}
-use Rattle.show.proofs.ask_reply.Statement.{statement}
-use Rattle.show.proofs.ask_reply.Tie as tie
+use Rattle.wording.proofs.ask_reply.Statement.{statement}
+use Rattle.wording.proofs.ask_reply.Tie as tie
 
 enum-known-reply : tie.Need-enum-known-reply
 enum-known-reply c = search needs

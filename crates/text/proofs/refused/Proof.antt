@@ -1,15 +1,15 @@
--- `wording::refused` meets its contract: the word and the refusal's number.
+-- `text::refused` meets its contract: the word and the refusal's number.
 -- Assumes nothing.
 use mathlib.Core.Path.{ap, _∙_}
 use mathlib.Core.List.{_++_}
 use Prim.Native.Nat.{ℕ}
 use native.Mathlib.Omega.{arith}
 use lib.ListN.{take}
 use Rattle.text.specs.Lines.{spaced}
-use Rattle.wording.specs.Values.{wordRefused}
+use Rattle.text.specs.Replies.{wordRefused}
 use borrow.Author.Needs.{needs}
-use Rattle.wording.proofs.refused.Statement.{statement}
-use Rattle.wording.proofs.refused.Tie as tie
+use Rattle.text.proofs.refused.Statement.{statement}
+use Rattle.text.proofs.refused.Tie as tie
 
 slice-aggregate-told : tie.Need-slice-aggregate-told
 slice-aggregate-told c = search needs
