@@ -13,6 +13,7 @@ use desk::Desk;
 use desk::RunReply;
 use reader::Check;
 use reader::State;
+use record::Answer;
 use record::Handed;
 use script::Ask;
 use script::Buffer;
@@ -33,83 +34,90 @@ pub struct Played {
     pub turn: Turn,
 }
 
-// The state after a call, and its reply.
-struct Done {
-    state: State,
-    reply: RunReply,
+// A line that prints nothing: a bad one, or not.
+fn quiet(desk: Desk, good: bool) -> Played
+    ensures { λ r. ⌜ T (plain (r .turn)) ⌝ }
+{
+    if good {
+        return Played {
+            desk,
+            turn: Turn::Quiet,
+        };
+    }
+    Played {
+        desk,
+        turn: Turn::Bad,
+    }
 }
 
-fn open(b: Desk, force: &mut [u8], waiting: &[u8]) -> Done {
+// After a call that the reader answers, every buffer is lent whole again.
+fn ran(state: State, reply: RunReply) -> Played
+    ensures { λ r. ⌜ T (plain (r .turn)) ⌝ }
+{
+    Played {
+        desk: desk::after(state),
+        turn: Turn::Ran(reply),
+    }
+}
+
+fn asked(state: State, reply: AskReply) -> Played
+    requires { ⌜ T (plainly reply) ⌝ }
+    ensures { λ r. ⌜ T (plain (r .turn)) ⌝ }
+{
+    Played {
+        desk: desk::after(state),
+        turn: Turn::Asked(reply),
+    }
+}
+
+fn open(b: Desk, force: &mut [u8], waiting: &[u8]) -> Played
+    ensures { λ r. ⌜ T (plain (r .turn)) ⌝ }
+{
     let f = desk::lent(b.in_force, force);
     let w = desk::lent(b.waiting, waiting);
     let opened = tables::open(b.state, &mut force[..f], &waiting[..w]);
     let answer = opened.answer;
     let state = opened.state;
-    Done {
-        state,
-        reply: RunReply::Opened(answer),
-    }
+    ran(state, RunReply::Opened(answer))
 }
 
-fn feed(b: Desk, given: &[u8], hold: &mut [u8]) -> Done {
+fn feed(b: Desk, given: &[u8], hold: &mut [u8]) -> Played
+    ensures { λ r. ⌜ T (plain (r .turn)) ⌝ }
+{
     let n = desk::lent(b.hold, hold);
     let fed = runs::feed(b.state, &mut hold[..n], given);
     let answer = fed.answer;
     let state = fed.state;
-    Done {
-        state,
-        reply: RunReply::Fed(answer),
-    }
+    ran(state, RunReply::Fed(answer))
 }
 
-fn finish(b: Desk, hold: &mut [u8]) -> Done {
+fn finish(b: Desk, hold: &mut [u8]) -> Played
+    ensures { λ r. ⌜ T (plain (r .turn)) ⌝ }
+{
     let n = desk::lent(b.hold, hold);
     let finished = runs::finish(b.state, &mut hold[..n]);
     let answer = finished.answer;
     let state = finished.state;
-    Done {
-        state,
-        reply: RunReply::Finished(answer),
-    }
+    ran(state, RunReply::Finished(answer))
 }
 
-fn stage(b: Desk, given: &[u8], waiting: &mut [u8]) -> Done {
+fn stage(b: Desk, given: &[u8], waiting: &mut [u8]) -> Played
+    ensures { λ r. ⌜ T (plain (r .turn)) ⌝ }
+{
     let w = desk::lent(b.waiting, waiting);
     let staged = tables::stage(b.state, &mut waiting[..w], given);
     let answer = staged.answer;
     let state = staged.state;
-    Done {
-        state,
-        reply: RunReply::Staged(answer),
-    }
+    ran(state, RunReply::Staged(answer))
 }
 
-fn withdraw(b: Desk) -> Done {
+fn withdraw(b: Desk) -> Played
+    ensures { λ r. ⌜ T (plain (r .turn)) ⌝ }
+{
     let withdrawn = tables::withdraw(b.state);
     let answer = withdrawn.answer;
     let state = withdrawn.state;
-    Done {
-        state,
-        reply: RunReply::Withdrawn(answer),
-    }
-}
-
-// A call that may write.
-fn run_call(
-    b: Desk,
-    run: Run,
-    given: &[u8],
-    hold: &mut [u8; 65536],
-    force: &mut [u8; 8192],
-    waiting: &mut [u8; 8192],
-) -> Done {
-    match run {
-        Run::Open => open(b, force, waiting),
-        Run::Feed => feed(b, given, hold),
-        Run::Finish => finish(b, hold),
-        Run::Stage => stage(b, given, waiting),
-        Run::Withdraw => withdraw(b),
-    }
+    ran(state, RunReply::Withdrawn(answer))
 }
 
 // The CRCs of the whole buffers.
@@ -145,18 +153,18 @@ fn bytes(b: Desk, hold: &[u8]) -> AskReply
     }
 }
 
-fn body(b: Desk, i: u64, given: &[u8], force: &[u8]) -> AskReply
-    ensures { λ r. ⌜ T (plainly r) ⌝ }
+// A field of a record.
+fn field(b: Desk, ask: Ask, given: &[u8], force: &[u8]) -> Answer
+    ensures { λ r. ⌜ T (noNanIn r) ⌝ }
 {
     let f = desk::lent(b.in_force, force);
-    AskReply::Field(records::body(b.state, &force[..f], given, i as usize))
-}
-
-fn sub(b: Desk, k: u64, j: u64, given: &[u8], force: &[u8]) -> AskReply
-    ensures { λ r. ⌜ T (plainly r) ⌝ }
-{
-    let f = desk::lent(b.in_force, force);
-    AskReply::Field(records::sub(b.state, &force[..f], given, k as usize, j as usize))
+    let lent = &force[..f];
+    match ask {
+        Ask::Body(i) => records::body(b.state, lent, given, i as usize),
+        Ask::Sub(k, j) => records::sub(b.state, lent, given, k as usize, j as usize),
+        Ask::Tow => records::tow(b.state, given),
+        _ => records::wnc(b.state, given),
+    }
 }
 
 fn sub_bytes(b: Desk, k: u64, given: &[u8], force: &[u8]) -> AskReply
@@ -176,102 +184,86 @@ fn sub_bytes(b: Desk, k: u64, given: &[u8], force: &[u8]) -> AskReply
     }
 }
 
-fn tow(b: Desk, given: &[u8]) -> AskReply
-    ensures { λ r. ⌜ T (plainly r) ⌝ }
-{
-    AskReply::Field(records::tow(b.state, given))
-}
-
-fn wnc(b: Desk, given: &[u8]) -> AskReply
-    ensures { λ r. ⌜ T (plainly r) ⌝ }
-{
-    AskReply::Field(records::wnc(b.state, given))
-}
-
-// A call that is lent nothing to write.
-fn ask_call(b: Desk, ask: Ask, given: &[u8], hold: &[u8], force: &[u8]) -> AskReply
+// A call about a record.
+fn record_call(b: Desk, ask: Ask, given: &[u8], force: &[u8]) -> AskReply
     ensures { λ r. ⌜ T (plainly r) ⌝ }
 {
     match ask {
-        Ask::Bytes => bytes(b, hold),
-        Ask::Body(i) => body(b, i, given, force),
-        Ask::Sub(k, j) => sub(b, k, j, given, force),
         Ask::SubBytes(k) => sub_bytes(b, k, given, force),
-        Ask::Tow => tow(b, given),
-        Ask::Wnc => wnc(b, given),
+        _ => AskReply::Field(field(b, ask, given, force)),
     }
 }
 
-fn quiet(desk: Desk) -> Played
-    ensures { λ r. ⌜ T (plain (r .turn)) ⌝ }
-{
-    Played {
-        desk,
-        turn: Turn::Quiet,
+// The buffer that a line reads or writes, so that a line is lent no other: `open` alone reads the waiting one too. Unknown stands
+// for none.
+fn buffer_of(call: Call) -> Buffer {
+    match call {
+        Call::Run(run) => match run {
+            Run::Open => Buffer::InForce,
+            Run::Stage => Buffer::Waiting,
+            Run::Withdraw => Buffer::Unknown,
+            _ => Buffer::Hold,
+        },
+        Call::Ask(ask) => match ask {
+            Ask::Bytes => Buffer::Hold,
+            _ => Buffer::InForce,
+        },
+        Call::Put(buffer, _) => buffer,
+        _ => Buffer::Unknown,
     }
 }
 
-fn bad(desk: Desk) -> Played
-    ensures { λ r. ⌜ T (plain (r .turn)) ⌝ }
-{
-    Played {
-        desk,
-        turn: Turn::Bad,
-    }
-}
-
-// `put`: a bad line, where the bytes would end past the buffer.
-fn put(
-    b: Desk,
-    buffer: Buffer,
-    offset: usize,
-    given: &[u8],
-    hold: &mut [u8; 65536],
-    force: &mut [u8; 8192],
-    waiting: &mut [u8; 8192],
-) -> Played
-    ensures { λ r. ⌜ T (plain (r .turn)) ⌝ }
-{
-    let fits = match buffer {
-        Buffer::Hold => desk::written(hold, offset, given),
-        Buffer::InForce => desk::written(force, offset, given),
-        Buffer::Waiting => desk::written(waiting, offset, given),
-        Buffer::Unknown => false,
-    };
-    if fits { quiet(b) } else { bad(b) }
-}
-
-// After a call that the reader answers, every buffer is lent whole again.
-fn ran(done: Done) -> Played
-    ensures { λ r. ⌜ T (plain (r .turn)) ⌝ }
-{
-    let state = done.state;
-    let reply = done.reply;
-    Played {
-        desk: desk::after(state),
-        turn: Turn::Ran(reply),
-    }
-}
-
-fn asked(state: State, reply: AskReply) -> Played
-    requires { ⌜ T (plainly reply) ⌝ }
-    ensures { λ r. ⌜ T (plain (r .turn)) ⌝ }
-{
-    Played {
-        desk: desk::after(state),
-        turn: Turn::Asked(reply),
-    }
-}
-
-// A line that asks the reader nothing and is lent no buffer.
-fn set(b: Desk, call: Call) -> Played
+// `feed`, `finish`, `bytes`, and bytes put into the hold: a bad line, where they would end past it.
+fn on_hold(b: Desk, call: Call, given: &[u8], hold: &mut [u8; 65536]) -> Played
     ensures { λ r. ⌜ T (plain (r .turn)) ⌝ }
 {
     match call {
-        Call::Pass => quiet(b),
-        Call::Poke(part, v) => quiet(desk::poked(b, part, v as usize)),
-        Call::Size(buffer, n) => quiet(desk::sized(b, buffer, n as usize)),
-        _ => bad(b),
+        Call::Run(run) => match run {
+            Run::Feed => feed(b, given, hold),
+            _ => finish(b, hold),
+        },
+        Call::Put(_, offset) => quiet(b, desk::written(hold, offset as usize, given)),
+        _ => asked(b.state, bytes(b, hold)),
+    }
+}
+
+// `open`, the calls about records, and bytes put into the table in force.
+fn on_force(
+    b: Desk,
+    call: Call,
+    given: &[u8],
+    force: &mut [u8; 8192],
+    waiting: &[u8; 8192],
+) -> Played
+    ensures { λ r. ⌜ T (plain (r .turn)) ⌝ }
+{
+    match call {
+        Call::Ask(ask) => asked(b.state, record_call(b, ask, given, force)),
+        Call::Put(_, offset) => quiet(b, desk::written(force, offset as usize, given)),
+        _ => open(b, force, waiting),
+    }
+}
+
+// `stage`, and bytes put into the waiting table.
+fn on_waiting(b: Desk, call: Call, given: &[u8], waiting: &mut [u8; 8192]) -> Played
+    ensures { λ r. ⌜ T (plain (r .turn)) ⌝ }
+{
+    match call {
+        Call::Put(_, offset) => quiet(b, desk::written(waiting, offset as usize, given)),
+        _ => stage(b, given, waiting),
+    }
+}
+
+// `withdraw`, and the lines that ask the reader nothing.
+fn on_none(b: Desk, call: Call) -> Played
+    ensures { λ r. ⌜ T (plain (r .turn)) ⌝ }
+{
+    match call {
+        Call::Run(_) => withdraw(b),
+        Call::Pass => quiet(b, true),
+        Call::Poke(part, v) => quiet(desk::poked(b, part, v as usize), true),
+        Call::Size(buffer, n) => quiet(desk::sized(b, buffer, n as usize), true),
+        _ => quiet(b, false),
     }
 }
 
@@ -286,10 +278,11 @@ pub fn call(
 ) -> Played
     ensures { λ r. ⌜ T (plain (r .turn)) ⌝ }
 {
-    match call {
-        Call::Run(run) => ran(run_call(b, run, given, hold, force, waiting)),
-        Call::Ask(ask) => asked(b.state, ask_call(b, ask, given, hold, force)),
-        Call::Put(buffer, offset) => put(b, buffer, offset as usize, given, hold, force, waiting),
-        _ => set(b, call),
+    let buffer = buffer_of(call);
+    match buffer {
+        Buffer::Hold => on_hold(b, call, given, hold),
+        Buffer::InForce => on_force(b, call, given, force, waiting),
+        Buffer::Waiting => on_waiting(b, call, given, waiting),
+        Buffer::Unknown => on_none(b, call),
     }
 }

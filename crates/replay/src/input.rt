@@ -25,42 +25,11 @@ pub fn start() -> Reading
     }
 }
 
-// A line begins where the last one ended.
-fn begin(r: Reading) -> Reading
-    requires { ⌜ (r .at ≤ r .count) × (r .count ≤ 65536) ⌝ }
-    ensures { λ s. ⌜ (s .at ≤ s .count) × (s .count ≤ 65536) × (s .length ≤ 270001) ⌝ }
-{
-    let course = r.course;
-    Reading {
-        at: r.at,
-        count: r.count,
-        length: 0,
-        found: false,
-        course,
-    }
-}
-
 // At the input's end a last line without a line feed counts, an empty rest does not.
 fn is_last(length: usize, course: Course) -> bool {
     match course {
         Course::InputEnded => length != 0,
         _ => false,
-    }
-}
-
-// Reads the next piece.
-fn read_piece(r: Reading, buf: &mut [u8; 65536]) -> Reading
-    requires { ⌜ r .length ≤ 270001 ⌝ }
-    ensures { λ s. ⌜ (s .at ≤ s .count) × (s .count ≤ 65536) × (s .length ≤ 270001) ⌝ }
-{
-    let piece = console::read(buf);
-    let course = piece.course;
-    Reading {
-        at: 0,
-        count: piece.count,
-        length: r.length,
-        found: is_last(r.length, course),
-        course,
     }
 }
 
@@ -82,6 +51,7 @@ fn read_line(r: Reading, buf: &[u8; 65536], line: &mut [u8; 270000]) -> Reading
     }
 }
 
+// Reads the next piece where this one is read.
 fn read_on(r: Reading, buf: &mut [u8; 65536], line: &mut [u8; 270000]) -> Reading
     requires { ⌜ (r .at ≤ r .count) × (r .count ≤ 65536) × (r .length ≤ 270001) ⌝ }
     ensures { λ s. ⌜ (s .at ≤ s .count) × (s .count ≤ 65536) × (s .length ≤ 270001) ⌝ }
@@ -89,33 +59,53 @@ fn read_on(r: Reading, buf: &mut [u8; 65536], line: &mut [u8; 270000]) -> Readin
     if r.at < r.count {
         return read_line(r, buf, line);
     }
-    read_piece(r, buf)
+    let piece = console::read(buf);
+    let course = piece.course;
+    Reading {
+        at: 0,
+        count: piece.count,
+        length: r.length,
+        found: is_last(r.length, course),
+        course,
+    }
 }
 
-fn is_done(r: Reading) -> bool {
+fn goes_on(r: Reading) -> bool {
     let course = r.course;
     if r.found {
-        return true;
+        return false;
     }
-    !console::goes_on(course)
+    console::goes_on(course)
 }
 
-// A proved loop has to end, and nothing says that the input does: it counts its turns down.
+// A proved loop has to end, and nothing says that the input does: it counts its turns down, and has none left where it does not
+// go on.
+pub const TURNS: u64 = 0xffff_ffff_ffff_ffff;
+
+pub fn left(turns: u64, more: bool) -> u64
+    requires { ⌜ 0 < turns ⌝ }
+    ensures { λ r. ⌜ r < turns ⌝ }
+{
+    if more { turns - 1 } else { 0 }
+}
+
+// A line begins where the last one ended.
 pub fn next_line(r: Reading, buf: &mut [u8; 65536], line: &mut [u8; 270000]) -> Reading
     requires { ⌜ (r .at ≤ r .count) × (r .count ≤ 65536) ⌝ }
     ensures { λ s. ⌜ (s .at ≤ s .count) × (s .count ≤ 65536) ⌝ }
 {
-    let mut now = begin(r);
-    if is_done(now) {
-        return now;
-    }
-    let mut turns: u64 = 0xffff_ffff_ffff_ffff;
+    let course = r.course;
+    let mut now = Reading {
+        at: r.at,
+        count: r.count,
+        length: 0,
+        found: false,
+        course,
+    };
+    let mut turns: u64 = left(TURNS, goes_on(now));
     while turns > 0 {
         now = read_on(now, buf, line);
-        if is_done(now) {
-            return now;
-        }
-        turns -= 1;
+        turns = left(turns, goes_on(now));
     }
     now
 }

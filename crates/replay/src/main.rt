@@ -1,8 +1,6 @@
 // Plays a script of calls from standard input, and prints one line a call.
 ghost use Prim.Native.Nat.{_+_, _≤_};
-ghost use mathlib.Core.Path.{_≡_};
 ghost use lib.Dec.{T};
-ghost use lib.ListN.{length};
 ghost use Rattle.play.specs.Turns.{plain};
 
 mod input; // input.rt: the next line of standard input
@@ -11,94 +9,84 @@ use console::Course;
 use desk::Desk;
 use input::Reading;
 use libc::STDERR_FILENO;
+use play::Played;
 use play::Turn;
+use script::Asked;
+use script::Call;
 
 // Between two lines: the desk, how many lines have ended, how many bytes of the output buffer wait to be written, and whether
-// to go on.
+// to go on. While a line is played, it is printed from `at` on.
 pub struct Script {
     pub desk: Desk,
     pub ended: u64,
     pub filled: usize,
+    pub at: usize,
+    pub playing: bool,
     pub course: Course,
 }
 
-fn tell_bad(number: u64) {
-    console::tell(b"bad line ");
-    io::print_decimal(STDERR_FILENO, number);
-    console::tell(b"\n");
-}
-
-fn is_bad(t: Turn) -> bool {
-    match t {
-        Turn::Bad => true,
-        _ => false,
-    }
-}
-
-// What a line came to, as text.
-fn print(
-    desk: Desk,
-    turn: Turn,
-    hold: &[u8; 65536],
-    force: &[u8; 8192],
-    waiting: &[u8; 8192],
-    out: &mut [u8; 8192],
-    at: usize,
-) -> usize
-    requires { ⌜ T (plain turn) ⌝ }
-    requires { ⌜ at + 320 ≤ 8192 ⌝ }
-    ensures { λ r. ⌜ r ≤ 8192 ⌝ }
-{
-    let state = desk.state;
-    match turn {
-        Turn::Ran(reply) => show::run_line(out, at, reply, state, play::crcs(hold, force, waiting)),
-        Turn::Asked(reply) => wording::ask_line(out, at, reply, state),
-        _ => at,
-    }
-}
-
+// No line is played.
 fn so_far(desk: Desk, ended: u64, filled: usize, course: Course) -> Script
-    ensures { λ r. ⌜ r .filled ≡ filled ⌝ }
+    requires { ⌜ filled ≤ 8192 ⌝ }
+    ensures { λ r. ⌜ (r .filled ≤ 8192) × (r .at + 320 ≤ 8192) ⌝ }
 {
     Script {
         desk,
         ended,
         filled,
+        at: 0,
+        playing: false,
         course,
     }
 }
 
-// Reads a line as a call, plays it and prints what it came to.
-fn play_line(
-    b: Desk,
-    ended: u64,
-    line: &[u8],
-    given: &mut [u8; 135000],
-    hold: &mut [u8; 65536],
-    force: &mut [u8; 8192],
-    waiting: &mut [u8; 8192],
-    out: &mut [u8; 8192],
-    at: usize,
-) -> Script
-    requires { ⌜ (length (now line) ≤ 270000) × (at + 320 ≤ 8192) ⌝ }
-    ensures { λ r. ⌜ r .filled ≤ 8192 ⌝ }
+// A line has ended, or the input has: makes room for what the line prints. Nothing is played on where writing failed.
+fn begin_line(s: Script, line: Reading, out: &[u8; 8192]) -> Script
+    requires { ⌜ s .filled ≤ 8192 ⌝ }
+    ensures { λ r. ⌜ (r .filled ≤ 8192) × (r .at + 320 ≤ 8192) ⌝ }
 {
-    let asked = script::read(line, given);
-    let call = asked.call;
-    let count = asked.count;
-    let all: &[u8] = given;
-    let played = play::call(b, call, &all[..count], hold, force, waiting);
-    let desk = played.desk;
-    let turn = played.turn;
-    if is_bad(turn) {
-        tell_bad(ended);
+    let desk = s.desk;
+    if !line.found {
+        let stop = line.course;
+        return so_far(desk, s.ended, s.filled, stop);
     }
-    let filled = print(desk, turn, hold, force, waiting, out, at);
-    so_far(desk, ended, filled, Course::GoesOn)
+    let room = console::make_room(out, s.filled, show::ROOM);
+    if !room.written {
+        return so_far(desk, s.ended, 0, Course::WriteFailed);
+    }
+    Script {
+        desk,
+        // 2^64 lines are never read.
+        ended: std::num::wrapping_add_u64(s.ended, 1),
+        filled: room.filled,
+        at: room.filled,
+        playing: true,
+        course: Course::GoesOn,
+    }
 }
 
-// A line of n bytes has ended: plays it, unless it is too long. Nothing is played on where writing failed.
-fn end_line(
+// Reads a line of n bytes as a call. One that is too long is none, and where no line is played nothing is asked.
+fn read_call(playing: bool, line: &[u8; 270000], n: usize, given: &mut [u8; 135000]) -> Asked
+    ensures { λ r. ⌜ r .count ≤ 135000 ⌝ }
+{
+    if !playing {
+        return Asked {
+            call: Call::Pass,
+            count: 0,
+        };
+    }
+    if script::lines::LONGEST < n {
+        return Asked {
+            call: Call::Bad,
+            count: 0,
+        };
+    }
+    let all: &[u8] = line;
+    script::read(&all[..n], given)
+}
+
+// Reads a line of n bytes as a call, and plays it.
+fn play_line(
     s: Script,
     n: usize,
     line: &[u8; 270000],
@@ -106,66 +94,71 @@ fn end_line(
     hold: &mut [u8; 65536],
     force: &mut [u8; 8192],
     waiting: &mut [u8; 8192],
-    out: &mut [u8; 8192],
-) -> Script
-    requires { ⌜ s .filled ≤ 8192 ⌝ }
-    ensures { λ r. ⌜ r .filled ≤ 8192 ⌝ }
+) -> Played
+    ensures { λ r. ⌜ T (plain (r .turn)) ⌝ }
 {
-    // 2^64 lines are never read.
-    let ended = std::num::wrapping_add_u64(s.ended, 1);
+    let asked = read_call(s.playing, line, n, given);
+    let call = asked.call;
+    let count = asked.count;
     let desk = s.desk;
-    let room = console::make_room(out, s.filled, show::ROOM);
-    if !room.written {
-        return so_far(desk, ended, 0, Course::WriteFailed);
-    }
-    if script::lines::LONGEST < n {
-        tell_bad(ended);
-        return so_far(desk, ended, room.filled, Course::GoesOn);
-    }
-    let all: &[u8] = line;
-    play_line(
-        desk,
-        ended,
-        &all[..n],
-        given,
-        hold,
-        force,
-        waiting,
-        out,
-        room.filled,
-    )
+    let all: &[u8] = given;
+    play::call(desk, call, &all[..count], hold, force, waiting)
 }
 
-// Plays line after line. A proved loop has to end, and nothing says that the input does: it counts its turns down.
-fn play_all(
-    buf: &mut [u8; 65536],
-    line: &mut [u8; 270000],
-    given: &mut [u8; 135000],
-    hold: &mut [u8; 65536],
-    force: &mut [u8; 8192],
-    waiting: &mut [u8; 8192],
+// What a line came to, as text.
+fn print(
+    p: Played,
+    hold: &[u8; 65536],
+    force: &[u8; 8192],
+    waiting: &[u8; 8192],
     out: &mut [u8; 8192],
-) -> Script
+    at: usize,
+) -> usize
+    requires { ⌜ T (plain (p .turn)) ⌝ }
+    requires { ⌜ at + 320 ≤ 8192 ⌝ }
+    ensures { λ r. ⌜ r ≤ 8192 ⌝ }
+{
+    let desk = p.desk;
+    let state = desk.state;
+    let turn = p.turn;
+    match turn {
+        Turn::Ran(reply) => show::run_line(out, at, reply, state, play::crcs(hold, force, waiting)),
+        Turn::Asked(reply) => wording::ask_line(out, at, reply, state),
+        _ => at,
+    }
+}
+
+fn tell_bad(turn: Turn, number: u64) {
+    match turn {
+        Turn::Bad => {
+            console::tell(b"bad line ");
+            io::print_decimal(STDERR_FILENO, number);
+            console::tell(b"\n");
+        }
+        _ => {}
+    }
+}
+
+// A line has been played and printed.
+fn end_line(s: Script, p: Played, printed: usize) -> Script
+    requires { ⌜ (s .filled ≤ 8192) × (printed ≤ 8192) ⌝ }
     ensures { λ r. ⌜ r .filled ≤ 8192 ⌝ }
 {
-    let mut now = so_far(desk::after(reader::new()), 0, 0, Course::GoesOn);
-    let mut reading = input::start();
-    let mut turns: u64 = 0xffff_ffff_ffff_ffff;
-    while turns > 0 {
-        reading = input::next_line(reading, buf, line);
-        if !reading.found {
-            let desk = now.desk;
-            let stop = reading.course;
-            return so_far(desk, now.ended, now.filled, stop);
-        }
-        now = end_line(now, reading.length, line, given, hold, force, waiting, out);
-        let course = now.course;
-        if !console::goes_on(course) {
-            return now;
-        }
-        turns -= 1;
+    let turn = p.turn;
+    tell_bad(turn, s.ended);
+    if !s.playing {
+        return s;
     }
-    now
+    let desk = p.desk;
+    let course = s.course;
+    Script {
+        desk,
+        ended: s.ended,
+        filled: printed,
+        at: 0,
+        playing: true,
+        course,
+    }
 }
 
 // The buffers begin with bytes of their own, so that a byte that a call has not written shows.
@@ -177,15 +170,25 @@ fn main() {
     let mut force = [0x5au8; 8192];
     let mut waiting = [0x3cu8; 8192];
     let mut out = [0u8; 8192];
-    let last = play_all(
-        &mut buf,
-        &mut line,
-        &mut given,
-        &mut hold,
-        &mut force,
-        &mut waiting,
-        &mut out,
-    );
-    let course = last.course;
-    console::write_out(b"replay", course, &out, last.filled);
+    let mut now = so_far(desk::after(reader::new()), 0, 0, Course::GoesOn);
+    let mut reading = input::start();
+    let mut turns: u64 = input::TURNS;
+    while turns > 0 {
+        reading = input::next_line(reading, &mut buf, &mut line);
+        now = begin_line(now, reading, &out);
+        let played = play_line(
+            now,
+            reading.length,
+            &line,
+            &mut given,
+            &mut hold,
+            &mut force,
+            &mut waiting,
+        );
+        let printed = print(played, &hold, &force, &waiting, &mut out, now.at);
+        now = end_line(now, played, printed);
+        turns = input::left(turns, now.playing);
+    }
+    let course = now.course;
+    console::write_out(b"replay", course, &out, now.filled);
 }

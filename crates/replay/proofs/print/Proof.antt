@@ -22,7 +22,7 @@ enum-known-turn-2 c = search needs
 
 ask-line-requires : tie.Need-ask-line-requires
 ask-line-requires c κs =
-    (subst (λ (x : Turn). T (plain x)) (c .before .before .turn2 .given .1) (c .before .before .before .before .before .pre .0), c .before .before .before .before .before .pre .1)
+    (subst (λ (x : Turn). T (plain x)) (c .before .before .turn2 .given .1) (c .before .before .before .before .before .before .pre .0), c .before .before .before .before .before .before .pre .1)
 
 returns : tie.Need-returns
 returns c = search needs

@@ -11,14 +11,11 @@ Inv-loop buf₀ line₀ now₀ turns₀ buf line now turns = (now .at ≤ now .c
 abbrev μ-loop : tie.MeasureT-loop
 μ-loop buf₀ line₀ now₀ turns₀ buf line now turns = turns
 
-begin-requires : tie.Need-begin-requires Inv-loop μ-loop
-begin-requires c κs = search needs
+goes-on-requires : tie.Need-goes-on-requires Inv-loop μ-loop
+goes-on-requires c κs = search needs
 
-is-done-requires : tie.Need-is-done-requires Inv-loop μ-loop
-is-done-requires c κs = search needs
-
-returns : tie.Need-returns Inv-loop μ-loop
-returns c = search needs
+left-requires : tie.Need-left-requires Inv-loop μ-loop
+left-requires c κs = search needs
 
 loop-holds : tie.Need-loop-holds Inv-loop μ-loop
 loop-holds c = search needs
@@ -26,14 +23,11 @@ loop-holds c = search needs
 read-on-requires : tie.Need-read-on-requires Inv-loop μ-loop
 read-on-requires c κs = search needs
 
-is-done-requires-2 : tie.Need-is-done-requires-2 Inv-loop μ-loop
-is-done-requires-2 c κs = search needs
+goes-on-requires-2 : tie.Need-goes-on-requires-2 Inv-loop μ-loop
+goes-on-requires-2 c κs = search needs
 
-returns-2 : tie.Need-returns-2 Inv-loop μ-loop
-returns-2 c = search needs
-
-sub-turns : tie.Need-sub-turns Inv-loop μ-loop
-sub-turns c = search needs
+left-requires-2 : tie.Need-left-requires-2 Inv-loop μ-loop
+left-requires-2 c κs = search needs
 
 loop-less : tie.Need-loop-less Inv-loop μ-loop
 loop-less c = search needs
@@ -41,8 +35,8 @@ loop-less c = search needs
 loop-again : tie.Need-loop-again Inv-loop μ-loop
 loop-again c = search needs
 
-returns-3 : tie.Need-returns-3 Inv-loop μ-loop
-returns-3 c = search needs
+returns : tie.Need-returns Inv-loop μ-loop
+returns c = search needs
 
 pub next-line-spec : {M : Type 1} → statement M
 next-line-spec =
@@ -50,14 +44,12 @@ next-line-spec =
     (tie.spec
     Inv-loop
     μ-loop
-    begin-requires
-    is-done-requires
-    returns
+    goes-on-requires
+    left-requires
     loop-holds
     read-on-requires
-    is-done-requires-2
-    returns-2
-    sub-turns
+    goes-on-requires-2
+    left-requires-2
     loop-less
     loop-again
-    returns-3)
+    returns)
