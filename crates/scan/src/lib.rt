@@ -1,4 +1,5 @@
 // Reading a run from place to place, up to the first block. The run lies in two slices: the held bytes, then the piece.
+ghost use mathlib.Core.Bool.{false};
 ghost use mathlib.Core.Path.{_≡_};
 ghost use Prim.Native.Nat.{max, _+_, _≤_, _<_};
 ghost use lib.ListN.{length};
@@ -39,6 +40,14 @@ fn greater(a: usize, b: usize) -> usize
     if a < b { b } else { a }
 }
 
+// Whether a first sync byte stands in the four bytes from k on.
+fn dollar_in_four(s: &[u8], k: usize) -> bool
+    requires { ⌜ k + 4 ≤ length (now s) ⌝ }
+    ensures { λ r. ⌜ (r ≡ false → NoDollar (now (s .entry)) k (k + 4)) ⌝ }
+{
+    (s[k] == 0x24) | (s[k + 1] == 0x24) | (s[k + 2] == 0x24) | (s[k + 3] == 0x24)
+}
+
 // Passes groups of eight bytes from i on, as long as no first sync byte stands in them: eight tests, one branch.
 fn skip_eights(s: &[u8], i: usize) -> usize
     requires { ⌜ i ≤ length (now s) ⌝ }
@@ -46,11 +55,8 @@ fn skip_eights(s: &[u8], i: usize) -> usize
 {
     let mut k = i;
     while 8 <= s.len() - k {
-        let low = (s[k] == 0x24) | (s[k + 1] == 0x24) | (s[k + 2] == 0x24) | (s[k + 3] == 0x24);
-        let high = (s[k + 4] == 0x24)
-            | (s[k + 5] == 0x24)
-            | (s[k + 6] == 0x24)
-            | (s[k + 7] == 0x24);
+        let low = dollar_in_four(s, k);
+        let high = dollar_in_four(s, k + 4);
         if low | high {
             return k;
         }
