@@ -98,20 +98,21 @@ fn scan_part(s: &[u8], rest: &[u8], before: Passed, mark: usize) -> Part
     let mut m = mark;
     while k < s.len() {
         let p = start_from(s, k);
+        let at = from + p;
         if p == s.len() {
-            return Part::Through(Passed { skipped: from + p }, m);
+            return Part::Through(Passed { skipped: at }, m);
         }
         let v = frame::judge(&s[p..], rest);
         match v {
             Verdict::Frame(n) => {
-                return Part::Block(Passed { skipped: from + p }, n, greater(m, from + p + n));
+                return Part::Block(Passed { skipped: at }, n, greater(m, at + n));
             }
             Verdict::Undecided => {
-                return Part::Waits(Passed { skipped: from + p });
+                return Part::Waits(Passed { skipped: at });
             }
             Verdict::NoFrame(why) => match why {
                 Reason::CrcWrong(n) => {
-                    m = greater(m, from + p + n);
+                    m = greater(m, at + n);
                     // And not p + n: a false header must not swallow the blocks behind it.
                     k = 1 + p;
                 }
@@ -121,7 +122,8 @@ fn scan_part(s: &[u8], rest: &[u8], before: Passed, mark: usize) -> Part
             },
         }
     }
-    Part::Through(Passed { skipped: from + k }, m)
+    let end = from + k;
+    Part::Through(Passed { skipped: end }, m)
 }
 
 // The held bytes and then the piece, up to the first block or the place that is not decided; the promise is by the rule, a byte at a time.
