@@ -43,10 +43,7 @@ pub fn of_feed(s: State, hold: &[u8], piece: &[u8]) -> Check
     if !is_feeding(phase) {
         return Check::Refused(Refusal::OutOfTurn);
     }
-    if run.counts.taken < 4294967295 {
-        return Check::Passed;
-    }
-    if piece.len() == 0 {
+    if (run.counts.taken < 4294967295) | (piece.len() == 0) {
         return Check::Passed;
     }
     let held = run.held;

@@ -1,4 +1,4 @@
--- Eight tests in one: where their disjunction fails, each of them does.
+-- Four tests in one: where their disjunction fails, each of them does.
 -- Assumes nothing.
 use mathlib.Core.Path.{_≡_, refl, sym, ap, _∙_}
 use mathlib.Core.Bool.{Bool, true, false, _||_}
@@ -8,6 +8,7 @@ use native.Mathlib.Omega.{arith}
 use lib.ListN.{getD}
 use lib.Dec.{eqb}
 use borrow.Author.Tests.{eqb-false}
+use Rattle.scan.specs.Scan.{NoDollar}
 use Rattle.frame.proofs.Tests.{eq?, lt?}
 
 pub neither-left : (a b : Bool) → (a || b) ≡ false → a ≡ false
@@ -22,28 +23,25 @@ module _ (s : List ℕ) (k : ℕ) where
   abbrev is : ℕ → Bool
   is i = eqb (getD s i 0) 0x24
 
-  -- four in a row
-  abbrev four : ℕ → ℕ → ℕ → ℕ → Bool
-  four a b c d = is a || is b || is c || is d
-
   not-at : (i j : ℕ) → j ≡ i → is i ≡ false → getD s j 0 ≡ 0x24 → ⊥
   not-at i j e f q = eqb-false (getD s i 0) 0x24 f (ap (λ (x : ℕ). getD s x 0) (sym e) ∙ q)
 
-  not-four : (a b c d j : ℕ) → four a b c d ≡ false → ((j ≡ a → ⊥) → (j ≡ b → ⊥) → (j ≡ c → ⊥) → j ≡ d) → getD s j 0 ≡ 0x24 → ⊥
-  not-four a b c d j f h q =
-      let f3 = neither-left (is a || is b || is c) (is d) f in
-      let f2 = neither-left (is a || is b) (is c) f3 in
-      eq? j a (λ e. not-at a j e (neither-left (is a) (is b) f2) q)
+  pub none-of-four : (is k || is (k + 1) || is (k + 2) || is (k + 3)) ≡ false → (j : ℕ) → k ≤ j → j < k + 4 → getD s j 0 ≡ 0x24 → ⊥
+  none-of-four f j lo hi q =
+      let f3 = neither-left (is k || is (k + 1) || is (k + 2)) (is (k + 3)) f in
+      let f2 = neither-left (is k || is (k + 1)) (is (k + 2)) f3 in
+      eq? j k (λ e. not-at k j e (neither-left (is k) (is (k + 1)) f2) q)
       (λ na.
-      eq? j b (λ e. not-at b j e (neither-right (is a) (is b) f2) q)
+      eq? j (k + 1) (λ e. not-at (k + 1) j e (neither-right (is k) (is (k + 1)) f2) q)
       (λ nb.
-      eq? j c (λ e. not-at c j e (neither-right (is a || is b) (is c) f3) q)
-      (λ nc. not-at d j (h na nb nc) (neither-right (is a || is b || is c) (is d) f) q)))
+      eq? j (k + 2) (λ e. not-at (k + 2) j e (neither-right (is k || is (k + 1)) (is (k + 2)) f3) q)
+      (λ nc. not-at (k + 3) j (omega (arith, na, nb, nc)) (neither-right (is k || is (k + 1) || is (k + 2)) (is (k + 3)) f) q)))
 
-  pub none-of-eight : (four k (k + 1) (k + 2) (k + 3) || four (k + 4) (k + 5) (k + 6) (k + 7)) ≡ false
-      → (j : ℕ) → k ≤ j → j < k + 8 → getD s j 0 ≡ 0x24 → ⊥
-  none-of-eight f j lo hi q =
-      let low = neither-left (four k (k + 1) (k + 2) (k + 3)) (four (k + 4) (k + 5) (k + 6) (k + 7)) f in
-      let high = neither-right (four k (k + 1) (k + 2) (k + 3)) (four (k + 4) (k + 5) (k + 6) (k + 7)) f in
-      lt? j (k + 4) (λ l. not-four k (k + 1) (k + 2) (k + 3) j low (λ a b c. omega (arith, a, b, c)) q)
-      (λ l. not-four (k + 4) (k + 5) (k + 6) (k + 7) j high (λ a b c. omega (arith, a, b, c)) q)
+-- two parts in a row with no first sync byte
+pub no-dollar-on : (s : List ℕ) {i j k : ℕ} → NoDollar s i j → NoDollar s j k → NoDollar s i k
+no-dollar-on s {i} {j} {k} a b =
+    record {
+      from = omega (arith, a .from, b .from);
+      within = b .within;
+      none = λ n lo hi e. lt? n j (λ l. a .none n lo l e) (λ l. b .none n l hi e);
+    }

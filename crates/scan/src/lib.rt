@@ -1,4 +1,5 @@
 // Reading a run from place to place, up to the first block. The run lies in two slices: the held bytes, then the piece.
+ghost use mathlib.Core.Bool.{false};
 ghost use mathlib.Core.Path.{_≡_};
 ghost use Prim.Native.Nat.{max, _+_, _≤_, _<_};
 ghost use lib.ListN.{length};
@@ -39,6 +40,14 @@ fn greater(a: usize, b: usize) -> usize
     if a < b { b } else { a }
 }
 
+// Whether a first sync byte stands in the four bytes from k on.
+fn dollar_in_four(s: &[u8], k: usize) -> bool
+    requires { ⌜ k + 4 ≤ length (now s) ⌝ }
+    ensures { λ r. ⌜ (r ≡ false → NoDollar (now (s .entry)) k (k + 4)) ⌝ }
+{
+    (s[k] == 0x24) | (s[k + 1] == 0x24) | (s[k + 2] == 0x24) | (s[k + 3] == 0x24)
+}
+
 // Passes groups of eight bytes from i on, as long as no first sync byte stands in them: eight tests, one branch.
 fn skip_eights(s: &[u8], i: usize) -> usize
     requires { ⌜ i ≤ length (now s) ⌝ }
@@ -46,11 +55,8 @@ fn skip_eights(s: &[u8], i: usize) -> usize
 {
     let mut k = i;
     while 8 <= s.len() - k {
-        let low = (s[k] == 0x24) | (s[k + 1] == 0x24) | (s[k + 2] == 0x24) | (s[k + 3] == 0x24);
-        let high = (s[k + 4] == 0x24)
-            | (s[k + 5] == 0x24)
-            | (s[k + 6] == 0x24)
-            | (s[k + 7] == 0x24);
+        let low = dollar_in_four(s, k);
+        let high = dollar_in_four(s, k + 4);
         if low | high {
             return k;
         }
@@ -92,20 +98,21 @@ fn scan_part(s: &[u8], rest: &[u8], before: Passed, mark: usize) -> Part
     let mut m = mark;
     while k < s.len() {
         let p = start_from(s, k);
+        let at = from + p;
         if p == s.len() {
-            return Part::Through(Passed { skipped: from + p }, m);
+            return Part::Through(Passed { skipped: at }, m);
         }
         let v = frame::judge(&s[p..], rest);
         match v {
             Verdict::Frame(n) => {
-                return Part::Block(Passed { skipped: from + p }, n, greater(m, from + p + n));
+                return Part::Block(Passed { skipped: at }, n, greater(m, at + n));
             }
             Verdict::Undecided => {
-                return Part::Waits(Passed { skipped: from + p });
+                return Part::Waits(Passed { skipped: at });
             }
             Verdict::NoFrame(why) => match why {
                 Reason::CrcWrong(n) => {
-                    m = greater(m, from + p + n);
+                    m = greater(m, at + n);
                     // And not p + n: a false header must not swallow the blocks behind it.
                     k = 1 + p;
                 }
@@ -115,7 +122,8 @@ fn scan_part(s: &[u8], rest: &[u8], before: Passed, mark: usize) -> Part
             },
         }
     }
-    Part::Through(Passed { skipped: from + k }, m)
+    let end = from + k;
+    Part::Through(Passed { skipped: end }, m)
 }
 
 // The held bytes and then the piece, up to the first block or the place that is not decided; the promise is by the rule, a byte at a time.

@@ -16,19 +16,19 @@ use Rattle.feed.proofs.feed.Statement.{statement}
 use Rattle.feed.proofs.feed.Tie as tie
 
 sub-n : tie.Need-sub-n
-sub-n c = search needs
+sub-n c = omega arith
 
 lesser-requires : tie.Need-lesser-requires
 lesser-requires c κs = search needs
 
 sub-scan : tie.Need-sub-scan
-sub-scan c = search needs
+sub-scan c = omega arith
 
 part-scan-start : tie.Need-part-scan-start
-part-scan-start c = search needs
+part-scan-start c = omega arith
 
 part-scan-end : tie.Need-part-scan-end
-part-scan-end c = search needs
+part-scan-end c = omega arith
 
 slice-aggregate-scan : tie.Need-slice-aggregate-scan
 slice-aggregate-scan c =
@@ -40,6 +40,12 @@ scan-requires c κs = search needs
 
 abbrev entry : tie.After-scan → tie.Start
 entry s = s .before .before .before .before .before .before .before
+
+front : (s : tie.After-scan) → entry s .args .standing ≤ entry s .args .held
+front s = entry s .pre .0
+
+fits : (s : tie.After-scan) → entry s .args .held ≤ length (entry s .args .hold .now)
+fits s = omega (arith, entry s .pre)
 
 -- what is held without the standing block
 abbrev rest : tie.After-scan → List ℕ
@@ -59,10 +65,10 @@ came s =
 -- none is lost
 adds : (s : tie.After-scan)
     → entry s .args .held - entry s .args .standing + s .scan .result .taken ≡ s .scan .result .passed .skipped + length (fed s .held)
-adds s = let a = entry s .args in sum (a .hold .now) (a .held) (a .standing) (a .piece .now) (a .room) (omega arith) (omega arith) (s .scan .result) (came s)
+adds s = let a = entry s .args in sum (a .hold .now) (a .held) (a .standing) (a .piece .now) (a .room) (front s) (fits s) (s .scan .result) (came s)
 
 takes : (s : tie.After-scan) → s .scan .result .taken ≤ min (entry s .args .room) (length (entry s .args .piece .now))
-takes s = let a = entry s .args in few (a .hold .now) (a .held) (a .standing) (a .piece .now) (a .room) (omega arith) (omega arith) (s .scan .result) (came s)
+takes s = let a = entry s .args in few (a .hold .now) (a .held) (a .standing) (a .piece .now) (a .room) (front s) (fits s) (s .scan .result) (came s)
 
 byte-h : (s : tie.After-scan) → Bytes (entry s .args .hold .now)
 byte-h s i = omega (arith, s .before .before .before .before .before .before .slice-known .given i)
@@ -76,7 +82,7 @@ held-few s =
     let a = entry s .args in
     fed-held (a .piece .now) (a .room) (rest s)
     (take-bytes (drop (a .standing) (a .hold .now)) (a .held - a .standing) (drop-bytes (a .hold .now) (a .standing) (byte-h s))) (byte-p s)
-    (omega (arith, rest-length (a .hold .now) (a .held) (a .standing) (omega arith) (omega arith)))
+    (omega (arith, rest-length (a .hold .now) (a .held) (a .standing) (front s) (fits s), entry s .pre))
 
 add-m : tie.Need-add-m
 add-m c = omega (arith, takes (c .before))
@@ -87,10 +93,10 @@ keep-requires c κs =
     let t = takes s in
     let l = adds s in
     let f = held-few s in
-    (omega arith, omega arith, omega arith, omega arith, omega arith)
+    omega (arith, t, l, f, entry s .pre)
 
 sub-t14 : tie.Need-sub-t14
-sub-t14 c = let l = adds (c .before .before .before .before .before) in omega arith
+sub-t14 c = omega (arith, adds (c .before .before .before .before .before))
 
 same-length : tie.Need-same-length
 same-length c = search needs
@@ -102,11 +108,11 @@ returns c =
     let t = takes s in
     let l = adds s in
     let f = held-few s in
-    let w = whole (a .hold .now) (a .held) (a .standing) (a .piece .now) (a .room) (omega arith) (omega arith) (s .scan .result) (came s) in (
-      told (a .hold .now) (a .held) (a .standing) (a .piece .now) (a .room) (omega arith) (omega arith) (s .scan .result) (came s),
+    let w = whole (a .hold .now) (a .held) (a .standing) (a .piece .now) (a .room) (front s) (fits s) (s .scan .result) (came s) in (
+      told (a .hold .now) (a .held) (a .standing) (a .piece .now) (a .room) (front s) (fits s) (s .scan .result) (came s),
       (
-        kept (a .hold .now) (a .held) (a .standing) (a .piece .now) (a .room) (omega arith) (omega arith) (s .scan .result) (came s) (c .before .before .keep .ensures),
-        record { front = omega arith; few = omega arith; taken = t },
+        kept (a .hold .now) (a .held) (a .standing) (a .piece .now) (a .room) (front s) (fits s) (s .scan .result) (came s) (c .before .before .keep .ensures),
+        record { front = omega (arith, l, w); few = omega (arith, l, f); taken = t },
       ),
     )
 

@@ -3,6 +3,7 @@
 use mathlib.Core.Path.{_≡_}
 use Prim.Native.Nat.{_-_, _≤_}
 use native.Mathlib.Omega.{arith}
+use lib.ListN.{length}
 use Rattle.scan.specs.Settle.{settle, judgedLast}
 use Rattle.scan.specs.Feed.{stop}
 use Rattle.scan.specs.Scan.{foundOf}
@@ -13,13 +14,13 @@ use Rattle.feed.proofs.finish.Statement.{statement}
 use Rattle.feed.proofs.finish.Tie as tie
 
 sub-last : tie.Need-sub-last
-sub-last c = search needs
+sub-last c = omega arith
 
 part-last-start : tie.Need-part-last-start
-part-last-start c = search needs
+part-last-start c = omega arith
 
 part-last-end : tie.Need-part-last-end
-part-last-end c = search needs
+part-last-end c = omega arith
 
 last-requires : tie.Need-last-requires
 last-requires c κs = search needs
@@ -27,15 +28,21 @@ last-requires c κs = search needs
 abbrev entry : tie.After-last → tie.Start
 entry s = s .before .before .before .before
 
+front : (s : tie.After-last) → entry s .args .standing ≤ entry s .args .held
+front s = entry s .pre .0
+
+fits : (s : tie.After-last) → entry s .args .held ≤ length (entry s .args .hold .now)
+fits s = omega (arith, entry s .pre)
+
 came : (s : tie.After-last) → s .last .result ≡ foundOf (stop (settle judgedLast (restOf (entry s .args .hold .now) (entry s .args .held) (entry s .args .standing))))
 unfolding restOf
 came s = s .last .ensures
 
 few : (s : tie.After-last) → s .last .result .passed .skipped ≤ entry s .args .held - entry s .args .standing
-few s = let a = entry s .args in end-few (a .hold .now) (a .held) (a .standing) (omega arith) (omega arith) (s .last .result) (came s)
+few s = let a = entry s .args in end-few (a .hold .now) (a .held) (a .standing) (front s) (fits s) (s .last .result) (came s)
 
 sub-k : tie.Need-sub-k
-sub-k c = search needs
+sub-k c = omega arith
 
 sub-k-2 : tie.Need-sub-k-2
 sub-k-2 c = few (c .before)
@@ -54,11 +61,11 @@ returns c =
     let s = c .before .before .before .before .before in
     let a = entry s .args in
     let f = few s in
-    let g = end-front (a .hold .now) (a .held) (a .standing) (omega arith) (omega arith) (s .last .result) (came s) in (
-      end-told (a .hold .now) (a .held) (a .standing) (omega arith) (omega arith) (s .last .result) (came s),
+    let g = end-front (a .hold .now) (a .held) (a .standing) (front s) (fits s) (s .last .result) (came s) in (
+      end-told (a .hold .now) (a .held) (a .standing) (front s) (fits s) (s .last .result) (came s),
       (
-        end-kept (a .hold .now) (a .held) (a .standing) (omega arith) (omega arith) (s .last .result) (came s) (c .before .before .move-down .ensures),
-        record { front = g; few = omega arith; taken = omega arith },
+        end-kept (a .hold .now) (a .held) (a .standing) (front s) (fits s) (s .last .result) (came s) (c .before .before .move-down .ensures),
+        record { front = g; few = omega (arith, entry s .pre); taken = omega arith },
       ),
     )
 

@@ -48,7 +48,7 @@ move-some-requires : tie.Need-move-some-requires Inv-loop μ-loop
 move-some-requires c κs =
     let n = least (c .before .before) in
     let l = long (c .before .before .before .before) in
-    (omega arith, omega arith, omega arith)
+    omega arith
 
 add-moved : tie.Need-add-moved Inv-loop μ-loop
 add-moved c = omega (arith, least (c .before .before .before .before .before))

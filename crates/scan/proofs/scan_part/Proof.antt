@@ -90,8 +90,8 @@ within j n t =
 fits : (j : tie.After-judge Inv-loop μ-loop) {x : Verdict} → j .judge .result ≡ x → Fits (run j) x
 fits j e = subst (Fits (run j)) (verdict j e) (judging .fits (run j))
 
-add-t15 : tie.Need-add-t15 Inv-loop μ-loop
-add-t15 c = omega (arith, bound (c .before), c .before .start-from .ensures .within)
+add-at : tie.Need-add-at Inv-loop μ-loop
+add-at c = omega (arith, bound c, c .start-from .ensures .within)
 
 returns : tie.Need-returns Inv-loop μ-loop
 returns c =
@@ -114,21 +114,12 @@ judge-requires c κs = search needs
 enum-known-v : tie.Need-enum-known-v Inv-loop μ-loop
 enum-known-v c = search needs
 
--- the place fits a number, and so does the block's end
-place-fits : (j : tie.After-judge Inv-loop μ-loop) → entry (begin j) .args .before .skipped + place j < 18446744073709551616
-place-fits j = omega (arith, inside (j .before .before), bound (begin j))
-
+-- the block's end fits a number
 end-fits : (j : tie.After-judge Inv-loop μ-loop) (n : ℕ) → There n (run j) → entry (begin j) .args .before .skipped + place j + n < 18446744073709551616
 end-fits j n t = omega (arith, within j n t, bound (begin j))
 
-add-t20 : tie.Need-add-t20 Inv-loop μ-loop
-add-t20 c = omega (arith, place-fits (c .before .before .before))
-
 add-greater : tie.Need-add-greater Inv-loop μ-loop
-add-greater c = omega (arith, place-fits (c .before .before .before))
-
-add-greater-2 : tie.Need-add-greater-2 Inv-loop μ-loop
-add-greater-2 c = let j = c .before .before .before in omega (arith, end-fits j (c .before .v .given .0 .0) (fits j (c .before .v .given .1)))
+add-greater c = let j = c .before .before .before in omega (arith, end-fits j (c .before .v .given .0 .0) (fits j (c .before .v .given .1)))
 
 greater-requires : tie.Need-greater-requires Inv-loop μ-loop
 greater-requires c κs = search needs
@@ -146,9 +137,6 @@ returns-2 c =
 enum-told : tie.Need-enum-told Inv-loop μ-loop
 enum-told c = search needs
 
-add-t25 : tie.Need-add-t25 Inv-loop μ-loop
-add-t25 c = omega (arith, place-fits (c .before .before))
-
 returns-3 : tie.Need-returns-3 Inv-loop μ-loop
 returns-3 c =
     let j = c .before .before in
@@ -162,17 +150,14 @@ enum-known-v-2 c = search needs
 enum-known-why : tie.Need-enum-known-why Inv-loop μ-loop
 enum-known-why c = search needs
 
-add-greater-3 : tie.Need-add-greater-3 Inv-loop μ-loop
-add-greater-3 c = omega (arith, place-fits (c .before .before .before .before .before .before))
-
 -- no frame stands at the place, for this reason
 reasoned : (c : tie.After-why Inv-loop μ-loop) → judged (run (c .before .before .before .before .before)) ≡ NoFrame (CrcWrong (c .why .given .0 .0))
 reasoned c =
     let v = c .before .before .before in
     verdict (v .before .before) (v .v2 .given .1 ∙ ap NoFrame (c .why .given .1))
 
-add-greater-4 : tie.Need-add-greater-4 Inv-loop μ-loop
-add-greater-4 c =
+add-greater-2 : tie.Need-add-greater-2 Inv-loop μ-loop
+add-greater-2 c =
     let w = c .before in
     let j = w .before .before .before .before .before in
     let t : There (w .why .given .0 .0) (run j) = subst (Fits (run j)) (reasoned w) (judging .fits (run j)) in
@@ -224,8 +209,8 @@ loop-again-2 c =
           ∙ there (begin j),
     )
 
-add-t29 : tie.Need-add-t29 Inv-loop μ-loop
-add-t29 c = let s = c .before .before .before .before in omega (arith, s .pre, c .before .loop .inv .0)
+add-end : tie.Need-add-end Inv-loop μ-loop
+add-end c = let s = c .before .before .before .before in omega (arith, s .pre, c .before .loop .inv .0)
 
 returns-4 : tie.Need-returns-4 Inv-loop μ-loop
 returns-4 c =
@@ -241,25 +226,21 @@ scan-part-spec =
     μ-loop
     loop-holds
     start-from-requires
-    add-t15
+    add-at
     returns
     sub-judge
     part-judge-start
     part-judge-end
     judge-requires
     enum-known-v
-    add-t20
     add-greater
-    add-greater-2
     greater-requires
     returns-2
     enum-told
-    add-t25
     returns-3
     enum-known-v-2
     enum-known-why
-    add-greater-3
-    add-greater-4
+    add-greater-2
     greater-requires-2
     add-k
     loop-less
@@ -267,5 +248,5 @@ scan-part-spec =
     add-k-2
     loop-less-2
     loop-again-2
-    add-t29
+    add-end
     returns-4)

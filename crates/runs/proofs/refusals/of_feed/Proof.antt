@@ -1,12 +1,21 @@
 -- `runs::refusals::of_feed` meets its contract.
 -- Assumes nothing.
-use mathlib.Core.Path.{_≡_, sym, ap, _∙_}
-use mathlib.Core.Bool.{Bool, true, _&&_}
+use mathlib.Core.Path.{_≡_, refl, sym, ap, _∙_}
+use mathlib.Core.Bool.{Bool, true, false, _&&_, _||_}
+use mathlib.Core.List.{List}
+use mathlib.Core.Option.{Option, none, some}
+use Prim.Native.Nat.{ℕ}
 use native.Mathlib.Omega.{arith}
-use borrow.Author.Tests.{not-true, not-false, lt-ltb, le-ltb, eq-eqb, ne-eqb}
-use Rattle.reader.specs.State.{sound}
-use Rattle.reader.specs.Refusals.{longHold}
-use Rattle.runs.specs.Refusals.{isFeeding, feedRefusal}
+use lib.ListN.{length}
+use lib.Dec.{ltb, eqb}
+use borrow.Author.Tests.{not-true, not-false}
+use Rattle.frame.specs.Judge.{judged}
+use Rattle.scan.specs.Settle.{settle}
+use Rattle.feed.specs.Hold.{restOf}
+use Rattle.reader.specs.State.{limit, sound}
+use Rattle.reader.specs.Refusals.{need, longHold}
+use Rattle.reader.specs.declared.State.{State}
+use Rattle.runs.specs.Refusals.{isFeeding, isSome, feedRefusal}
 use Rattle.reader.proofs.Laws.{with-hold}
 use borrow.Author.Needs.{needs}
 use Rattle.runs.proofs.refusals.of_feed.Statement.{statement}
@@ -26,45 +35,86 @@ long c = one (c .before) (not-false _ (c .if1 .left))
 fed : (c : tie.Else2) → isFeeding (c .before .before .before .before .before .before .before .args .s .run .phase) ≡ true
 fed c = sym (c .before .is-feeding .ensures) ∙ not-false _ (c .if2 .left)
 
+-- where a run may take more, or no more is given, the held bytes are not looked at
+open-or : (a b x : Bool) → (a || b) ≡ true → (a || (b || x)) ≡ true
+open-or true b x e = refl
+open-or false true x e = refl
+open-or false false x e = let z : _≡_ {A = ℕ} 0 1 = cc in let f : ⊥ = omega arith in absurd f
+
+full-or : (a b x : Bool) → (a || b) ≡ false → (a || (b || x)) ≡ x
+full-or true b x e = let z : _≡_ {A = ℕ} 0 1 = cc in let f : ⊥ = omega arith in absurd f
+full-or false true x e = let z : _≡_ {A = ℕ} 0 1 = cc in let f : ⊥ = omega arith in absurd f
+full-or false false x e = refl
+
+-- each refusal stands behind those before it
+at-1 : (a : Bool) (o : Option ℕ) → a ≡ false → some 1 ≡ need a 1 o
+at-1 a o p = sym (ap (λ (x : Bool). need x 1 o) p)
+
+at-2 : (a b : Bool) (o : Option ℕ) → a ≡ true → b ≡ false → some 2 ≡ need a 1 (need b 2 o)
+at-2 a b o p q = sym (ap (λ (x : Bool). need x 1 (need b 2 o)) p ∙ ap (λ (x : Bool). need x 2 o) q)
+
+at-3 : (a b c d : Bool) → a ≡ true → b ≡ true → c ≡ d → need d 3 none ≡ need a 1 (need b 2 (need c 3 none))
+at-3 a b c d p q r =
+    sym (ap (λ (x : Bool). need x 1 (need b 2 (need c 3 none))) p ∙ ap (λ (x : Bool). need x 2 (need c 3 none)) q ∙ ap (λ (x : Bool). need x 3 none) r)
+
+abbrev safe : State → List ℕ → Bool
+safe s hold = sound s && longHold hold
+
+abbrev may : State → Bool
+may s = ltb (s .run .counts .taken) limit
+
+abbrev empty : List ℕ → Bool
+empty piece = eqb (length piece) 0
+
+abbrev gives : State → List ℕ → Bool
+gives s hold = isSome (settle judged (restOf hold (s .run .held) (s .run .standing)) .standing)
+
 returns : tie.Need-returns
 unfolding feedRefusal
-returns c = simp (one (c .before) (not-true _ (c .if1 .taken)))
+returns c =
+    let a = c .before .before .before .before .args in
+    at-1 (safe (a .s) (a .hold .now)) _ (one (c .before) (not-true _ (c .if1 .taken)))
 
 is-feeding-requires : tie.Need-is-feeding-requires
 is-feeding-requires c κs = search needs
 
 returns-2 : tie.Need-returns-2
 unfolding feedRefusal
-returns-2 c = simp (long (c .before .before .before), sym (c .before .is-feeding .ensures) ∙ not-true _ (c .if2 .taken))
+returns-2 c =
+    let e = c .before .before .before in
+    let a = e .before .before .before .before .args in
+    at-2 (safe (a .s) (a .hold .now)) (isFeeding (a .s .run .phase)) _ (long e) (sym (c .before .is-feeding .ensures) ∙ not-true _ (c .if2 .taken))
 
 returns-3 : tie.Need-returns-3
 unfolding feedRefusal
-returns-3 c = let e = c .before .before in simp (long (e .before .before .before), fed e, lt-ltb _ _ (c .if3 .taken))
-
-returns-4 : tie.Need-returns-4
-unfolding feedRefusal
-returns-4 c =
-    let e = c .before .before .before in
-    simp (long (e .before .before .before), fed e, le-ltb _ _ (c .before .if3 .left), eq-eqb _ _ (c .if4 .taken))
+returns-3 c =
+    let e = c .before .before in
+    let a = e .before .before .before .before .before .before .before .args in
+    at-3 (safe (a .s) (a .hold .now)) (isFeeding (a .s .run .phase)) _ true (long (e .before .before .before)) (fed e)
+    (open-or (may (a .s)) (empty (a .piece .now)) (gives (a .s) (a .hold .now)) (c .if3 .taken))
 
 gives-block-requires : tie.Need-gives-block-requires
 gives-block-requires c κs =
-    let e = c .before .before .before in
+    let e = c .before .before in
     let a = e .before .before .before .before .before .before .before .args in
     let f = with-hold (a .s) (a .hold .now) (long (e .before .before .before)) in
     (f .0 .front, omega (arith, f .0 .held, f .1))
 
+returns-4 : tie.Need-returns-4
+unfolding feedRefusal
+returns-4 c =
+    let e = c .before .before .before .before in
+    let a = e .before .before .before .before .before .before .before .args in
+    at-3 (safe (a .s) (a .hold .now)) (isFeeding (a .s .run .phase)) _ true (long (e .before .before .before)) (fed e)
+    (full-or (may (a .s)) (empty (a .piece .now)) (gives (a .s) (a .hold .now)) (c .before .before .if3 .left) ∙ sym (c .before .gives-block .ensures) ∙ c .if4 .taken)
+
 returns-5 : tie.Need-returns-5
 unfolding feedRefusal
 returns-5 c =
-    let e = c .before .before .before .before .before in
-    simp (long (e .before .before .before), fed e, le-ltb _ _ (c .before .before .before .if3 .left), ne-eqb _ _ (c .before .before .if4 .left), sym (c .before .gives-block .ensures) ∙ c .if5 .taken)
-
-returns-6 : tie.Need-returns-6
-unfolding feedRefusal
-returns-6 c =
-    let e = c .before .before .before .before .before in
-    simp (long (e .before .before .before), fed e, le-ltb _ _ (c .before .before .before .if3 .left), ne-eqb _ _ (c .before .before .if4 .left), sym (c .before .gives-block .ensures) ∙ c .if5 .left)
+    let e = c .before .before .before .before in
+    let a = e .before .before .before .before .before .before .before .args in
+    at-3 (safe (a .s) (a .hold .now)) (isFeeding (a .s .run .phase)) _ false (long (e .before .before .before)) (fed e)
+    (full-or (may (a .s)) (empty (a .piece .now)) (gives (a .s) (a .hold .now)) (c .before .before .if3 .left) ∙ sym (c .before .gives-block .ensures) ∙ c .if4 .left)
 
 pub of-feed-spec : {M : Type 1} → statement M
 of-feed-spec =
@@ -75,7 +125,6 @@ of-feed-spec =
     is-feeding-requires
     returns-2
     returns-3
-    returns-4
     gives-block-requires
-    returns-5
-    returns-6)
+    returns-4
+    returns-5)
