@@ -1,22 +1,25 @@
 -- When a place is decided, while the run is fed and when it is finished.
 -- Assumes nothing.
-use mathlib.Core.Path.{_≡_, refl}
+use mathlib.Core.Path.{_≡_, refl, ap, ap₂, _∙_, subst}
 use mathlib.Core.List.{List}
 use mathlib.Core.Bool.{Bool, true, false, cond, _&&_}
-use Prim.Native.Nat.{ℕ, _<_}
+use Prim.Native.Nat.{ℕ, _≤_, _<_}
 use native.Mathlib.Omega.{arith}
 use lib.ListN.{length, getD, List·getD-eq-default}
 use lib.Dec.{ltb, eqb}
-use borrow.Author.Tests.{eq-eqb, ne-eqb, ltb-true, ltb-false}
+use borrow.Author.Tests.{eq-eqb, ne-eqb, eqb-true, ltb-true, ltb-false, lt-ltb, le-ltb}
 use Rattle.frame.specs.Frame.{syncAt, lengthAt}
+use Rattle.frame.specs.Judge.{judged}
+use Rattle.frame.specs.declared.Reason.{Reason}
 use Rattle.frame.specs.declared.Reason.the-variants.{NoSync, LengthNotAllowed, CrcWrong, FewLeft, PastEnd}
 use Rattle.frame.specs.declared.Verdict.{Verdict}
 use Rattle.frame.specs.declared.Verdict.the-variants.{NoFrame, Frame, Undecided}
-use Rattle.frame.proofs.Tests.{bool?, both-true, never}
+use Rattle.frame.proofs.Tests.{bool?, lt?, both-left, both-right, both-true, never}
+use Rattle.frame.proofs.Cases.{short, part}
 use Rattle.frame.proofs.View.{Head, View, waits-head, waits-body, at-sync0, at-sync1, at-length, at-bad, at-good, view}
 use Rattle.scan.specs.Settle.{lastBy, judgedLast}
 use Rattle.scan.proofs.Stable.{last-decides, frame-last, last-frame}
-use Rattle.framing.specs.Theorems.{Decided, first-wrong, second-wrong, length-wrong, all-there, DecidedExactly, LastRight}
+use Rattle.framing.specs.Theorems.{Decided, first-wrong, second-wrong, length-wrong, all-there, DecidedExactly, Few, Past, LastRight}
 
 -- ---- while the run is fed
 
@@ -105,6 +108,91 @@ last-pair : (v : List ℕ) → Pair v (judgedLast v)
 unfolding judgedLast
 last-pair v = pair-by v (view v)
 
+-- ---- the two reasons that only the run's end gives
+
+-- what a reason says
+abbrev pub SaysFor : List ℕ → Reason → Type 0
+SaysFor v NoSync = Unit {0}
+SaysFor v LengthNotAllowed = Unit {0}
+SaysFor v (CrcWrong n) = Unit {0}
+SaysFor v FewLeft = Few v
+SaysFor v PastEnd = Past v
+
+abbrev pub Says : List ℕ → Verdict → Type 0
+Says v (NoFrame r) = SaysFor v r
+Says v (Frame n) = Unit {0}
+Says v Undecided = Unit {0}
+
+says-few : (v : List ℕ) (a b : Bool) → ltb (length v) 2 ≡ a → ltb (length v) 8 ≡ b
+    → (2 ≤ length v → length v < 8 → Few v) → (8 ≤ length v → Past v) → SaysFor v (cond a NoSync (cond b FewLeft PastEnd))
+says-few v true b e f few past = tt
+says-few v false true e f few past = few (ltb-false (length v) 2 e) (ltb-true (length v) 8 f)
+says-few v false false e f few past = past (ltb-false (length v) 8 f)
+
+says-by : (v : List ℕ) {x : Verdict} → View v x → Says v (lastBy x v)
+says-by v (waits-head h f s) =
+    says-few v (ltb (length v) 2) (ltb (length v) 8) refl refl (λ l m. (paired v (f (omega arith)) (s (omega arith)), m))
+    (λ l. let z : ⊥ = omega arith in absurd z)
+says-by v (waits-body h a l) =
+    says-few v (ltb (length v) 2) (ltb (length v) 8) refl refl (λ m k. let z : ⊥ = omega (arith, h .eight) in absurd z)
+    (λ m. (head-pair v h, m, a, l))
+says-by v (at-sync0 l a) = tt
+says-by v (at-sync1 l a b) = tt
+says-by v (at-length h a) = tt
+says-by v (at-bad h a l q) = tt
+says-by v (at-good h a l q) = tt
+
+last-says : (v : List ℕ) {x : Verdict} → judgedLast v ≡ x → Says v x
+unfolding judgedLast
+last-says v e = subst (Says v) e (says-by v (view v))
+
+-- while the run is fed neither is given
+abbrev pub FedFor : Reason → Type 0
+FedFor NoSync = Unit {0}
+FedFor LengthNotAllowed = Unit {0}
+FedFor (CrcWrong n) = Unit {0}
+FedFor FewLeft = ⊥
+FedFor PastEnd = ⊥
+
+abbrev pub Fed : Verdict → Type 0
+Fed (NoFrame r) = FedFor r
+Fed (Frame n) = Unit {0}
+Fed Undecided = Unit {0}
+
+fed-by : (v : List ℕ) {x : Verdict} → View v x → Fed x
+fed-by v (waits-head h f s) = tt
+fed-by v (waits-body h a l) = tt
+fed-by v (at-sync0 l a) = tt
+fed-by v (at-sync1 l a b) = tt
+fed-by v (at-length h a) = tt
+fed-by v (at-bad h a l q) = tt
+fed-by v (at-good h a l q) = tt
+
+module _ (v : List ℕ) (e : syncAt v 0 ≡ true) where
+  first : getD v 0 0 ≡ 0x24
+  unfolding syncAt
+  first = eqb-true (getD v 0 0) 0x24 (both-left (eqb (getD v 0 0) 0x24) (eqb (getD v 1 0) 0x40) e)
+
+  second : getD v 1 0 ≡ 0x40
+  unfolding syncAt
+  second = eqb-true (getD v 1 0) 0x40 (both-right (eqb (getD v 0 0) 0x24) (eqb (getD v 1 0) 0x40) e)
+
+  two : 1 < length v
+  two = lt? (length v) 2 (λ l. never e (lone v l)) (λ l. omega arith)
+
+  ends : {b : Bool} → judged v ≡ Undecided → ltb (length v) 8 ≡ b → judgedLast v ≡ NoFrame (cond b FewLeft PastEnd)
+  unfolding judgedLast
+  ends u f =
+      ap (λ (x : Verdict). lastBy x v) u
+      ∙ ap₂ (λ (x y : Bool). NoFrame (cond x NoSync (cond y FewLeft PastEnd))) (le-ltb (length v) 2 (omega (arith, two))) f
+
+few-left : (v : List ℕ) → Few v → judgedLast v ≡ NoFrame FewLeft
+few-left v h = ends v (h .0) (short v (two v (h .0)) (first v (h .0)) (second v (h .0)) (h .1)) (lt-ltb (length v) 8 (h .1))
+
+past-end : (v : List ℕ) → Past v → judgedLast v ≡ NoFrame PastEnd
+past-end v h =
+    ends v (h .0) (part v (two v (h .0)) (first v (h .0)) (second v (h .0)) (h .1) (h .2) (h .3)) (le-ltb (length v) 8 (h .1))
+
 pub last-right : LastRight
 last-right =
     record {
@@ -113,4 +201,10 @@ last-right =
       stands = last-frame;
       no-pair = λ v e. last-pair v .without e;
       pair = λ v e. bool? (syncAt v 0) (λ t. absurd (last-pair v .with t e)) (λ f. f);
+      few-left = few-left;
+      few = λ v e. last-says v e;
+      past-end = past-end;
+      past = λ v e. last-says v e;
+      fed-not-few = λ v e. subst Fed e (fed-by v (view v));
+      fed-not-past = λ v e. subst Fed e (fed-by v (view v));
     }

@@ -8,7 +8,7 @@ use Prim.Native.Nat.{ℕ, _+_, _≤_, _<_, min}
 use lib.ListN.{length, getD, take, drop}
 use Rattle.frame.specs.Frame.{syncAt, lengthAt, allowed, frameAt}
 use Rattle.frame.specs.Judge.{judged}
-use Rattle.frame.specs.declared.Reason.the-variants.{NoSync}
+use Rattle.frame.specs.declared.Reason.the-variants.{NoSync, FewLeft, PastEnd}
 use Rattle.frame.specs.declared.Verdict.the-variants.{NoFrame, Frame, Undecided}
 use Rattle.scan.specs.Settle.{judgedLast}
 use Rattle.scan.specs.Feed.{feedLit}
@@ -35,13 +35,28 @@ pub record DecidedExactly : Type 0 where
 abbrev pub DecidedStays : Type 0
 DecidedStays = (xs ys : List ℕ) → (judged xs ≡ Undecided → ⊥) → judged (xs ++ ys) ≡ judged xs
 
--- when the run is finished every place is decided, a frame where one was, and for want of a sync pair exactly where there is none
+-- the sync pair stands, and fewer than eight bytes are left
+abbrev pub Few : List ℕ → Type 0
+Few v = (syncAt v 0 ≡ true) × (length v < 8)
+
+-- the sync pair stands, eight bytes are there, and the length is allowed and passes what is left
+abbrev pub Past : List ℕ → Type 0
+Past v = (syncAt v 0 ≡ true) × (8 ≤ length v) × (allowed (lengthAt v 0) ≡ true) × (length v < lengthAt v 0)
+
+-- when the run is finished every place is decided, a frame where one was, and each of three reasons is given exactly where it holds;
+-- the last two only then
 pub record LastRight : Type 0 where
   pub decides : (v : List ℕ) → judgedLast v ≡ Undecided → ⊥
   pub frame : (v : List ℕ) (n : ℕ) → judged v ≡ Frame n → judgedLast v ≡ Frame n
   pub stands : (v : List ℕ) (n : ℕ) → judgedLast v ≡ Frame n → judged v ≡ Frame n
   pub no-pair : (v : List ℕ) → syncAt v 0 ≡ false → judgedLast v ≡ NoFrame NoSync
   pub pair : (v : List ℕ) → judgedLast v ≡ NoFrame NoSync → syncAt v 0 ≡ false
+  pub few-left : (v : List ℕ) → Few v → judgedLast v ≡ NoFrame FewLeft
+  pub few : (v : List ℕ) → judgedLast v ≡ NoFrame FewLeft → Few v
+  pub past-end : (v : List ℕ) → Past v → judgedLast v ≡ NoFrame PastEnd
+  pub past : (v : List ℕ) → judgedLast v ≡ NoFrame PastEnd → Past v
+  pub fed-not-few : (v : List ℕ) → judged v ≡ NoFrame FewLeft → ⊥
+  pub fed-not-past : (v : List ℕ) → judged v ≡ NoFrame PastEnd → ⊥
 
 -- the run w read from the place p on
 abbrev pub readAt : List ℕ → ℕ → Reading
