@@ -85,26 +85,6 @@ fn read_call(playing: bool, line: &[u8; 270000], n: usize, given: &mut [u8; 1350
     script::read(&all[..n], given)
 }
 
-// Reads a line of n bytes as a call, and plays it.
-fn play_line(
-    s: Script,
-    n: usize,
-    line: &[u8; 270000],
-    given: &mut [u8; 135000],
-    hold: &mut [u8; 65536],
-    force: &mut [u8; 8192],
-    waiting: &mut [u8; 8192],
-) -> Played
-    ensures { λ r. ⌜ T (plain (r .turn)) ⌝ }
-{
-    let asked = read_call(s.playing, line, n, given);
-    let call = asked.call;
-    let count = asked.count;
-    let desk = s.desk;
-    let all: &[u8] = given;
-    play::call(desk, call, &all[..count], hold, force, waiting)
-}
-
 // What a line came to, as text.
 fn print(
     p: Played,
@@ -161,6 +141,54 @@ fn end_line(s: Script, p: Played, printed: usize) -> Script
     }
 }
 
+// Reads a line of n bytes as a call, plays it and prints what it came to.
+fn play_line(
+    s: Script,
+    n: usize,
+    line: &[u8; 270000],
+    given: &mut [u8; 135000],
+    hold: &mut [u8; 65536],
+    force: &mut [u8; 8192],
+    waiting: &mut [u8; 8192],
+    out: &mut [u8; 8192],
+) -> Script
+    requires { ⌜ (s .filled ≤ 8192) × (s .at + 320 ≤ 8192) ⌝ }
+    ensures { λ r. ⌜ r .filled ≤ 8192 ⌝ }
+{
+    let asked = read_call(s.playing, line, n, given);
+    let call = asked.call;
+    let count = asked.count;
+    let desk = s.desk;
+    let all: &[u8] = given;
+    let played = play::call(desk, call, &all[..count], hold, force, waiting);
+    let printed = print(played, hold, force, waiting, out, s.at);
+    end_line(s, played, printed)
+}
+
+// Plays line after line.
+fn play_all(
+    buf: &mut [u8; 65536],
+    line: &mut [u8; 270000],
+    given: &mut [u8; 135000],
+    hold: &mut [u8; 65536],
+    force: &mut [u8; 8192],
+    waiting: &mut [u8; 8192],
+    out: &mut [u8; 8192],
+) -> Script
+    ensures { λ r. ⌜ r .filled ≤ 8192 ⌝ }
+{
+    let mut now = so_far(desk::after(reader::new()), 0, 0, Course::GoesOn);
+    let mut reading = input::start();
+    let mut turns: u64 = input::TURNS;
+    while turns > 0 {
+        reading = input::next_line(reading, buf, line);
+        now = begin_line(now, reading, out);
+        now = play_line(now, reading.length, line, given, hold, force, waiting, out);
+        turns = input::left(turns, now.playing);
+    }
+    now
+}
+
 // The buffers begin with bytes of their own, so that a byte that a call has not written shows.
 fn main() {
     let mut buf = [0u8; 65536];
@@ -170,25 +198,15 @@ fn main() {
     let mut force = [0x5au8; 8192];
     let mut waiting = [0x3cu8; 8192];
     let mut out = [0u8; 8192];
-    let mut now = so_far(desk::after(reader::new()), 0, 0, Course::GoesOn);
-    let mut reading = input::start();
-    let mut turns: u64 = input::TURNS;
-    while turns > 0 {
-        reading = input::next_line(reading, &mut buf, &mut line);
-        now = begin_line(now, reading, &out);
-        let played = play_line(
-            now,
-            reading.length,
-            &line,
-            &mut given,
-            &mut hold,
-            &mut force,
-            &mut waiting,
-        );
-        let printed = print(played, &hold, &force, &waiting, &mut out, now.at);
-        now = end_line(now, played, printed);
-        turns = input::left(turns, now.playing);
-    }
-    let course = now.course;
-    console::write_out(b"replay", course, &out, now.filled);
+    let last = play_all(
+        &mut buf,
+        &mut line,
+        &mut given,
+        &mut hold,
+        &mut force,
+        &mut waiting,
+        &mut out,
+    );
+    let course = last.course;
+    console::write_out(b"replay", course, &out, last.filled);
 }

@@ -18,6 +18,12 @@ slice-aggregate-call c =
 call-requires : tie.Need-call-requires
 call-requires c κs = search needs
 
+print-requires : tie.Need-print-requires
+print-requires c κs = search needs
+
+end-line-requires : tie.Need-end-line-requires
+end-line-requires c κs = search needs
+
 returns : tie.Need-returns
 returns c = search needs
 
@@ -28,4 +34,6 @@ play-line-spec =
     read-call-requires
     slice-aggregate-call
     call-requires
+    print-requires
+    end-line-requires
     returns)
