@@ -1,6 +1,6 @@
 -- When a place is decided, while the run is fed and when it is finished.
 -- Assumes nothing.
-use mathlib.Core.Path.{_≡_, refl, ap, ap₂, _∙_, subst}
+use mathlib.Core.Path.{_≡_, refl, subst}
 use mathlib.Core.List.{List}
 use mathlib.Core.Bool.{Bool, true, false, cond, _&&_}
 use Prim.Native.Nat.{ℕ, _≤_, _<_}
@@ -18,7 +18,7 @@ use Rattle.frame.proofs.Tests.{bool?, lt?, both-left, both-right, both-true, ne
 use Rattle.frame.proofs.Cases.{short, part}
 use Rattle.frame.proofs.View.{Head, View, waits-head, waits-body, at-sync0, at-sync1, at-length, at-bad, at-good, view}
 use Rattle.scan.specs.Settle.{lastBy, judgedLast}
-use Rattle.scan.proofs.Stable.{last-decides, frame-last, last-frame}
+use Rattle.scan.proofs.Stable.{last-ends, last-decides, frame-last, last-frame}
 use Rattle.framing.specs.Theorems.{Decided, first-wrong, second-wrong, length-wrong, all-there, DecidedExactly, Few, Past, LastRight}
 
 -- ---- while the run is fed
@@ -181,10 +181,7 @@ module _ (v : List ℕ) (e : syncAt v 0 ≡ true) where
   two = lt? (length v) 2 (λ l. never e (lone v l)) (λ l. omega arith)
 
   ends : {b : Bool} → judged v ≡ Undecided → ltb (length v) 8 ≡ b → judgedLast v ≡ NoFrame (cond b FewLeft PastEnd)
-  unfolding judgedLast
-  ends u f =
-      ap (λ (x : Verdict). lastBy x v) u
-      ∙ ap₂ (λ (x y : Bool). NoFrame (cond x NoSync (cond y FewLeft PastEnd))) (le-ltb (length v) 2 (omega (arith, two))) f
+  ends u f = last-ends v u (le-ltb (length v) 2 (omega (arith, two))) f
 
 few-left : (v : List ℕ) → Few v → judgedLast v ≡ NoFrame FewLeft
 few-left v h = ends v (h .0) (short v (two v (h .0)) (first v (h .0)) (second v (h .0)) (h .1)) (lt-ltb (length v) 8 (h .1))

@@ -2,10 +2,10 @@
 -- Assumes nothing.
 use mathlib.Core.Path.{_≡_, refl, sym, ap, ap₂, _∙_}
 use mathlib.Core.List.{List, [], _∷_, _++_}
-use Prim.Native.Nat.{ℕ, suc, max, _+_, _≤_}
+use Prim.Native.Nat.{ℕ, zero, suc, max, _+_, _≤_}
 use native.Mathlib.Nat.{add-zero, zero-add}
 use native.Mathlib.Omega.{arith}
-use lib.ListN.{length}
+use lib.ListN.{length, replicate}
 use Rattle.scan.specs.Settle.{Settled, settleBy, settle}
 use Rattle.scan.specs.Scan.{count, countAll, passedOf, raised, marks}
 use Rattle.frame.specs.declared.Reason.{Reason}
@@ -31,6 +31,14 @@ countAll-skipped a (r ∷ xs) = omega (arith, countAll-skipped (count a r) xs)
 -- the skipped count is the length of the list
 pub passedOf-skipped : (xs : List Reason) → passedOf xs .skipped ≡ length xs
 passedOf-skipped xs = countAll-skipped (record { skipped = 0 }) xs ∙ zero-add (length xs)
+
+-- places without a sync pair are counted at once
+pub countAll-same : (n : ℕ) (a : Passed) (r : Reason) → countAll a (replicate n r) ≡ record { skipped = a .skipped + n }
+unfolding countAll
+countAll-same zero a r = ap (λ (i : ℕ). record { skipped = i }) (sym (add-zero (a .skipped)))
+countAll-same (suc n) a r =
+    let e : a .skipped + 1 + n ≡ a .skipped + suc n = omega arith in
+    countAll-same n (count a r) r ∙ ap (λ (i : ℕ). record { skipped = i }) e
 
 -- ---- marks
 

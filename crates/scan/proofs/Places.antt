@@ -1,27 +1,25 @@
 -- Settling place by place, in the numbers that the loops keep: what the places from k on give.
 -- Assumes nothing.
 use mathlib.Core.Path.{_≡_, refl, sym, ap, _∙_, subst⁻¹}
-use mathlib.Core.Bool.{cond}
 use mathlib.Core.List.{List, [], _∷_, _++_, append-nil}
 use mathlib.Core.Option.{none}
-use Prim.Native.Nat.{ℕ, zero, suc, _+_, _-_, _≤_, _<_}
+use Prim.Native.Nat.{ℕ, zero, suc, max, _+_, _-_, _≤_, _<_}
 use native.Mathlib.Numerals.{add-one}
 use native.Mathlib.Omega.{arith}
-use lib.ListN.{length, drop, getD, length-drop, length-append, drop-of-length-le, List·getD-append}
+use lib.ListN.{length, drop, getD, length-drop, length-append, replicate, drop-of-length-le, List·getD-append}
 use lib.Seq.{drop-cons}
-use lib.Dec.{ltb}
 use Rattle.frame.specs.Judge.{judged}
 use Rattle.scan.specs.Settle.{Settled, stopAt, settleBy, settle, lastBy, judgedLast}
 use Rattle.scan.specs.Feed.{size}
-use Rattle.scan.specs.Scan.{countAll, behind, raised, marks, partBy, partOf, NoStart}
+use Rattle.scan.specs.Scan.{count, countAll, behind, raised, marks, partBy, partOf, NoStart}
 use Rattle.frame.specs.declared.Reason.{Reason}
-use Rattle.frame.specs.declared.Reason.the-variants.{NoSync, FewLeft, PastEnd}
+use Rattle.frame.specs.declared.Reason.the-variants.{NoSync}
 use Rattle.frame.specs.declared.Verdict.{Verdict}
 use Rattle.frame.specs.declared.Verdict.the-variants.{NoFrame, Frame, Undecided}
 use Rattle.scan.specs.declared.Passed.{Passed}
 use Rattle.scan.specs.declared.Found.{Found}
 use Rattle.scan.specs.declared.Part.{Part}
-use Rattle.scan.specs.declared.Part.the-variants.{Waits, Through}
+use Rattle.scan.specs.declared.Part.the-variants.{Block, Waits, Through}
 use Rattle.frame.proofs.Tests.{eq?}
 use Rattle.frame.proofs.Cases.{sync0, sync1, byte0, byte}
 
@@ -64,45 +62,49 @@ module _ (s rest : List ℕ) (k : ℕ) (l : k < length s) where
 
 -- ---- the places of a part
 
-module _ (s rest : List ℕ) (from : ℕ) where
-  -- those from k on
-  abbrev pub fromPlace : ℕ → ℕ → Part
-  fromPlace k m = partOf (settle (behind judged rest) (drop k s)) (record { skipped = from + k }) m
+module _ (s rest : List ℕ) where
+  -- those from k on, where a was passed before
+  abbrev pub fromPlace : ℕ → Passed → ℕ → Part
+  fromPlace k a m = partOf (settle (behind judged rest) (drop k s)) a m
 
-  pub part-stop : (k m : ℕ) {x : Verdict} → k < length s → judged (drop k s ++ rest) ≡ x
-      → fromPlace k m ≡ partOf (settleBy x (drop k s) (settle (behind judged rest) (drop (k + 1) s))) (record { skipped = from + k }) m
-  part-stop k m l e = ap (λ (y : Settled). partOf y (record { skipped = from + k }) m) (at-by (behind judged rest) s k l e)
+  pub part-stop : (k : ℕ) (a : Passed) (m : ℕ) {x : Verdict} → k < length s → judged (drop k s ++ rest) ≡ x
+      → fromPlace k a m ≡ partOf (settleBy x (drop k s) (settle (behind judged rest) (drop (k + 1) s))) a m
+  part-stop k a m l e = ap (λ (y : Settled). partOf y a m) (at-by (behind judged rest) s k l e)
 
   -- a place that is not decided has a byte
   waits-by : (v : List ℕ) (a : Passed) (m : ℕ) → 0 < length v → partBy none v a m ≡ Waits a
   waits-by [] a m l = let f : ⊥ = omega arith in absurd f
   waits-by (b ∷ bs) a m l = refl
 
-  pub part-waits : (k m : ℕ) → k < length s → judged (drop k s ++ rest) ≡ Undecided → fromPlace k m ≡ Waits (record { skipped = from + k })
+  pub part-frame : (k : ℕ) (a : Passed) (m n : ℕ) → k < length s → judged (drop k s ++ rest) ≡ Frame n → fromPlace k a m ≡ Block a n (max m (a .skipped + n))
   unfolding countAll marks
-  part-waits k m l e = part-stop k m l e ∙ waits-by (drop k s) (record { skipped = from + k }) m (omega (arith, length-drop k s))
+  part-frame k a m n l e = part-stop k a m l e
 
-  pub part-pass : (k m : ℕ) (r : Reason) → k < length s → judged (drop k s ++ rest) ≡ NoFrame r → fromPlace k m ≡ fromPlace (k + 1) (raised r (from + k) m)
+  pub part-waits : (k : ℕ) (a : Passed) (m : ℕ) → k < length s → judged (drop k s ++ rest) ≡ Undecided → fromPlace k a m ≡ Waits a
   unfolding countAll marks
-  part-pass k m r l e =
-      let f : from + k + 1 ≡ from + (k + 1) = omega arith in
-      part-stop k m l e
-      ∙ ap (λ (i : ℕ). partOf (settle (behind judged rest) (drop (k + 1) s)) (record { skipped = i }) (raised r (from + k) m)) f
+  part-waits k a m l e = part-stop k a m l e ∙ waits-by (drop k s) a m (omega (arith, length-drop k s))
 
-  pub part-end : (k m : ℕ) → length s ≤ k → fromPlace k m ≡ Through (record { skipped = from + k }) m
+  pub part-pass : (k : ℕ) (a : Passed) (m : ℕ) (r : Reason) → k < length s → judged (drop k s ++ rest) ≡ NoFrame r
+      → fromPlace k a m ≡ fromPlace (k + 1) (count a r) (raised r (a .skipped) m)
   unfolding countAll marks
-  part-end k m h =
-      ap (λ (y : Settled). partOf y (record { skipped = from + k }) m) (none-left (behind judged rest) (drop k s) (drop-of-length-le s h))
+  part-pass k a m r l e = part-stop k a m l e
 
-  skip-by : (d k q m : ℕ) → k + d ≡ q → q ≤ length s → ((i : ℕ) → k ≤ i → i < q → judged (drop i s ++ rest) ≡ NoFrame NoSync) → fromPlace k m ≡ fromPlace q m
-  skip-by zero k q m e h n = let f : k ≡ q = omega arith in ap (λ (i : ℕ). fromPlace i m) f
-  skip-by (suc d) k q m e h n =
-      part-pass k m NoSync (omega arith) (n k (omega arith) (omega arith)) ∙ skip-by d (k + 1) q m (omega arith) h (λ i lo hi. n i (omega arith) hi)
+  pub part-end : (k : ℕ) (a : Passed) (m : ℕ) → length s ≤ k → fromPlace k a m ≡ Through a m
+  unfolding countAll marks
+  part-end k a m h = ap (λ (y : Settled). partOf y a m) (none-left (behind judged rest) (drop k s) (drop-of-length-le s h))
+
+  skip-by : (d k q : ℕ) (a : Passed) (m : ℕ) → k + d ≡ q → q ≤ length s → ((i : ℕ) → k ≤ i → i < q → judged (drop i s ++ rest) ≡ NoFrame NoSync)
+      → fromPlace k a m ≡ fromPlace q (countAll a (replicate d NoSync)) m
+  unfolding countAll
+  skip-by zero k q a m e h n = let f : k ≡ q = omega arith in ap (λ (i : ℕ). fromPlace i a m) f
+  skip-by (suc d) k q a m e h n =
+      part-pass k a m NoSync (omega arith) (n k (omega arith) (omega arith))
+      ∙ skip-by d (k + 1) q (count a NoSync) m (omega arith) h (λ i lo hi. n i (omega arith) hi)
 
   -- places with no start are passed at once
-  pub skip-run : (k q m : ℕ) → NoStart s k q → fromPlace k m ≡ fromPlace q m
-  skip-run k q m h =
-      skip-by (q - k) k q m (omega (arith, h .from)) (h .within)
+  pub skip-run : (k q : ℕ) (a : Passed) (m : ℕ) → NoStart s k q → fromPlace k a m ≡ fromPlace q (countAll a (replicate (q - k) NoSync)) m
+  skip-run k q a m h =
+      skip-by (q - k) k q a m (omega (arith, h .from)) (h .within)
       (λ i lo hi. no-sync s rest i (omega (arith, h .within)) (h .none i lo hi))
 
 -- ---- the places of the run's last bytes
@@ -111,39 +113,37 @@ module _ (s rest : List ℕ) (from : ℕ) where
 abbrev pub endOf : Settled → Passed → Found
 endOf s a = record { taken = 0; passed = countAll a (s .passed); block = size (s .standing) }
 
--- where no frame is judged, the end's judge has a reason
-skips-by : (x : Verdict) (v : List ℕ) → ((n : ℕ) → x ≡ Frame n → ⊥) → (r : Reason) × (lastBy x v ≡ NoFrame r)
-skips-by (NoFrame r) v h = (r, refl)
-skips-by (Frame n) v h = absurd (h n refl)
-skips-by Undecided v h = (cond (ltb (length v) 2) NoSync (cond (ltb (length v) 8) FewLeft PastEnd), refl)
-
 module _ (s : List ℕ) where
   -- those from k on
-  abbrev pub fromEnd : ℕ → Found
-  fromEnd k = endOf (settle judgedLast (drop k s)) (record { skipped = k })
+  abbrev pub fromEnd : ℕ → Passed → Found
+  fromEnd k a = endOf (settle judgedLast (drop k s)) a
 
-  pub end-frame : (k n : ℕ) → k < length s → judged (drop k s) ≡ Frame n → fromEnd k ≡ record { taken = 0; passed = record { skipped = k }; block = n }
-  unfolding countAll judgedLast
-  end-frame k n l e =
-      ap (λ (y : Settled). endOf y (record { skipped = k })) (at-by judgedLast s k l (ap (λ (x : Verdict). lastBy x (drop k s)) e))
-
-  pub end-pass : (k : ℕ) → k < length s → ((n : ℕ) → judged (drop k s) ≡ Frame n → ⊥) → fromEnd k ≡ fromEnd (k + 1)
-  unfolding countAll judgedLast
-  end-pass k l h =
-      let q = skips-by (judged (drop k s)) (drop k s) h in
-      ap (λ (y : Settled). endOf y (record { skipped = k })) (at-by judgedLast s k l (q .1))
-
-  pub end-end : (k : ℕ) → length s ≤ k → fromEnd k ≡ record { taken = 0; passed = record { skipped = k }; block = 0 }
+  pub end-frame : (k : ℕ) (a : Passed) (n : ℕ) → k < length s → judgedLast (drop k s) ≡ Frame n → fromEnd k a ≡ record { taken = 0; passed = a; block = n }
   unfolding countAll
-  end-end k h = ap (λ (y : Settled). endOf y (record { skipped = k })) (none-left judgedLast (drop k s) (drop-of-length-le s h))
+  end-frame k a n l e = ap (λ (y : Settled). endOf y a) (at-by judgedLast s k l e)
 
-  end-skip-by : (d k q : ℕ) → k + d ≡ q → q ≤ length s → ((i : ℕ) → k ≤ i → i < q → judged (drop i s) ≡ NoFrame NoSync) → fromEnd k ≡ fromEnd q
-  end-skip-by zero k q e h n = let f : k ≡ q = omega arith in ap fromEnd f
-  end-skip-by (suc d) k q e h n =
-      let z = n k (omega arith) (omega arith) in
-      end-pass k (omega arith) (λ m g. let y : _≡_ {A = ℕ} 0 1 = cc in omega arith) ∙ end-skip-by d (k + 1) q (omega arith) h (λ i lo hi. n i (omega arith) hi)
+  pub end-pass : (k : ℕ) (a : Passed) (r : Reason) → k < length s → judgedLast (drop k s) ≡ NoFrame r → fromEnd k a ≡ fromEnd (k + 1) (count a r)
+  unfolding countAll
+  end-pass k a r l e = ap (λ (y : Settled). endOf y a) (at-by judgedLast s k l e)
 
-  pub end-skip : (k q : ℕ) → NoStart s k q → fromEnd k ≡ fromEnd q
-  end-skip k q h =
-      end-skip-by (q - k) k q (omega (arith, h .from)) (h .within)
-      (λ i lo hi. ap judged (sym (append-nil (drop i s))) ∙ no-sync s [] i (omega (arith, h .within)) (h .none i lo hi))
+  pub end-end : (k : ℕ) (a : Passed) → length s ≤ k → fromEnd k a ≡ record { taken = 0; passed = a; block = 0 }
+  unfolding countAll
+  end-end k a h = ap (λ (y : Settled). endOf y a) (none-left judgedLast (drop k s) (drop-of-length-le s h))
+
+  end-skip-by : (d k q : ℕ) (a : Passed) → k + d ≡ q → q ≤ length s → ((i : ℕ) → k ≤ i → i < q → judgedLast (drop i s) ≡ NoFrame NoSync)
+      → fromEnd k a ≡ fromEnd q (countAll a (replicate d NoSync))
+  unfolding countAll
+  end-skip-by zero k q a e h n = let f : k ≡ q = omega arith in ap (λ (i : ℕ). fromEnd i a) f
+  end-skip-by (suc d) k q a e h n =
+      end-pass k a NoSync (omega arith) (n k (omega arith) (omega arith))
+      ∙ end-skip-by d (k + 1) q (count a NoSync) (omega arith) h (λ i lo hi. n i (omega arith) hi)
+
+  last-no-sync : (v : List ℕ) → judged v ≡ NoFrame NoSync → judgedLast v ≡ NoFrame NoSync
+  unfolding judgedLast
+  last-no-sync v e = ap (λ (x : Verdict). lastBy x v) e
+
+  pub end-skip : (k q : ℕ) (a : Passed) → NoStart s k q → fromEnd k a ≡ fromEnd q (countAll a (replicate (q - k) NoSync))
+  end-skip k q a h =
+      end-skip-by (q - k) k q a (omega (arith, h .from)) (h .within)
+      (λ i lo hi.
+      last-no-sync (drop i s) (ap judged (sym (append-nil (drop i s))) ∙ no-sync s [] i (omega (arith, h .within)) (h .none i lo hi)))

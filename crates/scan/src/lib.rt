@@ -1,12 +1,13 @@
 // Reading a run from place to place, up to the first block. The run lies in two slices: the held bytes, then the piece.
-ghost use mathlib.Core.Bool.{false};
 ghost use mathlib.Core.Path.{_≡_};
+ghost use mathlib.Core.Bool.{false};
 ghost use Prim.Native.Nat.{max, _+_, _≤_, _<_};
-ghost use lib.ListN.{length};
+ghost use lib.ListN.{length, replicate};
 ghost use Rattle.frame.specs.Judge.{judged};
 ghost use Rattle.scan.specs.Settle.{settle, judgedLast};
 ghost use Rattle.scan.specs.Feed.{feedLit, stop};
-ghost use Rattle.scan.specs.Scan.{NoDollar, NoStart, foundOf, behind, partOf};
+ghost use Rattle.frame.specs.declared.Reason.the-variants.{NoSync};
+ghost use Rattle.scan.specs.Scan.{NoDollar, NoStart, count, countAll, foundOf, behind, partOf};
 use frame::Reason;
 use frame::Verdict;
 
@@ -88,42 +89,65 @@ fn start_from(s: &[u8], i: usize) -> usize
     k
 }
 
+// One more place is passed, for a reason.
+fn count(a: Passed, why: Reason) -> Passed
+    requires { ⌜ a .skipped + 1 < 18446744073709551616 ⌝ }
+    ensures { λ r. ⌜ r ≡ count a why ⌝ }
+{
+    Passed {
+        skipped: a.skipped + 1,
+    }
+}
+
+// As many places more are passed for want of a sync pair: at once, for they are most of a run of noise.
+fn count_no_sync(a: Passed, n: usize) -> Passed
+    requires { ⌜ a .skipped + n < 18446744073709551616 ⌝ }
+    ensures { λ r. ⌜ r ≡ countAll a (replicate n NoSync) ⌝ }
+{
+    Passed {
+        skipped: a.skipped + n,
+    }
+}
+
 // The places of `s`, with `rest` behind it; `before` are passed, for which `mark` bytes had to be taken.
 fn scan_part(s: &[u8], rest: &[u8], before: Passed, mark: usize) -> Part
     requires { ⌜ before .skipped + length (now s) + length (now rest) < 18446744073709551616 ⌝ }
     ensures { λ r. ⌜ r ≡ partOf (settle (behind judged (now (rest .entry))) (now (s .entry))) before mark ⌝ }
 {
-    let from = before.skipped;
     let mut k: usize = 0;
     let mut m = mark;
+    let mut passed = before;
     while k < s.len() {
         let p = start_from(s, k);
-        let at = from + p;
+        passed = count_no_sync(passed, p - k);
         if p == s.len() {
-            return Part::Through(Passed { skipped: at }, m);
+            return Part::Through(passed, m);
         }
+        let place = passed.skipped;
         let v = frame::judge(&s[p..], rest);
         match v {
             Verdict::Frame(n) => {
-                return Part::Block(Passed { skipped: at }, n, greater(m, at + n));
+                return Part::Block(passed, n, greater(m, place + n));
             }
             Verdict::Undecided => {
-                return Part::Waits(Passed { skipped: at });
+                return Part::Waits(passed);
             }
-            Verdict::NoFrame(why) => match why {
-                Reason::CrcWrong(n) => {
-                    m = greater(m, at + n);
-                    // And not p + n: a false header must not swallow the blocks behind it.
-                    k = 1 + p;
+            Verdict::NoFrame(why) => {
+                passed = count(passed, why);
+                match why {
+                    Reason::CrcWrong(n) => {
+                        m = greater(m, place + n);
+                        // And not p + n: a false header must not swallow the blocks behind it.
+                        k = 1 + p;
+                    }
+                    _ => {
+                        k = p + 1;
+                    }
                 }
-                _ => {
-                    k = p + 1;
-                }
-            },
+            }
         }
     }
-    let end = from + k;
-    Part::Through(Passed { skipped: end }, m)
+    Part::Through(passed, m)
 }
 
 // The held bytes and then the piece, up to the first block or the place that is not decided; the promise is by the rule, a byte at a time.
@@ -163,33 +187,66 @@ pub fn scan(held: &[u8], piece: &[u8]) -> Found
     }
 }
 
+// What stands at the front of the run's last bytes.
+fn judge_last(s: &[u8]) -> Verdict
+    ensures { λ r. ⌜ r ≡ judgedLast (now (s .entry)) ⌝ }
+{
+    let v = frame::judge(s, b"");
+    match v {
+        Verdict::Undecided => {
+            if s.len() < 2 {
+                Verdict::NoFrame(Reason::NoSync)
+            } else if s.len() < 8 {
+                Verdict::NoFrame(Reason::FewLeft)
+            } else {
+                Verdict::NoFrame(Reason::PastEnd)
+            }
+        }
+        _ => v,
+    }
+}
+
 // The held bytes, which are the run's last, up to the first block.
 pub fn last(held: &[u8]) -> Found
     ensures { λ r. ⌜ r ≡ foundOf (stop (settle judgedLast (now (held .entry)))) ⌝ }
 {
-    let mut k: usize = 0;
-    while k < held.len() {
+    let mut passed = Passed { skipped: 0 };
+    while passed.skipped < held.len() {
+        let k = passed.skipped;
         let p = start_from(held, k);
+        passed = count_no_sync(passed, p - k);
         if p == held.len() {
             return Found {
                 taken: 0,
-                passed: Passed { skipped: p },
+                passed: passed,
                 block: 0,
             };
         }
-        let v = frame::judge(&held[p..], b"");
-        if let Verdict::Frame(n) = v {
-            return Found {
-                taken: 0,
-                passed: Passed { skipped: p },
-                block: n,
-            };
+        let v = judge_last(&held[p..]);
+        match v {
+            Verdict::Frame(n) => {
+                return Found {
+                    taken: 0,
+                    passed: passed,
+                    block: n,
+                };
+            }
+            Verdict::NoFrame(why) => {
+                passed = count(passed, why);
+            }
+            // Every place is decided now.
+            Verdict::Undecided => {
+                return Found {
+                    taken: 0,
+                    passed: passed,
+                    block: 0,
+                };
+            }
         }
-        k = p + 1;
     }
     Found {
         taken: 0,
-        passed: Passed { skipped: k },
+        passed: passed,
         block: 0,
     }
 }

@@ -1,73 +1,99 @@
--- `scan::last` meets its contract. The invariant: the places from k on give what the whole gives.
+-- `scan::last` meets its contract. The invariant: the places behind those passed give, with these, what the whole gives.
 -- Assumes nothing.
 use mathlib.Core.Path.{_≡_, refl, sym, ap, _∙_}
-use mathlib.Core.List.{List, append-nil}
-use Prim.Native.Nat.{ℕ, _≤_, _<_, _-_}
+use mathlib.Core.List.{List}
+use Prim.Native.Nat.{ℕ, _+_, _≤_, _<_, _-_}
 use native.Mathlib.Omega.{arith}
-use lib.ListN.{length, drop, take, length-drop}
+use lib.ListN.{length, drop, length-drop}
 use lib.Seq.{take-all}
 use borrow.Author.Needs.{needs}
-use Rattle.frame.specs.Judge.{judged}
-use Rattle.frame.proofs.Apart.{no-frame}
+use Rattle.scan.specs.Settle.{judgedLast}
+use Rattle.scan.specs.declared.Passed.{Passed}
+use Rattle.frame.specs.declared.Reason.the-variants.{NoSync}
+use Rattle.frame.specs.declared.Verdict.{Verdict}
+use Rattle.scan.proofs.Marks.{countAll-same}
+use Rattle.scan.proofs.Stable.{last-decides}
 use Rattle.scan.proofs.Places.{fromEnd, end-frame, end-pass, end-end, end-skip}
 use Rattle.scan.proofs.last.Statement.{statement}
 use Rattle.scan.proofs.last.Tie as tie
 
 abbrev Inv-loop : tie.InvT-loop
-Inv-loop held k₀ t7 k = (k ≤ length held) × (fromEnd held k ≡ fromEnd held 0)
+Inv-loop held passed₀ passed = (passed .skipped ≤ length held) × (fromEnd held (passed .skipped) passed ≡ fromEnd held 0 (record { skipped = 0 }))
 
 abbrev μ-loop : tie.MeasureT-loop
-μ-loop held k₀ t7 k = length held - k
+μ-loop held passed₀ passed = length held - passed .skipped
 
 loop-holds : tie.Need-loop-holds Inv-loop μ-loop
 loop-holds c = (omega arith, refl)
 
 start-from-requires : tie.Need-start-from-requires Inv-loop μ-loop
-start-from-requires c κs = search needs
+start-from-requires c κs = c .before .before .loop .inv .0
 
--- the places up to the next start are passed
-there : (f : tie.After-start-from Inv-loop μ-loop)
-    → fromEnd (f .before .before .before .before .args .held .now) (f .start-from .result) ≡ fromEnd (f .before .before .before .before .args .held .now) 0
-there f =
-    let s = f .before .before .before .before .args .held .now in
-    let l = f .before .before .loop in
-    sym (end-skip s (l .k) (f .start-from .result) (f .start-from .ensures)) ∙ l .inv .1
+sub-count-no-sync : tie.Need-sub-count-no-sync Inv-loop μ-loop
+sub-count-no-sync c = c .start-from .ensures .from
 
-inside : (c : tie.Else1 Inv-loop μ-loop) → c .before .start-from .result < length (c .before .before .before .before .before .args .held .now)
-inside c = omega (arith, c .before .start-from .ensures .within, c .if1 .left)
+-- the held bytes
+abbrev bytes : tie.After-start-from Inv-loop μ-loop → List ℕ
+bytes f = f .before .before .before .before .before .args .held .now
 
-abbrev run : tie.After-judge Inv-loop μ-loop → List ℕ
-run j = j .before .before .before .before .before .before .before .before .args .held .now
+count-no-sync-requires : tie.Need-count-no-sync-requires Inv-loop μ-loop
+count-no-sync-requires c κs = omega (arith, c .start-from .ensures .from, c .start-from .ensures .within)
 
-abbrev place : tie.After-judge Inv-loop μ-loop → ℕ
-place j = j .before .before .before .before .start-from .result
+-- those passed with the places up to the next start
+abbrev past : tie.After-count-no-sync Inv-loop μ-loop → Passed
+past n = n .count-no-sync .result
 
-verdict : (j : tie.After-judge Inv-loop μ-loop) → j .judge .result ≡ judged (drop (place j) (run j))
-verdict j =
-    j .judge .ensures
-    ∙ ap judged
-    (append-nil (take (length (run j) - place j) (drop (place j) (run j)))
-    ∙ take-all (length (run j) - place j) (drop (place j) (run j)) (omega (arith, length-drop (place j) (run j))))
+placed : (n : tie.After-count-no-sync Inv-loop μ-loop) → past n .skipped ≡ n .before .start-from .result
+placed n =
+    let f = n .before in
+    let a = f .before .before .before .loop .passed in
+    let e : past n .skipped ≡ a .skipped + (f .start-from .result - a .skipped) =
+    ap (λ (x : Passed). x .skipped) (n .count-no-sync .ensures ∙ countAll-same (f .start-from .result - a .skipped) a NoSync) in
+    omega (arith, e, f .start-from .ensures .from)
+
+there : (n : tie.After-count-no-sync Inv-loop μ-loop) → fromEnd (bytes (n .before)) (n .before .start-from .result) (past n) ≡ fromEnd (bytes (n .before)) 0 (record { skipped = 0 })
+there n =
+    let f = n .before in
+    let l = f .before .before .before .loop in
+    ap (fromEnd (bytes f) (f .start-from .result)) (n .count-no-sync .ensures)
+    ∙ sym (end-skip (bytes f) (l .passed .skipped) (f .start-from .result) (l .passed) (f .start-from .ensures))
+    ∙ l .inv .1
+
+inside : (c : tie.Else2 Inv-loop μ-loop) → c .before .before .start-from .result < length (bytes (c .before .before))
+inside c = omega (arith, c .before .before .start-from .ensures .within, c .if2 .left)
+
+abbrev begin : tie.After-judge-last Inv-loop μ-loop → tie.After-count-no-sync Inv-loop μ-loop
+begin j = j .before .before .before
+
+abbrev run : tie.After-judge-last Inv-loop μ-loop → List ℕ
+run j = bytes (begin j .before)
+
+abbrev place : tie.After-judge-last Inv-loop μ-loop → ℕ
+place j = begin j .before .start-from .result
+
+verdict : (j : tie.After-judge-last Inv-loop μ-loop) {x : Verdict} → j .judge-last .result ≡ x → judgedLast (drop (place j) (run j)) ≡ x
+verdict j e =
+    sym
+    (j .judge-last .ensures
+    ∙ ap judgedLast (take-all (length (run j) - place j) (drop (place j) (run j)) (omega (arith, length-drop (place j) (run j)))))
+    ∙ e
 
 returns : tie.Need-returns Inv-loop μ-loop
 returns c =
-    let f = c .before in
-    sym (end-end (f .before .before .before .before .args .held .now) (f .start-from .result) (omega (arith, c .if1 .taken))) ∙ there f
+    let n = c .before in
+    sym (end-end (bytes (n .before)) (n .before .start-from .result) (past n) (omega (arith, c .if2 .taken))) ∙ there n
 
-sub-judge : tie.Need-sub-judge Inv-loop μ-loop
-sub-judge c = omega (arith, inside c)
+sub-judge-last : tie.Need-sub-judge-last Inv-loop μ-loop
+sub-judge-last c = omega (arith, inside c)
 
-part-judge-start : tie.Need-part-judge-start Inv-loop μ-loop
-part-judge-start c = omega (arith, inside c)
+part-judge-last-start : tie.Need-part-judge-last-start Inv-loop μ-loop
+part-judge-last-start c = omega (arith, inside c)
 
-part-judge-end : tie.Need-part-judge-end Inv-loop μ-loop
-part-judge-end c = omega (arith, inside c)
+part-judge-last-end : tie.Need-part-judge-last-end Inv-loop μ-loop
+part-judge-last-end c = omega (arith, inside c)
 
-slice-aggregate-judge : tie.Need-slice-aggregate-judge Inv-loop μ-loop
-slice-aggregate-judge c = refl
-
-judge-requires : tie.Need-judge-requires Inv-loop μ-loop
-judge-requires c κs = search needs
+judge-last-requires : tie.Need-judge-last-requires Inv-loop μ-loop
+judge-last-requires c κs = search needs
 
 enum-known-v : tie.Need-enum-known-v Inv-loop μ-loop
 enum-known-v c = search needs
@@ -75,28 +101,49 @@ enum-known-v c = search needs
 returns-2 : tie.Need-returns-2 Inv-loop μ-loop
 returns-2 c =
     let j = c .before .before .before in
-    sym
-    (end-frame (run j) (place j) (c .before .v .given .0 .0) (inside (j .before .before .before)) (sym (verdict j) ∙ c .before .v .given .1))
-    ∙ there (j .before .before .before .before)
+    sym (end-frame (run j) (place j) (past (begin j)) (c .before .v .given .0 .0) (inside (j .before .before)) (verdict j (c .before .v .given .1)))
+    ∙ there (begin j)
 
-add-k : tie.Need-add-k Inv-loop μ-loop
-add-k c = omega (arith, inside (c .before .before .before .before))
+enum-known-v-2 : tie.Need-enum-known-v-2 Inv-loop μ-loop
+enum-known-v-2 c = search needs
+
+count-requires : tie.Need-count-requires Inv-loop μ-loop
+count-requires c κs = let j = c .before .before .before in omega (arith, placed (begin j), inside (j .before .before))
+
+-- one more is passed
+one-more : (c : tie.After-count Inv-loop μ-loop) → c .count .result .skipped ≡ place (c .before .before .before .before) + 1
+one-more c =
+    let n = begin (c .before .before .before .before) in
+    let e : c .count .result .skipped ≡ past n .skipped + 1 = ap (λ (x : Passed). x .skipped) (c .count .ensures) in
+    omega (arith, e, placed n)
 
 loop-less : tie.Need-loop-less Inv-loop μ-loop
-loop-less c = let j = c .before in omega (arith, inside (j .before .before .before), j .before .before .before .before .start-from .ensures .from)
+loop-less c =
+    let j = c .before .before .before .before in
+    omega (arith, one-more c, inside (j .before .before), begin j .before .start-from .ensures .from)
 
 loop-again : tie.Need-loop-again Inv-loop μ-loop
 loop-again c =
-    let j = c .before in (
-      omega (arith, inside (j .before .before .before)),
-      sym (end-pass (run j) (place j) (inside (j .before .before .before)) (λ n e. no-frame (j .judge .result) (c .match .keys2) n (verdict j ∙ e)))
-          ∙ there (j .before .before .before .before),
+    let v = c .before .before in
+    let j = c .before .before .before .before in (
+      omega (arith, one-more c, inside (j .before .before)),
+      ap (λ (i : ℕ). fromEnd (run j) i (c .count .result)) (one-more c)
+          ∙ ap (fromEnd (run j) (place j + 1)) (c .count .ensures)
+          ∙ sym (end-pass (run j) (place j) (past (begin j)) (v .v2 .given .0 .0) (inside (j .before .before)) (verdict j (v .v2 .given .1)))
+          ∙ there (begin j),
     )
 
+enum-told : tie.Need-enum-told Inv-loop μ-loop
+enum-told c = search needs
+
 returns-3 : tie.Need-returns-3 Inv-loop μ-loop
-returns-3 c =
-    let w = c .before .before .before .args .held .now in
-    sym (end-end w (c .before .loop .k) (omega arith)) ∙ c .before .loop .inv .1
+returns-3 c = let j = c .before .before in absurd (last-decides (drop (place j) (run j)) (verdict j (c .enum-told .given .1)))
+
+returns-4 : tie.Need-returns-4 Inv-loop μ-loop
+returns-4 c =
+    let w = c .before .before .before .before .args .held .now in
+    let l = c .before .before .loop in
+    sym (end-end w (l .passed .skipped) (l .passed) (omega arith)) ∙ l .inv .1
 
 pub last-spec : {M : Type 1} → statement M
 last-spec =
@@ -106,15 +153,19 @@ last-spec =
     μ-loop
     loop-holds
     start-from-requires
+    sub-count-no-sync
+    count-no-sync-requires
     returns
-    sub-judge
-    part-judge-start
-    part-judge-end
-    slice-aggregate-judge
-    judge-requires
+    sub-judge-last
+    part-judge-last-start
+    part-judge-last-end
+    judge-last-requires
     enum-known-v
     returns-2
-    add-k
+    enum-known-v-2
+    count-requires
     loop-less
     loop-again
-    returns-3)
+    enum-told
+    returns-3
+    returns-4)
