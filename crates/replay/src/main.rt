@@ -2,12 +2,10 @@
 ghost use Prim.Native.Nat.{_+_, _≤_};
 ghost use lib.Dec.{T};
 ghost use Rattle.play.specs.Turns.{plain};
-
-mod input; // input.rt: the next line of standard input
-
 use console::Course;
+use console::lines;
+use console::lines::Reading;
 use desk::Desk;
-use input::Reading;
 use libc::STDERR_FILENO;
 use play::Played;
 use play::Turn;
@@ -75,7 +73,7 @@ fn read_call(playing: bool, line: &[u8; 270000], n: usize, given: &mut [u8; 1350
             count: 0,
         };
     }
-    if script::lines::LONGEST < n {
+    if lines::LONGEST < n {
         return Asked {
             call: Call::Bad,
             count: 0,
@@ -103,7 +101,7 @@ fn print(
     let turn = p.turn;
     match turn {
         Turn::Ran(reply) => show::run_line(out, at, reply, state, play::crcs(hold, force, waiting)),
-        Turn::Asked(reply) => wording::ask_line(out, at, reply, state),
+        Turn::Asked(reply) => show::asks::ask_line(out, at, reply, state),
         _ => at,
     }
 }
@@ -178,13 +176,13 @@ fn play_all(
     ensures { λ r. ⌜ r .filled ≤ 8192 ⌝ }
 {
     let mut now = so_far(desk::after(reader::new()), 0, 0, Course::GoesOn);
-    let mut reading = input::start();
-    let mut turns: u64 = input::TURNS;
+    let mut reading = lines::start();
+    let mut turns: u64 = lines::TURNS;
     while turns > 0 {
-        reading = input::next_line(reading, buf, line);
+        reading = lines::next_line(reading, buf, line);
         now = begin_line(now, reading, out);
         now = play_line(now, reading.length, line, given, hold, force, waiting, out);
-        turns = input::left(turns, now.playing);
+        turns = lines::left(turns, now.playing);
     }
     now
 }

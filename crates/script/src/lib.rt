@@ -3,8 +3,6 @@ ghost use Prim.Native.Nat.{_≤_};
 ghost use lib.ListN.{length};
 use words::Decimal;
 
-pub mod lines; // lines.rt: lines out of pieces of input
-
 pub enum Buffer {
     Hold,
     InForce,

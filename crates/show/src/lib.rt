@@ -8,6 +8,9 @@ ghost use Rattle.reader.specs.Said.{took};
 ghost use Rattle.runs.specs.Said.{reportOf};
 ghost use Rattle.text.specs.Replies.{stateText};
 ghost use Rattle.show.specs.Lines.{oneFor, wordFed, saidText, textOf, runText, crcsText};
+
+pub mod asks; // asks.rt: the lines of the calls that are lent nothing to write
+
 use desk::Crcs;
 use desk::RunReply;
 use reader::Counts;

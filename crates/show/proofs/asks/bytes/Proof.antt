@@ -1,0 +1,31 @@
+-- `show::asks::bytes` meets its contract: the count, then the CRC.
+-- Assumes nothing.
+use mathlib.Core.List.{_++_}
+use native.Mathlib.Omega.{arith}
+use lib.ListN.{take}
+use Rattle.text.proofs.Joins.{joined}
+use Rattle.text.specs.Lines.{spaced}
+use Rattle.text.specs.Replies.{crcText}
+use Rattle.show.specs.Asks.{wordPart}
+use borrow.Author.Needs.{needs}
+use Rattle.show.proofs.asks.bytes.Statement.{statement}
+use Rattle.show.proofs.asks.bytes.Tie as tie
+
+slice-aggregate-told : tie.Need-slice-aggregate-told
+slice-aggregate-told c = search needs
+
+told-requires : tie.Need-told-requires
+told-requires c κs = search needs
+
+crc-requires : tie.Need-crc-requires
+crc-requires c κs = search needs
+
+returns : tie.Need-returns
+returns c =
+    let b = c .before .before .before .before .before in
+    let w = c .before .before .told .ensures in
+    let s = b .args .b in
+    (omega (arith, c .crc .ensures .0, w .0, b .pre), joined (take (b .args .at) (b .args .out .now)) (wordPart ++ spaced (s .count)) (crcText (s .crc)) (w .1) (c .crc .ensures .1))
+
+pub bytes-spec : {M : Type 1} → statement M
+bytes-spec = tie.close (tie.spec slice-aggregate-told told-requires crc-requires returns)

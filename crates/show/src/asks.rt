@@ -1,0 +1,126 @@
+// The lines of the calls that are lent nothing to write: what a field answers, or how many bytes were handed back.
+ghost use Prim.Native.Nat.{_+_, _≤_};
+ghost use mathlib.Core.Path.{_≡_};
+ghost use mathlib.Core.List.{_++_};
+ghost use mathlib.Core.Bool.{not};
+ghost use lib.Dec.{T};
+ghost use lib.IntN.{natAbs};
+ghost use lib.Ieee.{binary32, isNan, toBits};
+ghost use lib.ListN.{take};
+ghost use Rattle.record.specs.Answer.{answerSays, valueSays};
+ghost use Rattle.desk.specs.Plain.{noNan, noNanIn, plainly};
+ghost use Rattle.text.specs.Replies.{stateText};
+ghost use Rattle.show.specs.Values.{integerText, fieldText};
+ghost use Rattle.show.specs.Asks.{bytesText, askText, wordNoCrcs};
+use desk::AskReply;
+use desk::Bytes;
+use reader::State;
+use record::Answer;
+use value::Value;
+
+fn magnitude(z: i64) -> u64
+    ensures { λ r. ⌜ r ≡ natAbs z ⌝ }
+{
+    if z < 0 {
+        return (-1 - z) as u64 + 1;
+    }
+    z as u64
+}
+
+// A space and a number with a sign.
+fn integer(out: &mut [u8; 8192], at: usize, z: i64) -> usize
+    requires { ⌜ at + 22 ≤ 8192 ⌝ }
+    ensures { λ r. ⌜ r ≤ at + 22 ⌝ }
+    ensures { λ r. ⌜ take r (now (out .exit)) ≡ take at (now (out .entry)) ++ integerText z ⌝ }
+{
+    let n = magnitude(z);
+    if z < 0 {
+        let minus = text::put(out, at, b" -");
+        return text::decimal_digits(out, minus, n);
+    }
+    text::number(out, at, n)
+}
+
+fn signed(out: &mut [u8; 8192], at: usize, z: i64) -> usize
+    requires { ⌜ at + 120 ≤ 8192 ⌝ }
+    ensures { λ r. ⌜ r ≤ at + 120 ⌝ }
+    ensures { λ r. ⌜ take r (now (out .exit)) ≡ take at (now (out .entry)) ++ fieldText (valueSays (Value.Signed z)) ⌝ }
+{
+    let word = text::put(out, at, b"signed");
+    integer(out, word, z)
+}
+
+fn single_bits(x: f32) -> u32
+    requires { ⌜ T (not (isNan x)) ⌝ }
+    ensures { λ r. ⌜ r ≡ toBits binary32 x ⌝ }
+{
+    f32::to_bits(x)
+}
+
+// A value of a field. No float that is carried is a NaN, so each has its bits.
+fn field_value(out: &mut [u8; 8192], at: usize, v: Value) -> usize
+    requires { ⌜ T (noNan v) ⌝ }
+    requires { ⌜ at + 120 ≤ 8192 ⌝ }
+    ensures { λ r. ⌜ r ≤ at + 120 ⌝ }
+    ensures { λ r. ⌜ take r (now (out .exit)) ≡ take at (now (out .entry)) ++ fieldText (valueSays v) ⌝ }
+{
+    match v {
+        Value::Unsigned(n) => text::told(out, at, b"unsigned", n),
+        Value::Signed(z) => signed(out, at, z),
+        Value::Single(x) => text::told(out, at, b"single", single_bits(x) as u64),
+        Value::Double(x) => text::told(out, at, b"double", f64::to_bits(x)),
+        Value::SingleNan(b) => text::told(out, at, b"single", b as u64),
+        Value::DoubleNan(b) => text::told(out, at, b"double", b),
+        Value::DoNotUse => text::put(out, at, b"do-not-use"),
+        Value::NotInRevision => text::put(out, at, b"not-in-this-revision"),
+    }
+}
+
+// What a field answers.
+fn field(out: &mut [u8; 8192], at: usize, a: Answer) -> usize
+    requires { ⌜ T (noNanIn a) ⌝ }
+    requires { ⌜ at + 120 ≤ 8192 ⌝ }
+    ensures { λ r. ⌜ r ≤ at + 120 ⌝ }
+    ensures { λ r. ⌜ take r (now (out .exit)) ≡ take at (now (out .entry)) ++ fieldText (answerSays a) ⌝ }
+{
+    match a {
+        Answer::Field(v) => field_value(out, at, v),
+        Answer::Refused(why) => text::refused(out, at, why),
+    }
+}
+
+// Bytes that were handed back: how many, and their CRC.
+fn bytes(out: &mut [u8; 8192], at: usize, b: Bytes) -> usize
+    requires { ⌜ at + 120 ≤ 8192 ⌝ }
+    ensures { λ r. ⌜ r ≤ at + 120 ⌝ }
+    ensures { λ r. ⌜ take r (now (out .exit)) ≡ take at (now (out .entry)) ++ bytesText b ⌝ }
+{
+    let count = text::told(out, at, b"part", b.count as u64);
+    text::crc(out, count, b.crc)
+}
+
+// What a call replies that is lent nothing to write.
+fn ask_reply(out: &mut [u8; 8192], at: usize, reply: AskReply) -> usize
+    requires { ⌜ T (plainly reply) ⌝ }
+    requires { ⌜ at + 120 ≤ 8192 ⌝ }
+    ensures { λ r. ⌜ r ≤ at + 120 ⌝ }
+    ensures { λ r. ⌜ take r (now (out .exit)) ≡ take at (now (out .entry)) ++ askText reply ⌝ }
+{
+    match reply {
+        AskReply::Field(a) => field(out, at, a),
+        AskReply::Bytes(b) => bytes(out, at, b),
+        AskReply::Refused(why) => text::refused(out, at, why),
+    }
+}
+
+// The line of a call that is lent nothing to write.
+pub fn ask_line(out: &mut [u8; 8192], at: usize, reply: AskReply, state: State) -> usize
+    requires { ⌜ T (plainly reply) ⌝ }
+    requires { ⌜ at + 320 ≤ 8192 ⌝ }
+    ensures { λ r. ⌜ r ≤ at + 320 ⌝ }
+    ensures { λ r. ⌜ take r (now (out .exit)) ≡ take at (now (out .entry)) ++ (askText reply ++ stateText state ++ wordNoCrcs) ⌝ }
+{
+    let said = ask_reply(out, at, reply);
+    let numbers = text::state_of(out, said, state);
+    text::put(out, numbers, b" | - - -\n")
+}
