@@ -21,7 +21,8 @@ numbersOf f =
 abbrev pub over : List ℕ → List ℕ → List ℕ
 over xs buffer = xs ++ drop (length xs) buffer
 
--- "After each call the held bytes, a standing block first, begin at offset 0 of the hold": then the bytes that stood there before, unchanged
+-- "After each call the held bytes, a standing block first, begin at offset 0 of the hold": then the bytes that stood there
+-- before, unchanged
 abbrev pub holdOf : Feeding → List ℕ → List ℕ
 holdOf f hold = over (f .held) hold
 

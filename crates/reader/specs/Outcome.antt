@@ -1,4 +1,5 @@
--- What a call answers and leaves, refusals included: the answer, the new state and every byte of the buffer it may write; or a part.
+-- What a call answers and leaves, refusals included: the answer, the new state and every byte of the buffer it may write; or a
+-- part.
 -- Assumes nothing.
 use Prim.Native.Nat.{ℕ}
 use mathlib.Core.List.{List, []}

@@ -1,4 +1,5 @@
-// A reader's state, what refusal 1 asks of it, and whether a call is refused. The calls are those of `tables`, `runs` and `records`.
+// A reader's state, what refusal 1 asks of it, and whether a call is refused. The calls are those of `tables`, `runs` and
+// `records`.
 ghost use mathlib.Core.Path.{_≡_};
 ghost use mathlib.Core.Option.{none};
 ghost use Rattle.reader.specs.State.{noCounts, newState, sound};
@@ -22,7 +23,7 @@ pub struct Counts {
     pub skipped: usize,
 }
 
-// What an open run reads by, with the table in force: how many bytes of the hold count, the standing block among them.
+// A run, open or closed: its phase, how many bytes of the hold count, how many of these are the standing block, and its counts.
 pub struct Run {
     pub phase: Phase,
     pub held: usize,

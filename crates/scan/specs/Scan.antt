@@ -1,4 +1,5 @@
--- What the code says of the bytes passed and of what it found, and working definitions for its scan, which only inner functions cite.
+-- What the code says of the bytes passed and of what it found, and working definitions for its scan, which only inner
+-- functions cite.
 -- Assumes nothing.
 use mathlib.Core.Path.{_≡_}
 use Prim.Native.Nat.{ℕ, _+_, _≤_, _<_, max}
@@ -37,8 +38,8 @@ foundOf f = record { taken = f .taken; passed = passedOf (f .passed); block = si
 abbrev pub behind : (List ℕ → Verdict) → List ℕ → List ℕ → Verdict
 behind judge rest v = judge (v ++ rest)
 
--- how many bytes had to be taken to pass the place p, where m had to be before. Only a wrong CRC raises the mark: a block has at least
--- the eight bytes that another verdict rests on
+-- how many bytes had to be taken to pass the place p, where m had to be before. Only a wrong CRC raises the mark: a block has at
+-- least the eight bytes that another verdict rests on
 abbrev pub raised : Reason → ℕ → ℕ → ℕ
 raised NoSync p m = m
 raised LengthNotAllowed p m = m

@@ -150,7 +150,8 @@ fn scan_part(s: &[u8], rest: &[u8], before: Passed, mark: usize) -> Part
     Part::Through(passed, m)
 }
 
-// The held bytes and then the piece, up to the first block or the place that is not decided; the promise is by the rule, a byte at a time.
+// The held bytes and then the piece, up to the first block or the place that is not decided; the promise is by the rule, a byte
+// at a time.
 pub fn scan(held: &[u8], piece: &[u8]) -> Found
     ensures { λ r. ⌜ r ≡ foundOf (feedLit (now (held .entry)) (now (piece .entry)) (length (now (piece .entry)))) ⌝ }
 {
@@ -234,7 +235,7 @@ pub fn last(held: &[u8]) -> Found
             Verdict::NoFrame(why) => {
                 passed = count(passed, why);
             }
-            // Every place is decided now.
+            // Never: when the run is finished every place is decided.
             Verdict::Undecided => {
                 return Found {
                     taken: 0,
