@@ -18,6 +18,9 @@ use Rattle.scan.specs.declared.Part.the-variants.{Block, Waits, Through}
 
 -- ---- the bytes passed, counted
 
+abbrev pub nothingPassed : Passed
+nothingPassed = record { skipped = 0 }
+
 -- one more is passed, for a reason
 abbrev pub count : Passed → Reason → Passed
 count a r = record { skipped = a .skipped + 1 }
@@ -27,7 +30,7 @@ countAll a [] = a
 countAll a (r ∷ rs) = countAll (count a r) rs
 
 abbrev pub passedOf : List Reason → Passed
-passedOf rs = countAll (record { skipped = 0 }) rs
+passedOf rs = countAll nothingPassed rs
 
 abbrev pub foundOf : Feeding → Found
 foundOf f = record { taken = f .taken; passed = passedOf (f .passed); block = size (f .standing) }
