@@ -26,10 +26,11 @@ pub data Decided (v : List ℕ) : Type 0 where
   length-wrong : 8 ≤ length v → allowed (lengthAt v 0) ≡ false → Decided v
   all-there : 8 ≤ length v → lengthAt v 0 ≤ length v → Decided v
 
--- "and not before"
+-- "and not before"; and what is decided is the same whatever stands behind
 pub record DecidedExactly : Type 0 where
   pub once : (v : List ℕ) → Decided v → judged v ≡ Undecided → ⊥
   pub not-before : (v : List ℕ) → (judged v ≡ Undecided → ⊥) → Decided v
+  pub alone : (xs ys zs : List ℕ) → Decided xs → judged (xs ++ ys) ≡ judged (xs ++ zs)
 
 -- once a place is decided, bytes that follow do not change it
 abbrev pub DecidedStays : Type 0
@@ -44,13 +45,14 @@ abbrev pub Past : List ℕ → Type 0
 Past v = (syncAt v 0 ≡ true) × (8 ≤ length v) × (allowed (lengthAt v 0) ≡ true) × (length v < lengthAt v 0)
 
 -- when the run is finished every place is decided, a frame where one was, and each of three reasons is given exactly where it
--- holds; the last two only then
+-- holds; the last two only then. A last byte alone is no pair
 pub record LastRight : Type 0 where
   pub decides : (v : List ℕ) → judgedLast v ≡ Undecided → ⊥
   pub frame : (v : List ℕ) (n : ℕ) → judged v ≡ Frame n → judgedLast v ≡ Frame n
   pub stands : (v : List ℕ) (n : ℕ) → judgedLast v ≡ Frame n → judged v ≡ Frame n
   pub no-pair : (v : List ℕ) → syncAt v 0 ≡ false → judgedLast v ≡ NoFrame NoSync
   pub pair : (v : List ℕ) → judgedLast v ≡ NoFrame NoSync → syncAt v 0 ≡ false
+  pub lone : (v : List ℕ) → length v ≡ 1 → judgedLast v ≡ NoFrame NoSync
   pub few-left : (v : List ℕ) → Few v → judgedLast v ≡ NoFrame FewLeft
   pub few : (v : List ℕ) → judgedLast v ≡ NoFrame FewLeft → Few v
   pub past-end : (v : List ℕ) → Past v → judgedLast v ≡ NoFrame PastEnd

@@ -6,7 +6,7 @@ pub fn judged_right()
     ensures { λ _. ⌜ JudgedRight ⌝ }
 {}
 
-// A place is decided exactly when the bytes are there that the rule names.
+// A place is decided exactly when the bytes are there that the rule names, whatever stands behind them.
 pub fn decided_exactly()
     ensures { λ _. ⌜ DecidedExactly ⌝ }
 {}
