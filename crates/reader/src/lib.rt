@@ -5,6 +5,7 @@ ghost use mathlib.Core.Option.{none};
 ghost use Rattle.reader.specs.State.{noCounts, newState, sound};
 ghost use Rattle.reader.specs.Said.{refusalOf};
 ghost use Rattle.reader.specs.Refusals.{isClosed, need};
+ghost use Rattle.reader.specs.Outcome.{RefusalKeeps};
 
 pub mod after; // after.rt: a run and its counts after a call
 
@@ -108,3 +109,8 @@ pub fn is_closed(p: Phase) -> bool
         Phase::Finishing => false,
     }
 }
+
+// A refusal, whatever the call: the old state, and nothing stored or handed back.
+pub fn refusal_keeps()
+    ensures { λ _. ⌜ RefusalKeeps ⌝ }
+{}
