@@ -3,7 +3,7 @@
 use mathlib.Core.Path.{_≡_, refl, sym, ap, _∙_, subst}
 use mathlib.Core.List.{List, _++_}
 use mathlib.Core.Option.{Option, none, some}
-use Prim.Native.Nat.{ℕ, _+_, _-_, _≤_}
+use Prim.Native.Nat.{ℕ, zero, suc, _+_, _-_, _≤_}
 use native.Mathlib.Omega.{arith}
 use lib.ListN.{length, take, List·getD-append}
 use lib.Seq.{getD-take}
@@ -21,8 +21,8 @@ use Rattle.scan.proofs.Marks.{passedOf-skipped}
 use Rattle.scan.proofs.Calls.{call, fed-stopped, settle-sum}
 use Rattle.feed.specs.Hold.{numbersOf}
 use Rattle.feed.specs.declared.Fed.{Fed}
-use Rattle.runs.specs.Calls.{reported}
-use Rattle.runs.specs.Code.{reportAt}
+use Rattle.runs.specs.Calls.{reported, phaseAfter}
+use Rattle.runs.specs.Code.{reportAt, phaseBy}
 
 -- ---- a standing block is there whole
 
@@ -55,6 +55,11 @@ none-if (some n) v w e = let f : ⊥ = omega (arith, w .eight) in absurd f
 pub some-if : (o : Option ℕ) (n : ℕ) → size o ≡ n → (n ≡ 0 → ⊥) → o ≡ some n
 some-if none n e f = absurd (f (sym e))
 some-if (some m) n e f = ap some e
+
+pub phase-is : (o : Option ℕ) (v : List ℕ) → WholeIf o v → phaseBy (size o) ≡ phaseAfter o
+phase-is none v w = refl
+phase-is (some zero) v w = let f : ⊥ = omega (arith, w .eight) in absurd f
+phase-is (some (suc n)) v w = refl
 
 -- ---- the report
 
