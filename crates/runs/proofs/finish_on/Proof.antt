@@ -15,13 +15,14 @@ use Rattle.reader.specs.State.{sound}
 use Rattle.reader.specs.Said.{ended, found}
 use Rattle.reader.specs.Refusals.{longHold}
 use Rattle.runs.specs.Refusals.{finishRefusal}
-use Rattle.reader.specs.Counting.{runBy, withRun}
+use Rattle.reader.specs.Counting.{withRun}
+use Rattle.reader.specs.Code.{runBy}
 use Rattle.runs.specs.Calls.{reported, front, finishSaid, phaseAfter, runOn, finishingOf}
 use Rattle.runs.specs.Code.{reportAt, phaseBy}
 use Rattle.reader.specs.declared.Phase.{Phase}
 use Rattle.reader.specs.declared.Run.{Run}
 use Rattle.reader.proofs.Laws.{passes, Facts, with-hold}
-use Rattle.runs.proofs.Feeding.{WholeIf, end-whole, none-if, some-if, phase-is, whole-some, report-is, Few, end-few}
+use Rattle.runs.proofs.Feeding.{WholeIf, end-whole, none-if, some-if, phase-is, run-on, whole-some, report-is, Few, end-few}
 use Rattle.reader.proofs.Accepted.{same-outcome}
 use borrow.Author.Needs.{needs}
 use Rattle.runs.proofs.finish_on.Statement.{statement}
@@ -81,6 +82,7 @@ run-is w =
     w .went-on .ensures
     ∙ ap₂ (λ (x : Phase) (f : Fed). runBy x (entry d .args .s .run) f)
     (w .before .phase-after .ensures ∙ ap (λ (f : Fed). phaseBy (f .standing)) (numbers d) ∙ phase-is (meaning d .standing) (meaning d .held) (whole d)) (numbers d)
+    ∙ run-on (phaseAfter (meaning d .standing)) (entry d .args .s .run) (meaning d) (whole d)
 
 finish-requires : tie.Need-finish-requires
 finish-requires c κs =
