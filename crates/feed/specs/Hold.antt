@@ -5,7 +5,7 @@ use mathlib.Core.Path.{_≡_}
 use mathlib.Core.List.{List, _++_}
 use lib.ListN.{length, take, drop}
 use Rattle.scan.specs.Feed.{Feeding, size}
-use Rattle.scan.specs.Scan.{passedOf}
+use Rattle.scan.specs.Passed.{passedOf}
 use Rattle.feed.specs.declared.Fed.{Fed}
 
 -- "drops the block last reported": the held bytes without the standing block

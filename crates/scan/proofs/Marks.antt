@@ -7,7 +7,8 @@ use native.Mathlib.Nat.{add-zero, zero-add}
 use native.Mathlib.Omega.{arith}
 use lib.ListN.{length, replicate}
 use Rattle.scan.specs.Settle.{Settled, settleBy, settle}
-use Rattle.scan.specs.Scan.{nothingPassed, count, countAll, passedOf, raised, marks}
+use Rattle.scan.specs.Passed.{nothingPassed, count, countAll, passedOf}
+use Rattle.scan.specs.Scan.{raised, marks}
 use Rattle.frame.specs.declared.Reason.{Reason}
 use Rattle.frame.specs.declared.Reason.the-variants.{NoSync, LengthNotAllowed, CrcWrong, FewLeft, PastEnd}
 use Rattle.frame.specs.declared.Verdict.{Verdict}

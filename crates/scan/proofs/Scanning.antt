@@ -9,7 +9,8 @@ use lib.ListN.{length, length-append}
 use lib.Seq.{take-all}
 use Rattle.scan.specs.Settle.{Settled, settle}
 use Rattle.scan.specs.Feed.{feedBy, size}
-use Rattle.scan.specs.Scan.{nothingPassed, countAll, passedOf, foundOf, behind, marks, partBy, partOf}
+use Rattle.scan.specs.Passed.{nothingPassed, countAll, passedOf, foundOf}
+use Rattle.scan.specs.Scan.{behind, marks, partBy, partOf}
 use Rattle.frame.specs.declared.Reason.{Reason}
 use Rattle.frame.specs.declared.Verdict.{Verdict}
 use Rattle.scan.specs.declared.Passed.{Passed}

@@ -1,5 +1,4 @@
--- What the code says of the bytes passed and of what it found, and working definitions for its scan, which only inner
--- functions cite.
+-- Working definitions: the scan of a part of the run, and the places that it passes at once. Only inner functions cite them.
 -- Assumes nothing.
 use mathlib.Core.Path.{_≡_}
 use Prim.Native.Nat.{ℕ, _+_, _≤_, _<_, max}
@@ -7,33 +6,13 @@ use mathlib.Core.List.{List, [], _∷_, _++_}
 use mathlib.Core.Option.{Option, none, some}
 use lib.ListN.{length, getD}
 use Rattle.scan.specs.Settle.{Settled}
-use Rattle.scan.specs.Feed.{Feeding, size}
+use Rattle.scan.specs.Passed.{countAll}
 use Rattle.frame.specs.declared.Reason.{Reason}
 use Rattle.frame.specs.declared.Reason.the-variants.{NoSync, LengthNotAllowed, CrcWrong, FewLeft, PastEnd}
 use Rattle.frame.specs.declared.Verdict.{Verdict}
 use Rattle.scan.specs.declared.Passed.{Passed}
-use Rattle.scan.specs.declared.Found.{Found}
 use Rattle.scan.specs.declared.Part.{Part}
 use Rattle.scan.specs.declared.Part.the-variants.{Block, Waits, Through}
-
--- ---- the bytes passed, counted
-
-abbrev pub nothingPassed : Passed
-nothingPassed = record { skipped = 0 }
-
--- one more is passed, for a reason
-abbrev pub count : Passed → Reason → Passed
-count a r = record { skipped = a .skipped + 1 }
-
-unfoldable pub countAll : Passed → List Reason → Passed
-countAll a [] = a
-countAll a (r ∷ rs) = countAll (count a r) rs
-
-abbrev pub passedOf : List Reason → Passed
-passedOf rs = countAll nothingPassed rs
-
-abbrev pub foundOf : Feeding → Found
-foundOf f = record { taken = f .taken; passed = passedOf (f .passed); block = size (f .standing) }
 
 -- ---- a part of the run
 

@@ -7,7 +7,8 @@ ghost use Rattle.frame.specs.Judge.{judged};
 ghost use Rattle.scan.specs.Settle.{settle, judgedLast};
 ghost use Rattle.scan.specs.Feed.{feedLit, stop};
 ghost use Rattle.frame.specs.declared.Reason.the-variants.{NoSync};
-ghost use Rattle.scan.specs.Scan.{NoDollar, NoStart, nothingPassed, count, countAll, foundOf, behind, partOf};
+ghost use Rattle.scan.specs.Passed.{nothingPassed, count, countAll, foundOf};
+ghost use Rattle.scan.specs.Scan.{NoDollar, NoStart, behind, partOf};
 use frame::Reason;
 use frame::Verdict;
 

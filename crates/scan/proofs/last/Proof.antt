@@ -8,7 +8,7 @@ use lib.ListN.{length, drop, length-drop}
 use lib.Seq.{take-all}
 use borrow.Author.Needs.{needs}
 use Rattle.scan.specs.Settle.{judgedLast}
-use Rattle.scan.specs.Scan.{nothingPassed}
+use Rattle.scan.specs.Passed.{nothingPassed}
 use Rattle.scan.specs.declared.Passed.{Passed}
 use Rattle.frame.specs.declared.Reason.the-variants.{NoSync}
 use Rattle.frame.specs.declared.Verdict.{Verdict}

@@ -8,7 +8,8 @@ use lib.ListN.{length}
 use Rattle.frame.specs.Judge.{judged}
 use Rattle.scan.specs.Settle.{settle}
 use Rattle.scan.specs.Feed.{feedLit}
-use Rattle.scan.specs.Scan.{nothingPassed, countAll, foundOf, behind, marks, partOf}
+use Rattle.scan.specs.Passed.{nothingPassed, countAll, foundOf}
+use Rattle.scan.specs.Scan.{behind, marks, partOf}
 use Rattle.scan.specs.declared.Passed.{Passed}
 use Rattle.scan.specs.declared.Found.{Found}
 use Rattle.scan.specs.declared.Part.{Part}
