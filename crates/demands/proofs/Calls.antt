@@ -14,7 +14,6 @@ use Rattle.framing.specs.ReadRun.{Block, readRun}
 use Rattle.frame.specs.Judge.{judged}
 use Rattle.scan.proofs.Stable.{judging, last-fits}
 use Rattle.scan.proofs.Settling.{settle-rest, settle-front}
-use Rattle.scan.proofs.Marks.{passedOf-skipped}
 use Rattle.scan.proofs.Calls as calls
 use Rattle.framing.proofs.Reading.{both, placesFrom, blocksOf, answer, both-both, fed-answers, last-answers}
 use Rattle.reader.specs.State.{limit, sound}
@@ -25,7 +24,7 @@ use Rattle.runs.specs.Calls.{runOn, feedingOf, finishingOf, phaseAfter}
 use Rattle.reader.specs.declared.Phase.{Phase}
 use Rattle.reader.specs.declared.Phase.the-variants as phase
 use Rattle.reader.proofs.Laws.{passes}
-use Rattle.runs.proofs.Feeding.{WholeIf, fed-whole, end-whole}
+use Rattle.runs.proofs.Feeding.{fed-whole, end-whole}
 use Rattle.demands.specs.World.{World, Call, feed, finish, Answer}
 use Rattle.demands.specs.Sequence.{tookOf, reportIn, inHold, taken, blocks}
 use Rattle.demands.specs.Demand2.{MayFollow}
@@ -57,14 +56,9 @@ unfolding placesFrom
 places-count p zero = refl
 places-count p (suc n) = ap suc (places-count (p + 1) n)
 
--- a block is of eight bytes at least, so the number of its bytes tells that it is one
-one-big : (n : ℕ) → 8 ≤ n → 1 ≡ one n
-one-big zero l = let f : ⊥ = omega arith in absurd f
-one-big (suc n) l = refl
-
-length-blocks : (o : Option ℕ) (p : ℕ) (v : List ℕ) → WholeIf o v → length (blocksOf o p v) ≡ one (size o)
-length-blocks none p v w = refl
-length-blocks (some n) p v w = one-big n (w .eight)
+length-blocks : (o : Option ℕ) (p : ℕ) (v : List ℕ) → length (blocksOf o p v) ≡ one o
+length-blocks none p v = refl
+length-blocks (some n) p v = refl
 
 -- ---- a call that goes on in the run
 
@@ -89,9 +83,9 @@ module _ (x : Phase) (w : World) (bs : List ℕ) (f : Feeding) (blk : List Block
   go {ts} {b} fol e r =
       record {
         count = omega (arith, r .count, length-append ts bs, n);
-        sum = omega (arith, r .sum, length-append b blk, ap length a, length-blocks (f .standing) (place w + length (f .passed)) (f .held) (h .whole));
+        sum = omega (arith, r .sum, length-append b blk, ap length a, length-blocks (f .standing) (place w + length (f .passed)) (f .held));
         places = r .places ++ placesFrom (place w) (length (f .passed));
-        skips = omega (arith, r .skips, length-append (r .places) (placesFrom (place w) (length (f .passed))), places-count (place w) (length (f .passed)), passedOf-skipped (f .passed));
+        skips = omega (arith, r .skips, length-append (r .places) (placesFrom (place w) (length (f .passed))), places-count (place w) (length (f .passed)));
         rest = rest-after ts (r .count) (r .rest);
         so = λ zs y.
             ap (readRun 0) (append-assoc ts bs zs)

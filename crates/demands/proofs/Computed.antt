@@ -7,7 +7,7 @@ use Rattle.frame.specs.Frame.{syncAt, allowed, endsWithin, crcRight, frameAt, w
 use Rattle.frame.specs.Judge.{judged}
 use Rattle.scan.specs.Settle.{settle, judgedLast}
 use Rattle.scan.specs.Feed.{feedBy}
-use Rattle.scan.specs.Scan.{countAll}
+use Rattle.scan.specs.Passed.{countAll}
 use Rattle.feed.specs.Hold.{restOf}
 use Rattle.table.specs.Lists.{tabulate, every, chain, neighbours, first, pick}
 use Rattle.rows.specs.Types.{sizeOf}

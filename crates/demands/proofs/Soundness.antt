@@ -1,6 +1,6 @@
 -- The invariant of states is kept by every call.
 -- Assumes nothing.
-use Prim.Native.Nat.{ℕ, zero, suc, _+_, _-_, _≤_}
+use Prim.Native.Nat.{ℕ, _+_, _-_, _≤_}
 use native.Mathlib.Omega.{arith}
 use native.Mathlib.Nat.{add-zero}
 use mathlib.Core.Path.{_≡_, refl, subst, subst⁻¹}
@@ -16,7 +16,6 @@ use Rattle.frame.proofs.Tests.{both-true}
 use Rattle.feed.proofs.Bounds.{take-bytes, drop-bytes, fed-held}
 use Rattle.frame.specs.Judge.{judged}
 use Rattle.scan.proofs.Stable.{judging}
-use Rattle.scan.proofs.Marks.{passedOf-skipped}
 use Rattle.scan.proofs.Calls.{call, settle-sum}
 use Rattle.feed.specs.Hold.{restOf}
 use Rattle.feed.proofs.Literally.{rest-length}
@@ -57,9 +56,9 @@ end-size : (o : Option ℕ) (r : Run) (v : List ℕ) → size o ≡ sizeIn (fini
 end-size none r v = refl
 end-size (some n) r v = refl
 
-one-le : (n : ℕ) → one n ≤ n
-one-le zero = omega arith
-one-le (suc n) = omega arith
+one-le : (o : Option ℕ) (v : List ℕ) → WholeIf o v → one o ≤ size o
+one-le none v w = omega arith
+one-le (some n) v w = omega (arith, w .eight)
 
 whole-le : (o : Option ℕ) (v : List ℕ) → WholeIf o v → size o ≤ length v
 whole-le none v w = omega arith
@@ -67,15 +66,16 @@ whole-le (some n) v w = w .there
 
 -- the run goes on by what was taken, skipped and kept
 went-on : (x : Phase) (s : State) (b n : ℕ) (F : Feeding) → Sound s b → n ≡ s .run .held - s .run .standing → n + F .taken ≡ length (F .passed) + length (F .held)
-    → length (F .held) ≤ 65532 → F .taken ≤ limit - s .run .counts .taken → size (F .standing) ≤ length (F .held)
+    → length (F .held) ≤ 65532 → F .taken ≤ limit - s .run .counts .taken → WholeIf (F .standing) (F .held)
     → Sound (withRun s (runOn x (s .run) F)) (b + size (F .standing))
-went-on x s b n F h e sum l t o =
+went-on x s b n F h e sum l t w =
+    let o = whole-le (F .standing) (F .held) w in
     record {
       few = l;
       front = o;
       among = omega arith;
-      count = omega (arith, h .count, one-le (size (F .standing)));
-      sum = omega (arith, h .sum, sum, o, passedOf-skipped (F .passed));
+      count = omega (arith, h .count, one-le (F .standing) (F .held) w);
+      sum = omega (arith, h .sum, sum, o);
       most = omega (arith, h .most, t);
       force = h .force;
       wait = h .wait;
@@ -98,7 +98,7 @@ feed-done s b hold piece bh bp h e =
     (fed-size (feedLit rest piece room .standing) (feedLit rest piece room .taken) (front (runOn phase.Feeding (s .run) (feedLit rest piece room))) (feedLit rest piece room .held))
     (went-on _ s b (length rest) (feedLit rest piece room) h lr (k .sum)
     (fed-held piece room rest (rest-bytes hold (s .run .held) (s .run .standing) bh) bp (omega (arith, lr, h .few))) (omega (arith, k .taken))
-    (whole-le (feedLit rest piece room .standing) (feedLit rest piece room .held) (fed-whole rest piece room)))
+    (fed-whole rest piece room))
 
 finish-done : (s : State) (b : ℕ) (hold : List ℕ) → Sound s b → finishRefusal s hold ≡ none
     → Sound (finishingBy (finishingOf s hold) s hold .state) (b + sizeIn (finishingBy (finishingOf s hold) s hold .said))
@@ -112,7 +112,7 @@ finish-done s b hold h e =
     subst (λ (c : ℕ). Sound (finishingBy (stop (settle judgedLast rest)) s hold .state) (b + c))
     (end-size (settle judgedLast rest .standing) (runOn x (s .run) (stop (settle judgedLast rest))) (settle judgedLast rest .rest))
     (went-on _ s b (length rest) (stop (settle judgedLast rest)) h lr k (omega (arith, k, lr, h .few)) (omega arith)
-    (whole-le (settle judgedLast rest .standing) (settle judgedLast rest .rest) (end-whole rest)))
+    (end-whole rest))
 
 length-by : (b : Bool) (m n : ℕ) → m ≤ 8192 → n ≤ 8192 → cond b m n ≤ 8192
 length-by true m n h k = h

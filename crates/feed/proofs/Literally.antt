@@ -11,7 +11,7 @@ use Rattle.frame.specs.Judge.{judged}
 use Rattle.frame.proofs.Tests.{lt?}
 use Rattle.scan.specs.Settle.{Settled, settle, judgedLast}
 use Rattle.scan.specs.Feed.{Feeding, feedLit, stop, size}
-use Rattle.scan.specs.Scan.{foundOf}
+use Rattle.scan.specs.Passed.{foundOf}
 use Rattle.scan.specs.declared.Found.{Found}
 use Rattle.scan.proofs.Stable.{judging, last-fits}
 use Rattle.scan.proofs.Settling.{settle-rest, settle-front}

@@ -5,7 +5,7 @@ use mathlib.Core.Path.{_≡_}
 use mathlib.Core.List.{List, _++_}
 use lib.ListN.{length, take, drop}
 use Rattle.scan.specs.Feed.{Feeding, size}
-use Rattle.scan.specs.Scan.{passedOf}
+use Rattle.scan.specs.Passed.{passedOf}
 use Rattle.feed.specs.declared.Fed.{Fed}
 
 -- "drops the block last reported": the held bytes without the standing block
@@ -21,7 +21,8 @@ numbersOf f =
 abbrev pub over : List ℕ → List ℕ → List ℕ
 over xs buffer = xs ++ drop (length xs) buffer
 
--- "After each call the held bytes, a standing block first, begin at offset 0 of the hold": then the bytes that stood there before, unchanged
+-- "After each call the held bytes, a standing block first, begin at offset 0 of the hold": then the bytes that stood there
+-- before, unchanged
 abbrev pub holdOf : Feeding → List ℕ → List ℕ
 holdOf f hold = over (f .held) hold
 

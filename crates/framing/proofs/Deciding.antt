@@ -1,7 +1,7 @@
 -- When a place is decided, while the run is fed and when it is finished.
 -- Assumes nothing.
-use mathlib.Core.Path.{_≡_, refl, subst}
-use mathlib.Core.List.{List}
+use mathlib.Core.Path.{_≡_, refl, sym, _∙_, subst}
+use mathlib.Core.List.{List, _++_}
 use mathlib.Core.Bool.{Bool, true, false, cond, _&&_}
 use Prim.Native.Nat.{ℕ, _≤_, _<_}
 use native.Mathlib.Omega.{arith}
@@ -18,7 +18,7 @@ use Rattle.frame.proofs.Tests.{bool?, lt?, both-left, both-right, both-true, ne
 use Rattle.frame.proofs.Cases.{short, part}
 use Rattle.frame.proofs.View.{Head, View, waits-head, waits-body, at-sync0, at-sync1, at-length, at-bad, at-good, view}
 use Rattle.scan.specs.Settle.{lastBy, judgedLast}
-use Rattle.scan.proofs.Stable.{last-ends, last-decides, frame-last, last-frame}
+use Rattle.scan.proofs.Stable.{judging, last-ends, last-decides, frame-last, last-frame}
 use Rattle.framing.specs.Theorems.{Decided, first-wrong, second-wrong, length-wrong, all-there, DecidedExactly, Few, Past, LastRight}
 
 -- ---- while the run is fed
@@ -48,7 +48,12 @@ before-by v (at-bad h a l q) n = all-there (h .eight) l
 before-by v (at-good h a l q) n = all-there (h .eight) l
 
 pub decided-exactly : DecidedExactly
-decided-exactly = record { once = λ v d. once-by v (view v) d; not-before = λ v n. before-by v (view v) n }
+decided-exactly =
+    record {
+      once = λ v d. once-by v (view v) d;
+      not-before = λ v n. before-by v (view v) n;
+      alone = λ xs ys zs d. let n = once-by xs (view xs) d in judging .stays xs ys n ∙ sym (judging .stays xs zs n);
+    }
 
 -- ---- when it is finished
 
@@ -198,6 +203,7 @@ last-right =
       stands = last-frame;
       no-pair = λ v e. last-pair v .without e;
       pair = λ v e. bool? (syncAt v 0) (λ t. absurd (last-pair v .with t e)) (λ f. f);
+      lone = λ v l. last-pair v .without (lone v (omega arith));
       few-left = few-left;
       few = λ v e. last-says v e;
       past-end = past-end;

@@ -1,4 +1,5 @@
--- A whole run read from the left (document 01, 'Reading a run'): the standard that everything else is held to. It cites the frame test alone.
+-- A whole run read from the left (document 01, 'Reading a run'): the standard that everything else is held to. It cites the frame
+-- test alone.
 -- Assumes nothing.
 use Prim.Native.Nat.{ℕ, zero, suc, _+_, _-_}
 use mathlib.Core.Bool.{Bool, true, false}

@@ -26,10 +26,11 @@ pub data Decided (v : List ℕ) : Type 0 where
   length-wrong : 8 ≤ length v → allowed (lengthAt v 0) ≡ false → Decided v
   all-there : 8 ≤ length v → lengthAt v 0 ≤ length v → Decided v
 
--- "and not before"
+-- "and not before"; and what is decided is the same whatever stands behind
 pub record DecidedExactly : Type 0 where
   pub once : (v : List ℕ) → Decided v → judged v ≡ Undecided → ⊥
   pub not-before : (v : List ℕ) → (judged v ≡ Undecided → ⊥) → Decided v
+  pub alone : (xs ys zs : List ℕ) → Decided xs → judged (xs ++ ys) ≡ judged (xs ++ zs)
 
 -- once a place is decided, bytes that follow do not change it
 abbrev pub DecidedStays : Type 0
@@ -43,14 +44,15 @@ Few v = (syncAt v 0 ≡ true) × (length v < 8)
 abbrev pub Past : List ℕ → Type 0
 Past v = (syncAt v 0 ≡ true) × (8 ≤ length v) × (allowed (lengthAt v 0) ≡ true) × (length v < lengthAt v 0)
 
--- when the run is finished every place is decided, a frame where one was, and each of three reasons is given exactly where it holds;
--- the last two only then
+-- when the run is finished every place is decided, a frame where one was, and each of three reasons is given exactly where it
+-- holds; the last two only then. A last byte alone is no pair
 pub record LastRight : Type 0 where
   pub decides : (v : List ℕ) → judgedLast v ≡ Undecided → ⊥
   pub frame : (v : List ℕ) (n : ℕ) → judged v ≡ Frame n → judgedLast v ≡ Frame n
   pub stands : (v : List ℕ) (n : ℕ) → judgedLast v ≡ Frame n → judged v ≡ Frame n
   pub no-pair : (v : List ℕ) → syncAt v 0 ≡ false → judgedLast v ≡ NoFrame NoSync
   pub pair : (v : List ℕ) → judgedLast v ≡ NoFrame NoSync → syncAt v 0 ≡ false
+  pub lone : (v : List ℕ) → length v ≡ 1 → judgedLast v ≡ NoFrame NoSync
   pub few-left : (v : List ℕ) → Few v → judgedLast v ≡ NoFrame FewLeft
   pub few : (v : List ℕ) → judgedLast v ≡ NoFrame FewLeft → Few v
   pub past-end : (v : List ℕ) → Past v → judgedLast v ≡ NoFrame PastEnd
@@ -62,21 +64,23 @@ pub record LastRight : Type 0 where
 abbrev pub readAt : List ℕ → ℕ → Reading
 readAt w p = readRun p (drop p w)
 
--- "Reading a run", by places: "If a frame stands at the place, it is a block and reading goes on at p+L. Otherwise that one byte is skipped."
+-- "Reading a run", by places: "If a frame stands at the place, it is a block and reading goes on at p+L. Otherwise that one
+-- byte is skipped."
 pub record ReadByTheRule : Type 0 where
   pub end : (w : List ℕ) → readAt w (length w) ≡ nothingRead
   pub block : (w : List ℕ) (p : ℕ) → p < length w → frameAt w p ≡ true
       → readAt w p ≡ blockThen (blockAt p (lengthAt w p) (drop p w)) (readAt w (p + lengthAt w p))
   pub skip : (w : List ℕ) (p : ℕ) → p < length w → frameAt w p ≡ false → readAt w p ≡ skipThen p (readAt w (p + 1))
 
--- "one that answers More has decided all it can": all it may take is taken, and the held bytes are none or begin with an undecided place
+-- "one that answers More has decided all it can": all it may take is taken, and the held bytes are none or begin with an
+-- undecided place
 abbrev pub MoreDecidesAll : Type 0
 MoreDecidesAll =
     (held piece : List ℕ) (room : ℕ) → feedLit held piece room .standing ≡ none
     → (feedLit held piece room .taken ≡ min room (length piece)) × (judged (feedLit held piece room .held) ≡ Undecided)
 
--- "A call that reports a block decides nothing after it": a frame of n bytes stands at the front of what is held, all bytes behind the
--- skipped ones are held, and no fewer bytes of the piece give a block
+-- "A call that reports a block decides nothing after it": a frame of n bytes stands at the front of what is held, all bytes
+-- behind the skipped ones are held, and no fewer bytes of the piece give a block
 pub record BlockDecidesNoMore : Type 0 where
   pub stands : (held piece : List ℕ) (room n : ℕ) → feedLit held piece room .standing ≡ some n → judged (feedLit held piece room .held) ≡ Frame n
   pub held : (held piece : List ℕ) (room : ℕ)

@@ -6,7 +6,7 @@ pub fn judged_right()
     ensures { λ _. ⌜ JudgedRight ⌝ }
 {}
 
-// A place is decided exactly when the bytes are there that the rule names.
+// A place is decided exactly when the bytes are there that the rule names, whatever stands behind them.
 pub fn decided_exactly()
     ensures { λ _. ⌜ DecidedExactly ⌝ }
 {}
@@ -16,7 +16,7 @@ pub fn decided_stays()
     ensures { λ _. ⌜ DecidedStays ⌝ }
 {}
 
-// When the run is finished all is decided: a frame where one was, and the reasons where they hold.
+// When the run is finished all is decided: a frame where one was, and three of the reasons exactly where they hold.
 pub fn last_right()
     ensures { λ _. ⌜ LastRight ⌝ }
 {}

@@ -6,8 +6,11 @@ use mathlib.Core.Option.{Option, none, some}
 use Prim.Native.Nat.{ℕ}
 use native.Mathlib.Omega.{arith}
 use Rattle.reader.specs.Said.{Said, refused, version}
-use Rattle.reader.specs.Outcome.{Outcome, outcome, unless}
+use Rattle.reader.specs.Outcome.{Outcome, outcome, unless, RefusalKeeps}
 use Rattle.reader.specs.declared.State.{State}
+
+pub refusal-keeps : RefusalKeeps
+refusal-keeps = record { all = λ n s lent done. refl; empty = λ n part. refl }
 
 module _ (s : State) (l : List ℕ) (d : Outcome) where
   pub refused-by : (o : Option ℕ) (n : ℕ) {v : ℕ} → d .said ≡ version v → unless o s l d .said ≡ refused n → unless o s l d ≡ outcome (refused n) s l

@@ -1,25 +1,22 @@
--- What a call did is counted, and the run goes on by it: from the numbers that `feed` gives.
+-- What a call did is counted.
 -- Assumes nothing.
-use Prim.Native.Nat.{ℕ, zero, suc, _+_}
-use Rattle.feed.specs.declared.Fed.{Fed}
-use Rattle.reader.specs.declared.Phase.{Phase}
+use Prim.Native.Nat.{ℕ, _+_}
+use mathlib.Core.Option.{Option, none, some}
+use lib.ListN.{length}
+use Rattle.scan.specs.Feed.{Feeding}
 use Rattle.reader.specs.declared.Counts.{Counts}
 use Rattle.reader.specs.declared.Run.{Run}
 use Rattle.reader.specs.declared.State.{State}
 
--- 1 for a block of so many bytes, 0 for none
-abbrev pub one : ℕ → ℕ
-one zero = 0
-one (suc n) = 1
+-- a block, or none
+abbrev pub one : Option ℕ → ℕ
+one none = 0
+one (some n) = 1
 
--- what a call did is counted
-abbrev pub counted : Counts → Fed → Counts
+-- "End (bytes, blocks, skipped bytes)": the bytes taken, the block that stands, the bytes skipped
+abbrev pub counted : Counts → Feeding → Counts
 counted c f =
-    record { taken = c .taken + f .taken; blocks = c .blocks + one (f .standing); skipped = c .skipped + f .passed .skipped }
-
--- the run goes on in a phase
-abbrev pub runBy : Phase → Run → Fed → Run
-runBy x r f = record { phase = x; held = f .held; standing = f .standing; counts = counted (r .counts) f }
+    record { taken = c .taken + f .taken; blocks = c .blocks + one (f .standing); skipped = c .skipped + length (f .passed) }
 
 abbrev pub withRun : State → Run → State
 withRun s r = record { run = r; «in_force» = s .«in_force»; waiting = s .waiting }

@@ -3,3 +3,4 @@ pub mod Said
 pub mod Refusals
 pub mod Outcome
 pub mod Counting
+pub mod Code

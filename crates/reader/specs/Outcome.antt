@@ -1,5 +1,7 @@
--- What a call answers and leaves, refusals included: the answer, the new state and every byte of the buffer it may write; or a part.
+-- What a call answers and leaves, refusals included: the answer, the new state and every byte of the buffer it may write; or a
+-- part.
 -- Assumes nothing.
+use mathlib.Core.Path.{_≡_}
 use Prim.Native.Nat.{ℕ}
 use mathlib.Core.List.{List, []}
 use mathlib.Core.Option.{Option, none, some}
@@ -24,3 +26,8 @@ unless none s lent done = done
 abbrev pub partUnless : Option ℕ → List ℕ → List ℕ
 partUnless (some n) part = []
 partUnless none part = part
+
+-- both, as a statement: whatever a call would have done, a refused one keeps the state and the buffer, and hands back no byte
+pub record RefusalKeeps : Type 0 where
+  pub all : (n : ℕ) (s : State) (lent : List ℕ) (done : Outcome) → unless (some n) s lent done ≡ outcome (refused n) s lent
+  pub empty : (n : ℕ) (part : List ℕ) → partUnless (some n) part ≡ []

@@ -1,4 +1,5 @@
--- What the refusals of several calls have in common: numbers in a row, a closed run, the lengths of lent buffers, a table's check.
+-- What the refusals of several calls have in common: numbers in a row, a closed run, the lengths of lent buffers, a table's
+-- check.
 -- Assumes nothing.
 use Prim.Native.Nat.{ℕ}
 use mathlib.Core.Bool.{Bool, true, false}

@@ -22,8 +22,8 @@ noRun = record { phase = Closed; held = 0; standing = 0; counts = noCounts }
 abbrev pub newState : State
 newState = record { run = noRun; «in_force» = 0; waiting = 0 }
 
--- 1: "the state has over 65,532 held bytes, more held than taken, a standing block longer than the held bytes, a table length over
--- 8,192, over 4,294,967,295 taken, or blocks or skipped above taken": none of it
+-- 1: "the state has over 65,532 held bytes, more held than taken, a standing block longer than the held bytes, a table length
+-- over 8,192, over 4,294,967,295 taken, or blocks or skipped above taken": none of it
 unfoldable pub sound : State → Bool
 sound s =
     leb (s .run .held) 65532

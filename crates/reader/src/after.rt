@@ -1,7 +1,8 @@
 // After a call: the run and its counts. Here alone what a call did is added to the counts.
 ghost use mathlib.Core.Path.{_≡_};
 ghost use Prim.Native.Nat.{_+_, _≤_};
-ghost use Rattle.reader.specs.Counting.{one, counted, runBy, withRun};
+ghost use Rattle.reader.specs.Counting.{withRun};
+ghost use Rattle.reader.specs.Code.{oneBy, countedBy, runBy};
 use crate::Counts;
 use crate::Phase;
 use crate::Run;
@@ -9,7 +10,7 @@ use crate::State;
 
 // 1 where a block stands.
 fn one_if(standing: usize) -> usize
-    ensures { λ r. ⌜ (r ≡ one standing) × (r ≤ 1) ⌝ }
+    ensures { λ r. ⌜ (r ≡ oneBy standing) × (r ≤ 1) ⌝ }
 {
     if standing == 0 { 0 } else { 1 }
 }
@@ -17,7 +18,7 @@ fn one_if(standing: usize) -> usize
 // The counts after a call that did what `f` says.
 fn counted(c: Counts, f: feed::Fed) -> Counts
     requires { ⌜ (c .taken + f .taken ≤ 4294967295) × (c .blocks ≤ 4294967295) × (c .skipped + f .passed .skipped ≤ 18446744073709551615) ⌝ }
-    ensures { λ r. ⌜ r ≡ counted c f ⌝ }
+    ensures { λ r. ⌜ r ≡ countedBy c f ⌝ }
 {
     let standing = f.standing;
     let more = one_if(standing);

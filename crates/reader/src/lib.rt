@@ -1,9 +1,11 @@
-// A reader's state, what refusal 1 asks of it, and whether a call is refused. The calls are those of `tables`, `runs` and `records`.
+// A reader's state, what refusal 1 asks of it, and whether a call is refused. The calls are those of `tables`, `runs` and
+// `records`.
 ghost use mathlib.Core.Path.{_≡_};
 ghost use mathlib.Core.Option.{none};
 ghost use Rattle.reader.specs.State.{noCounts, newState, sound};
 ghost use Rattle.reader.specs.Said.{refusalOf};
 ghost use Rattle.reader.specs.Refusals.{isClosed, need};
+ghost use Rattle.reader.specs.Outcome.{RefusalKeeps};
 
 pub mod after; // after.rt: a run and its counts after a call
 
@@ -22,7 +24,7 @@ pub struct Counts {
     pub skipped: usize,
 }
 
-// What an open run reads by, with the table in force: how many bytes of the hold count, the standing block among them.
+// A run, open or closed: its phase, how many bytes of the hold count, how many of these are the standing block, and its counts.
 pub struct Run {
     pub phase: Phase,
     pub held: usize,
@@ -107,3 +109,8 @@ pub fn is_closed(p: Phase) -> bool
         Phase::Finishing => false,
     }
 }
+
+// A refusal, whatever the call: the old state, and nothing stored or handed back.
+pub fn refusal_keeps()
+    ensures { λ _. ⌜ RefusalKeeps ⌝ }
+{}

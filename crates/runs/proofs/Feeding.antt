@@ -1,9 +1,9 @@
 -- What feed and finish leave, from numbers to meaning: the block that stands, its report, and bounds of the counts.
 -- Assumes nothing.
-use mathlib.Core.Path.{_≡_, refl, sym, ap, _∙_, subst}
+use mathlib.Core.Path.{_≡_, refl, sym, ap, ap₂, _∙_, subst}
 use mathlib.Core.List.{List, _++_}
 use mathlib.Core.Option.{Option, none, some}
-use Prim.Native.Nat.{ℕ, _+_, _-_, _≤_}
+use Prim.Native.Nat.{ℕ, zero, suc, _+_, _-_, _≤_}
 use native.Mathlib.Omega.{arith}
 use lib.ListN.{length, take, List·getD-append}
 use lib.Seq.{getD-take}
@@ -21,8 +21,12 @@ use Rattle.scan.proofs.Marks.{passedOf-skipped}
 use Rattle.scan.proofs.Calls.{call, fed-stopped, settle-sum}
 use Rattle.feed.specs.Hold.{numbersOf}
 use Rattle.feed.specs.declared.Fed.{Fed}
-use Rattle.runs.specs.Calls.{reported}
-use Rattle.runs.specs.Code.{reportAt}
+use Rattle.reader.specs.Counting.{one}
+use Rattle.reader.specs.Code.{oneBy, runBy}
+use Rattle.reader.specs.declared.Phase.{Phase}
+use Rattle.reader.specs.declared.Run.{Run}
+use Rattle.runs.specs.Calls.{reported, runOn, phaseAfter}
+use Rattle.runs.specs.Code.{reportAt, phaseBy}
 
 -- ---- a standing block is there whole
 
@@ -55,6 +59,31 @@ none-if (some n) v w e = let f : ⊥ = omega (arith, w .eight) in absurd f
 pub some-if : (o : Option ℕ) (n : ℕ) → size o ≡ n → (n ≡ 0 → ⊥) → o ≡ some n
 some-if none n e f = absurd (f (sym e))
 some-if (some m) n e f = ap some e
+
+pub phase-is : (o : Option ℕ) (v : List ℕ) → WholeIf o v → phaseBy (size o) ≡ phaseAfter o
+phase-is none v w = refl
+phase-is (some zero) v w = let f : ⊥ = omega (arith, w .eight) in absurd f
+phase-is (some (suc n)) v w = refl
+
+-- ---- the run goes on
+
+one-is : (o : Option ℕ) (v : List ℕ) → WholeIf o v → oneBy (size o) ≡ one o
+one-is none v w = refl
+one-is (some zero) v w = let f : ⊥ = omega (arith, w .eight) in absurd f
+one-is (some (suc n)) v w = refl
+
+-- by the numbers that are given back as by what a call did
+pub run-on : (x : Phase) (r : Run) (f : Feeding) → WholeIf (f .standing) (f .held) → runBy x r (numbersOf f) ≡ runOn x r f
+run-on x r f w =
+    ap₂
+    (λ (b s : ℕ).
+    record {
+      phase = x;
+      held = length (f .held);
+      standing = size (f .standing);
+      counts = record { taken = r .counts .taken + f .taken; blocks = r .counts .blocks + b; skipped = r .counts .skipped + s };
+    })
+    (one-is (f .standing) (f .held) w) (passedOf-skipped (f .passed))
 
 -- ---- the report
 

@@ -3,14 +3,14 @@
 use Prim.Native.Nat.{ℕ, _-_}
 use mathlib.Core.List.{List}
 use mathlib.Core.Option.{Option, none, some}
-use lib.ListN.{take}
+use lib.ListN.{length, take}
 use Rattle.frame.specs.Frame.{idAt, numberOf, revisionOf}
 use Rattle.scan.specs.Settle.{settle, judgedLast}
-use Rattle.scan.specs.Feed.{Feeding, feedLit, stop}
-use Rattle.feed.specs.Hold.{restOf, numbersOf, holdOf}
+use Rattle.scan.specs.Feed.{Feeding, feedLit, stop, size}
+use Rattle.feed.specs.Hold.{restOf, holdOf}
 use Rattle.reader.specs.State.{limit}
 use Rattle.reader.specs.Said.{Report, Said, took, found, ended}
-use Rattle.reader.specs.Counting.{runBy, withRun}
+use Rattle.reader.specs.Counting.{counted, withRun}
 use Rattle.reader.specs.Outcome.{Outcome, unless, partUnless}
 use Rattle.reader.specs.declared.Phase.{Phase}
 use Rattle.reader.specs.declared.Phase.the-variants as phase
@@ -32,9 +32,9 @@ abbrev pub reportIf : Option ℕ → ℕ → List ℕ → Option Report
 reportIf none p v = none
 reportIf (some n) p v = some (reported p n v)
 
--- the run goes on in a phase by the numbers of what a call did
+-- the run goes on in a phase by what a call did: how many bytes are held, how many of these are the block, and the counts
 abbrev pub runOn : Phase → Run → Feeding → Run
-runOn x r f = runBy x r (numbersOf f)
+runOn x r f = record { phase = x; held = length (f .held); standing = size (f .standing); counts = counted (r .counts) f }
 
 -- "drops the block last reported. .. Answers the count taken, with Block (place, number, revision, length) or More."
 abbrev pub feedingBy : Feeding → State → List ℕ → Outcome

@@ -24,7 +24,8 @@ abbrev pub isSome : Option ℕ → Bool
 isSome none = false
 isSome (some n) = true
 
--- 2: "Feed without one or after the first Finish"; 3: "the run has 4,294,967,295 bytes, the held bytes give no block and the piece is not empty"
+-- 2: "Feed without one or after the first Finish"; 3: "the run has 4,294,967,295 bytes, the held bytes give no block and the
+-- piece is not empty"
 unfoldable pub feedRefusal : State → List ℕ → List ℕ → Option ℕ
 feedRefusal s hold piece =
     need (sound s && longHold hold) 1

@@ -8,7 +8,7 @@ ghost use Rattle.reader.specs.Outcome.{outcome};
 ghost use Rattle.runs.specs.Said.{reportOf, saidFed, saidFinished};
 ghost use Rattle.runs.specs.Refusals.{feedRefusal, finishRefusal, bytesRefusal};
 ghost use Rattle.runs.specs.Calls.{feedingOf, feedingBy, feedOf, finishingOf, finishingBy, finishOf, bytesOf};
-ghost use Rattle.runs.specs.Code.{reportAt};
+ghost use Rattle.runs.specs.Code.{reportAt, phaseBy};
 
 mod refusals; // refusals.rt: the refusals of each call, in their order
 
@@ -104,6 +104,17 @@ pub fn feed(s: State, hold: &mut [u8], piece: &[u8]) -> FeedAnswer
     }
 }
 
+// Finish leaves a block of so many bytes, or 0 for none and the run's end.
+fn phase_after(standing: usize) -> Phase
+    ensures { λ r. ⌜ r ≡ phaseBy standing ⌝ }
+{
+    if standing == 0 {
+        Phase::Closed
+    } else {
+        Phase::Finishing
+    }
+}
+
 fn finish_on(s: State, hold: &mut [u8]) -> FinishAnswer
     requires { ⌜ finishRefusal s (now hold) ≡ none ⌝ }
     ensures { λ r. ⌜ outcome (saidFinished (r .answer)) (r .state) (now (hold .exit)) ≡ finishingBy (finishingOf s (now (hold .entry))) s (now (hold .entry)) ⌝ }
@@ -113,19 +124,19 @@ fn finish_on(s: State, hold: &mut [u8]) -> FinishAnswer
     let standing = run.standing;
     let f = feed::finish(hold, held, standing);
     let len = f.standing;
+    let next = after::went_on(run, phase_after(len), f);
+    let state = after::with_run(s, next);
     if len == 0 {
-        let last = after::went_on(run, Phase::Closed, f);
-        let counts = last.counts;
+        let counts = next.counts;
         return FinishAnswer {
             answer: Finished::End(counts),
-            state: after::with_run(s, last),
+            state,
         };
     }
-    let next = after::went_on(run, Phase::Finishing, f);
     let block = block_at(hold, next.counts.taken - next.held, len);
     FinishAnswer {
         answer: Finished::Block(block),
-        state: after::with_run(s, next),
+        state,
     }
 }
 

@@ -1,10 +1,13 @@
 // The refusals of Feed, Finish and Bytes, in document 01's order, each tested once.
 ghost use mathlib.Core.Path.{_≡_};
+ghost use mathlib.Core.Bool.{_&&_};
 ghost use Prim.Native.Nat.{_≤_};
 ghost use lib.ListN.{length};
+ghost use lib.Dec.{leb};
 ghost use Rattle.feed.specs.Hold.{restOf};
 ghost use Rattle.frame.specs.Judge.{judged};
 ghost use Rattle.scan.specs.Settle.{settle};
+ghost use Rattle.reader.specs.State.{sound};
 ghost use Rattle.reader.specs.Said.{refusalOf};
 ghost use Rattle.runs.specs.Refusals.{isFeeding, isSome, feedRefusal, finishRefusal, bytesRefusal};
 use reader::Check;
@@ -31,11 +34,18 @@ fn gives_block(hold: &[u8], held: usize, standing: usize) -> bool
     0 < found.block
 }
 
+// 1: the state is sound, and a hold of so many bytes is long enough.
+fn may_call(s: State, hold: usize) -> bool
+    ensures { λ r. ⌜ r ≡ (sound s && leb 65536 hold) ⌝ }
+{
+    reader::is_sound(s) & (65536 <= hold)
+}
+
 // Feed: 1, 2, 3.
 pub fn of_feed(s: State, hold: &[u8], piece: &[u8]) -> Check
     ensures { λ r. ⌜ refusalOf r ≡ feedRefusal s (now (hold .entry)) (now (piece .entry)) ⌝ }
 {
-    if !(reader::is_sound(s) & (65536 <= hold.len())) {
+    if !may_call(s, hold.len()) {
         return Check::Refused(Refusal::BadBuffer);
     }
     let run = s.run;
@@ -59,7 +69,7 @@ pub fn of_feed(s: State, hold: &[u8], piece: &[u8]) -> Check
 pub fn of_finish(s: State, hold: &[u8]) -> Check
     ensures { λ r. ⌜ refusalOf r ≡ finishRefusal s (now (hold .entry)) ⌝ }
 {
-    if !(reader::is_sound(s) & (65536 <= hold.len())) {
+    if !may_call(s, hold.len()) {
         return Check::Refused(Refusal::BadBuffer);
     }
     let run = s.run;
@@ -74,7 +84,7 @@ pub fn of_finish(s: State, hold: &[u8]) -> Check
 pub fn of_bytes(s: State, hold: &[u8]) -> Check
     ensures { λ r. ⌜ refusalOf r ≡ bytesRefusal s (now (hold .entry)) ⌝ }
 {
-    if reader::is_sound(s) & (65536 <= hold.len()) {
+    if may_call(s, hold.len()) {
         Check::Passed
     } else {
         Check::Refused(Refusal::BadBuffer)

@@ -7,7 +7,8 @@ use native.Mathlib.Nat.{add-zero, zero-add}
 use native.Mathlib.Omega.{arith}
 use lib.ListN.{length, replicate}
 use Rattle.scan.specs.Settle.{Settled, settleBy, settle}
-use Rattle.scan.specs.Scan.{count, countAll, passedOf, raised, marks}
+use Rattle.scan.specs.Passed.{nothingPassed, count, countAll, passedOf}
+use Rattle.scan.specs.Scan.{raised, marks}
 use Rattle.frame.specs.declared.Reason.{Reason}
 use Rattle.frame.specs.declared.Reason.the-variants.{NoSync, LengthNotAllowed, CrcWrong, FewLeft, PastEnd}
 use Rattle.frame.specs.declared.Verdict.{Verdict}
@@ -30,7 +31,7 @@ countAll-skipped a (r ∷ xs) = omega (arith, countAll-skipped (count a r) xs)
 
 -- the skipped count is the length of the list
 pub passedOf-skipped : (xs : List Reason) → passedOf xs .skipped ≡ length xs
-passedOf-skipped xs = countAll-skipped (record { skipped = 0 }) xs ∙ zero-add (length xs)
+passedOf-skipped xs = countAll-skipped nothingPassed xs ∙ zero-add (length xs)
 
 -- places without a sync pair are counted at once
 pub countAll-same : (n : ℕ) (a : Passed) (r : Reason) → countAll a (replicate n r) ≡ record { skipped = a .skipped + n }

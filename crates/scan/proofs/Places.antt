@@ -11,7 +11,8 @@ use lib.Seq.{drop-cons}
 use Rattle.frame.specs.Judge.{judged}
 use Rattle.scan.specs.Settle.{Settled, stopAt, settleBy, settle, lastBy, judgedLast}
 use Rattle.scan.specs.Feed.{size}
-use Rattle.scan.specs.Scan.{count, countAll, behind, raised, marks, partBy, partOf, NoStart}
+use Rattle.scan.specs.Passed.{count, countAll}
+use Rattle.scan.specs.Scan.{behind, raised, marks, partBy, partOf, NoStart}
 use Rattle.frame.specs.declared.Reason.{Reason}
 use Rattle.frame.specs.declared.Reason.the-variants.{NoSync}
 use Rattle.frame.specs.declared.Verdict.{Verdict}

@@ -9,7 +9,8 @@ use lib.ListN.{length, length-append}
 use lib.Seq.{take-all}
 use Rattle.scan.specs.Settle.{Settled, settle}
 use Rattle.scan.specs.Feed.{feedBy, size}
-use Rattle.scan.specs.Scan.{countAll, passedOf, foundOf, behind, marks, partBy, partOf}
+use Rattle.scan.specs.Passed.{nothingPassed, countAll, passedOf, foundOf}
+use Rattle.scan.specs.Scan.{behind, marks, partBy, partOf}
 use Rattle.frame.specs.declared.Reason.{Reason}
 use Rattle.frame.specs.declared.Verdict.{Verdict}
 use Rattle.scan.specs.declared.Passed.{Passed}
@@ -81,7 +82,7 @@ found-by none rs (b ∷ bs) w n t e = let f : w - n ≡ t = omega arith in ap (�
 found-by none rs [] w n t e = let f : w - n ≡ t = omega arith in ap (λ (i : ℕ). record { taken = i; passed = passedOf rs; block = 0 }) f
 
 pub found : (judge : List ℕ → Verdict) → Judging judge → (h piece : List ℕ)
-    → foundOf (feedBy judge h piece (length piece)) ≡ foundBy (partOf (settle judge (h ++ piece)) (record { skipped = 0 }) (length h)) (length h) (length piece)
+    → foundOf (feedBy judge h piece (length piece)) ≡ foundBy (partOf (settle judge (h ++ piece)) nothingPassed (length h)) (length h) (length piece)
 found judge laws h piece =
     let s = settle judge (h ++ piece) in
     ap foundOf

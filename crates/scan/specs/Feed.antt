@@ -8,7 +8,8 @@ use Rattle.scan.specs.Settle.{Settled, settle}
 use Rattle.frame.specs.declared.Reason.{Reason}
 use Rattle.frame.specs.declared.Verdict.{Verdict}
 
--- how many bytes of the piece were taken, why each skipped byte was skipped, the length of the block at the front of the held bytes, and these
+-- how many bytes of the piece were taken, why each skipped byte was skipped, the length of the block at the front of the held
+-- bytes, and these
 pub record Feeding : Type 0 where
   pub taken : ℕ
   pub passed : List Reason
@@ -28,8 +29,8 @@ abbrev pub unlessBlock : Option ℕ → Settled → Feeding → Feeding
 unlessBlock (some n) s next = stop s
 unlessBlock none s next = goOn s next
 
--- "If the held bytes give a block, reports it and takes 0 bytes. Else takes bytes one at a time until a block is decided, the piece
--- is spent or the run has 4,294,967,295 bytes." `room` is how many bytes the run may still take
+-- "If the held bytes give a block, reports it and takes 0 bytes. Else takes bytes one at a time until a block is decided, the
+-- piece is spent or the run has 4,294,967,295 bytes." `room` is how many bytes the run may still take
 unfoldable pub feedBy : (List ℕ → Verdict) → List ℕ → List ℕ → ℕ → Feeding
 feedBy judge held [] room = stop (settle judge held)
 feedBy judge held (b ∷ bs) zero = stop (settle judge held)

@@ -1,4 +1,4 @@
--- What the code says of the bytes passed and of what it found, and working definitions for its scan, which only inner functions cite.
+-- Working definitions: the scan of a part of the run, and the places that it passes at once. Only inner functions cite them.
 -- Assumes nothing.
 use mathlib.Core.Path.{_≡_}
 use Prim.Native.Nat.{ℕ, _+_, _≤_, _<_, max}
@@ -6,30 +6,13 @@ use mathlib.Core.List.{List, [], _∷_, _++_}
 use mathlib.Core.Option.{Option, none, some}
 use lib.ListN.{length, getD}
 use Rattle.scan.specs.Settle.{Settled}
-use Rattle.scan.specs.Feed.{Feeding, size}
+use Rattle.scan.specs.Passed.{countAll}
 use Rattle.frame.specs.declared.Reason.{Reason}
 use Rattle.frame.specs.declared.Reason.the-variants.{NoSync, LengthNotAllowed, CrcWrong, FewLeft, PastEnd}
 use Rattle.frame.specs.declared.Verdict.{Verdict}
 use Rattle.scan.specs.declared.Passed.{Passed}
-use Rattle.scan.specs.declared.Found.{Found}
 use Rattle.scan.specs.declared.Part.{Part}
 use Rattle.scan.specs.declared.Part.the-variants.{Block, Waits, Through}
-
--- ---- the bytes passed, counted
-
--- one more is passed, for a reason
-abbrev pub count : Passed → Reason → Passed
-count a r = record { skipped = a .skipped + 1 }
-
-unfoldable pub countAll : Passed → List Reason → Passed
-countAll a [] = a
-countAll a (r ∷ rs) = countAll (count a r) rs
-
-abbrev pub passedOf : List Reason → Passed
-passedOf rs = countAll (record { skipped = 0 }) rs
-
-abbrev pub foundOf : Feeding → Found
-foundOf f = record { taken = f .taken; passed = passedOf (f .passed); block = size (f .standing) }
 
 -- ---- a part of the run
 
@@ -37,8 +20,8 @@ foundOf f = record { taken = f .taken; passed = passedOf (f .passed); block = si
 abbrev pub behind : (List ℕ → Verdict) → List ℕ → List ℕ → Verdict
 behind judge rest v = judge (v ++ rest)
 
--- how many bytes had to be taken to pass the place p, where m had to be before. Only a wrong CRC raises the mark: a block has at least
--- the eight bytes that another verdict rests on
+-- how many bytes had to be taken to pass the place p, where m had to be before. Only a wrong CRC raises the mark: a block has at
+-- least the eight bytes that another verdict rests on
 abbrev pub raised : Reason → ℕ → ℕ → ℕ
 raised NoSync p m = m
 raised LengthNotAllowed p m = m

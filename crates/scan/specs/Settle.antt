@@ -1,5 +1,5 @@
--- Bytes settled by a judge of places: each place that it finds to be no frame is passed over, with the reason; a block, an undecided
--- place or the end stops it.
+-- Bytes settled by a judge of places: each place that it finds to be no frame is passed over, with the reason; a block, an
+-- undecided place or the end stops it.
 -- Assumes nothing.
 use Prim.Native.Nat.{ℕ}
 use mathlib.Core.List.{List, [], _∷_}
@@ -36,7 +36,8 @@ settle judge (b ∷ bs) = settleBy (judge (b ∷ bs)) (b ∷ bs) (settle judge b
 
 -- ---- the judge of the run's last bytes; while the run is fed it is `judged`
 
--- "When the run is finished, a header whose length passes the end is no frame": then every place is decided. A last byte alone is no sync pair
+-- "When the run is finished, a header whose length passes the end is no frame": then every place is decided. A last byte alone
+-- is no sync pair
 abbrev pub lastBy : Verdict → List ℕ → Verdict
 lastBy (NoFrame r) v = NoFrame r
 lastBy (Frame n) v = Frame n

@@ -7,7 +7,8 @@ ghost use Rattle.frame.specs.Judge.{judged};
 ghost use Rattle.scan.specs.Settle.{settle, judgedLast};
 ghost use Rattle.scan.specs.Feed.{feedLit, stop};
 ghost use Rattle.frame.specs.declared.Reason.the-variants.{NoSync};
-ghost use Rattle.scan.specs.Scan.{NoDollar, NoStart, count, countAll, foundOf, behind, partOf};
+ghost use Rattle.scan.specs.Passed.{nothingPassed, count, countAll, foundOf};
+ghost use Rattle.scan.specs.Scan.{NoDollar, NoStart, behind, partOf};
 use frame::Reason;
 use frame::Verdict;
 
@@ -89,6 +90,12 @@ fn start_from(s: &[u8], i: usize) -> usize
     k
 }
 
+fn nothing_passed() -> Passed
+    ensures { λ r. ⌜ r ≡ nothingPassed ⌝ }
+{
+    Passed { skipped: 0 }
+}
+
 // One more place is passed, for a reason.
 fn count(a: Passed, why: Reason) -> Passed
     requires { ⌜ a .skipped + 1 < 18446744073709551616 ⌝ }
@@ -150,13 +157,14 @@ fn scan_part(s: &[u8], rest: &[u8], before: Passed, mark: usize) -> Part
     Part::Through(passed, m)
 }
 
-// The held bytes and then the piece, up to the first block or the place that is not decided; the promise is by the rule, a byte at a time.
+// The held bytes and then the piece, up to the first block or the place that is not decided; the promise is by the rule, a byte
+// at a time.
 pub fn scan(held: &[u8], piece: &[u8]) -> Found
     ensures { λ r. ⌜ r ≡ foundOf (feedLit (now (held .entry)) (now (piece .entry)) (length (now (piece .entry)))) ⌝ }
 {
     let n = held.len();
     let all = piece.len();
-    match scan_part(held, piece, Passed { skipped: 0 }, n) {
+    match scan_part(held, piece, nothing_passed(), n) {
         Part::Block(passed, len, m) => Found {
             taken: m - n,
             passed: passed,
@@ -206,47 +214,42 @@ fn judge_last(s: &[u8]) -> Verdict
     }
 }
 
+// What the run's last bytes come to: none had to be taken.
+fn ended(passed: Passed, block: usize) -> Found
+    ensures { λ r. ⌜ r ≡ record { taken = 0; passed = passed; block = block } ⌝ }
+{
+    Found {
+        taken: 0,
+        passed,
+        block,
+    }
+}
+
 // The held bytes, which are the run's last, up to the first block.
 pub fn last(held: &[u8]) -> Found
     ensures { λ r. ⌜ r ≡ foundOf (stop (settle judgedLast (now (held .entry)))) ⌝ }
 {
-    let mut passed = Passed { skipped: 0 };
+    let mut passed = nothing_passed();
     while passed.skipped < held.len() {
         let k = passed.skipped;
         let p = start_from(held, k);
         passed = count_no_sync(passed, p - k);
         if p == held.len() {
-            return Found {
-                taken: 0,
-                passed: passed,
-                block: 0,
-            };
+            return ended(passed, 0);
         }
         let v = judge_last(&held[p..]);
         match v {
             Verdict::Frame(n) => {
-                return Found {
-                    taken: 0,
-                    passed: passed,
-                    block: n,
-                };
+                return ended(passed, n);
             }
             Verdict::NoFrame(why) => {
                 passed = count(passed, why);
             }
-            // Every place is decided now.
+            // Never: when the run is finished every place is decided.
             Verdict::Undecided => {
-                return Found {
-                    taken: 0,
-                    passed: passed,
-                    block: 0,
-                };
+                return ended(passed, 0);
             }
         }
     }
-    Found {
-        taken: 0,
-        passed: passed,
-        block: 0,
-    }
+    ended(passed, 0)
 }

@@ -7,7 +7,7 @@ use native.Mathlib.Omega.{arith}
 use lib.ListN.{length, drop}
 use lib.Seq.{length-take-le}
 use Rattle.scan.specs.Feed.{Feeding, feedLit}
-use Rattle.scan.specs.Scan.{foundOf}
+use Rattle.scan.specs.Passed.{foundOf}
 use Rattle.feed.specs.Hold.{restOf}
 use Rattle.feed.proofs.Bounds.{Bytes, take-bytes, drop-bytes, fed-held}
 use Rattle.feed.proofs.Literally.{roomed, rest-length, sum, few, whole, told, kept}

@@ -6,7 +6,7 @@ use native.Mathlib.Omega.{arith}
 use lib.ListN.{length}
 use Rattle.scan.specs.Settle.{settle, judgedLast}
 use Rattle.scan.specs.Feed.{stop}
-use Rattle.scan.specs.Scan.{foundOf}
+use Rattle.scan.specs.Passed.{foundOf}
 use Rattle.feed.specs.Hold.{restOf}
 use Rattle.feed.proofs.Literally.{end-few, end-front, end-told, end-kept}
 use borrow.Author.Needs.{needs}

@@ -15,13 +15,14 @@ use Rattle.reader.specs.State.{limit, sound}
 use Rattle.reader.specs.Said.{Report, took}
 use Rattle.reader.specs.Refusals.{longHold}
 use Rattle.runs.specs.Refusals.{feedRefusal}
-use Rattle.reader.specs.Counting.{runBy, withRun}
+use Rattle.reader.specs.Counting.{withRun}
+use Rattle.reader.specs.Code.{runBy}
 use Rattle.runs.specs.Calls.{reported, reportIf, front, runOn, feedingOf}
 use Rattle.runs.specs.Code.{reportAt}
 use Rattle.reader.specs.declared.Phase.the-variants as phase
 use Rattle.reader.specs.declared.Run.{Run}
 use Rattle.reader.proofs.Laws.{passes, Facts, with-hold}
-use Rattle.runs.proofs.Feeding.{WholeIf, fed-whole, none-if, some-if, whole-some, report-is, Few, fed-few}
+use Rattle.runs.proofs.Feeding.{WholeIf, fed-whole, none-if, some-if, run-on, whole-some, report-is, Few, fed-few}
 use Rattle.reader.proofs.Accepted.{same-outcome}
 use borrow.Author.Needs.{needs}
 use Rattle.runs.proofs.feed_on.Statement.{statement}
@@ -58,13 +59,20 @@ long-left d =
     let F = meaning d in
     omega (arith, ap length (left d) ∙ length-append (meaning d .held) (drop (length (meaning d .held)) (entry d .args .hold .now)), length-drop (length (meaning d .held)) (entry d .args .hold .now))
 
+run-is : (n : tie.After-went-on)
+    → n .went-on .result ≡ runOn phase.Feeding (entry (n .before .before .before) .args .s .run) (meaning (n .before .before .before))
+run-is n =
+    let d = n .before .before .before in
+    n .went-on .ensures
+    ∙ ap (runBy phase.Feeding (entry d .args .s .run)) (numbers d)
+    ∙ run-on phase.Feeding (entry d .args .s .run) (meaning d) (whole d)
+
 state-is : (w : tie.After-with-run)
     → w .with-run .result ≡ withRun (entry (w .before .before .before .before) .args .s) (runOn phase.Feeding (entry (w .before .before .before .before) .args .s .run) (meaning (w .before .before .before .before)))
 state-is w =
     let d = w .before .before .before .before in
     w .with-run .ensures
-    ∙ ap (withRun (entry d .args .s))
-    (w .before .went-on .ensures ∙ ap (runBy phase.Feeding (entry d .args .s .run)) (numbers d))
+    ∙ ap (withRun (entry d .args .s)) (run-is (w .before))
 
 fewer : (d : tie.After-feed) → Few (entry d .args .s .run .held - entry d .args .s .run .standing) (d .feed .result)
 unfolding feedingOf
@@ -132,14 +140,12 @@ returns-2 c =
     let n = d .feed .result .standing in
     let es : meaning d .standing ≡ some (d .feed .result .standing) =
     some-if (meaning d .standing) (d .feed .result .standing) (sym (ap (λ (x : Fed). x .standing) (numbers d))) (c .before .before .before .if1 .left) in
-    let nr : w .before .went-on .result ≡ runOn phase.Feeding (entry d .args .s .run) (meaning d) =
-    w .before .went-on .ensures ∙ ap (runBy phase.Feeding (entry d .args .s .run)) (numbers d) in
     same-outcome
     (ap₂ (λ (t : ℕ) (o : Option Report). took t o) (ap (λ (x : Fed). x .taken) (numbers d))
     (ap some
     (c .block-at .ensures ∙ ap (λ (h : List ℕ). reportAt h (front (w .before .went-on .result)) n) (left d)
     ∙ report-is (meaning d .held) (drop (length (meaning d .held)) (entry d .args .hold .now)) (front (w .before .went-on .result)) n (whole-some (meaning d .standing) (meaning d .held) n (whole d) es)
-    ∙ ap (λ (r : Run). reported (front r) n (meaning d .held)) nr)
+    ∙ ap (λ (r : Run). reported (front r) n (meaning d .held)) (run-is (w .before)))
     ∙ sym (ap (λ (o : Option ℕ). reportIf o (front (runOn phase.Feeding (entry d .args .s .run) (meaning d))) (meaning d .held)) es)))
     (state-is w) (left d)
 

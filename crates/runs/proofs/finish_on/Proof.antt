@@ -1,6 +1,6 @@
 -- `runs::finish_on` meets its contract: from `finish`'s numbers to the run, the report or the end.
 -- Assumes nothing.
-use mathlib.Core.Path.{_≡_, sym, ap, _∙_}
+use mathlib.Core.Path.{_≡_, sym, ap, ap₂, _∙_}
 use mathlib.Core.Bool.{_&&_}
 use mathlib.Core.List.{List}
 use mathlib.Core.Option.{Option, none, some}
@@ -15,14 +15,14 @@ use Rattle.reader.specs.State.{sound}
 use Rattle.reader.specs.Said.{ended, found}
 use Rattle.reader.specs.Refusals.{longHold}
 use Rattle.runs.specs.Refusals.{finishRefusal}
-use Rattle.reader.specs.Counting.{runBy, withRun}
+use Rattle.reader.specs.Counting.{withRun}
+use Rattle.reader.specs.Code.{runBy}
 use Rattle.runs.specs.Calls.{reported, front, finishSaid, phaseAfter, runOn, finishingOf}
-use Rattle.runs.specs.Code.{reportAt}
+use Rattle.runs.specs.Code.{reportAt, phaseBy}
 use Rattle.reader.specs.declared.Phase.{Phase}
-use Rattle.reader.specs.declared.Phase.the-variants as phase
 use Rattle.reader.specs.declared.Run.{Run}
 use Rattle.reader.proofs.Laws.{passes, Facts, with-hold}
-use Rattle.runs.proofs.Feeding.{WholeIf, end-whole, none-if, some-if, whole-some, report-is, Few, end-few}
+use Rattle.runs.proofs.Feeding.{WholeIf, end-whole, none-if, some-if, phase-is, run-on, whole-some, report-is, Few, end-few}
 use Rattle.reader.proofs.Accepted.{same-outcome}
 use borrow.Author.Needs.{needs}
 use Rattle.runs.proofs.finish_on.Statement.{statement}
@@ -64,94 +64,100 @@ fewer d =
     (end-few (restOf (a .hold .now) (a .s .run .held) (a .s .run .standing)) (d .finish .result) (numbers d))
 
 -- the sums fit
-fits : (d : tie.After-finish)
-    → (entry d .args .s .run .counts .taken + d .finish .result .taken ≤ 4294967295) × (entry d .args .s .run .counts .blocks ≤ 4294967295)
-    × (entry d .args .s .run .counts .skipped + d .finish .result .passed .skipped ≤ 18446744073709551615)
-fits d =
+went-on-requires : tie.Need-went-on-requires
+went-on-requires c κs =
+    let d = c .before .before .before in
     let f = room (entry d) in
     let g = d .finish .ensures .1 .1 .taken in
     (omega (arith, g, f .0 .taken), omega (arith, f .0 .blocks, f .0 .taken), omega (arith, fewer d .skipped, f .0 .skipped, f .0 .taken, f .0 .held, g))
 
-run-of : (d : tie.After-finish) (x : Phase) → runBy x (entry d .args .s .run) (d .finish .result) ≡ runOn x (entry d .args .s .run) (meaning d)
-run-of d x = ap (runBy x (entry d .args .s .run)) (numbers d)
+abbrev fed : tie.After-went-on → tie.After-finish
+fed w = w .before .before .before .before
+
+-- the phase that the length tells, and the run
+run-is : (w : tie.After-went-on)
+    → w .went-on .result ≡ runOn (phaseAfter (meaning (fed w) .standing)) (entry (fed w) .args .s .run) (meaning (fed w))
+run-is w =
+    let d = fed w in
+    w .went-on .ensures
+    ∙ ap₂ (λ (x : Phase) (f : Fed). runBy x (entry d .args .s .run) f)
+    (w .before .phase-after .ensures ∙ ap (λ (f : Fed). phaseBy (f .standing)) (numbers d) ∙ phase-is (meaning d .standing) (meaning d .held) (whole d)) (numbers d)
+    ∙ run-on (phaseAfter (meaning d .standing)) (entry d .args .s .run) (meaning d) (whole d)
 
 finish-requires : tie.Need-finish-requires
 finish-requires c κs =
     let f = room (c .before .before .before) in
     (f .0 .front, f .0 .held, omega (arith, f .1))
 
-went-on-requires : tie.Need-went-on-requires
-went-on-requires c κs = fits (c .before .before .before)
+phase-after-requires : tie.Need-phase-after-requires
+phase-after-requires c κs = search needs
 
 with-run-requires : tie.Need-with-run-requires
 with-run-requires c κs = search needs
+
+state-is : (w : tie.After-with-run)
+    → w .with-run .result
+    ≡ withRun (entry (fed (w .before)) .args .s) (runOn (phaseAfter (meaning (fed (w .before)) .standing)) (entry (fed (w .before)) .args .s .run) (meaning (fed (w .before))))
+state-is w = w .with-run .ensures ∙ ap (withRun (entry (fed (w .before)) .args .s)) (run-is (w .before))
 
 same-length : tie.Need-same-length
 same-length c = search needs
 
 returns : tie.Need-returns
 returns c =
-    let d = c .before .before .before .before .before .before in
-    let e : meaning d .standing ≡ none = none-if (meaning d .standing) (meaning d .held) (whole d) (sym (ap (λ (x : Fed). x .standing) (numbers d)) ∙ c .before .before .before .if1 .taken) in
-    let nr : c .before .before .went-on .result ≡ runOn phase.Closed (entry d .args .s .run) (meaning d) = c .before .before .went-on .ensures ∙ run-of d phase.Closed in
+    let w = c .before .before in
+    let d = fed (w .before) in
+    let r = runOn (phaseAfter (meaning d .standing)) (entry d .args .s .run) (meaning d) in
+    let e : meaning d .standing ≡ none = none-if (meaning d .standing) (meaning d .held) (whole d) (sym (ap (λ (x : Fed). x .standing) (numbers d)) ∙ c .before .if1 .taken) in
     same-outcome
-    (ap (λ (x : Run). ended (x .counts)) nr
-    ∙ sym (ap (λ (o : Option ℕ). finishSaid o (runOn (phaseAfter o) (entry d .args .s .run) (meaning d)) (meaning d .held)) e))
-    (c .with-run .ensures ∙ ap (withRun (entry d .args .s)) (nr ∙ sym (ap (λ (o : Option ℕ). runOn (phaseAfter o) (entry d .args .s .run) (meaning d)) e)))
-    (left d)
-
-went-on-requires-2 : tie.Need-went-on-requires-2
-went-on-requires-2 c κs = fits (c .before .before .before)
+    (ap (λ (x : Run). ended (x .counts)) (run-is (w .before)) ∙ sym (ap (λ (o : Option ℕ). finishSaid o r (meaning d .held)) e))
+    (state-is w) (left d)
 
 sub-block-at : tie.Need-sub-block-at
 sub-block-at c =
-    let d = c .before .before .before .before .before .before in
+    let w = c .before .before .before in
+    let d = fed (w .before) in
     let f = room (entry d) in
-    let n = c .before .before .went-on2 .ensures in
+    let n = w .before .went-on .ensures in
     let a = ap (λ (r : Run). r .counts .taken) n in
     let b = ap (λ (r : Run). r .held) n in
     omega (arith, fewer d .held, f .0 .within, f .0 .front, a, b)
 
 block-at-requires : tie.Need-block-at-requires
 block-at-requires c κs =
-    let d = c .before .before .before .before .before .before in
+    let d = fed (c .before .before .before .before) in
     omega (arith, room (entry d) .1, long-left d)
-
-with-run-requires-2 : tie.Need-with-run-requires-2
-with-run-requires-2 c κs = search needs
 
 same-length-2 : tie.Need-same-length-2
 same-length-2 c = search needs
 
 returns-2 : tie.Need-returns-2
 returns-2 c =
-    let d = c .before .before .before .before .before .before .before .before in
-    let g = c .before .before .before .before in
+    let w = c .before .before .before .before in
+    let d = fed (w .before) in
     let n = d .finish .result .standing in
+    let r = runOn (phaseAfter (meaning d .standing)) (entry d .args .s .run) (meaning d) in
     let es : meaning d .standing ≡ some (d .finish .result .standing) =
-    some-if (meaning d .standing) (d .finish .result .standing) (sym (ap (λ (x : Fed). x .standing) (numbers d))) (c .before .before .before .before .before .if1 .left) in
-    let nr : g .went-on2 .result ≡ runOn phase.Finishing (entry d .args .s .run) (meaning d) = g .went-on2 .ensures ∙ run-of d phase.Finishing in
+    some-if (meaning d .standing) (d .finish .result .standing) (sym (ap (λ (x : Fed). x .standing) (numbers d))) (c .before .before .before .if1 .left) in
     same-outcome
     (ap found
-    (c .before .block-at .ensures ∙ ap (λ (h : List ℕ). reportAt h (front (g .went-on2 .result)) n) (left d)
-    ∙ report-is (meaning d .held) (drop (length (meaning d .held)) (entry d .args .hold .now)) (front (g .went-on2 .result)) n (whole-some (meaning d .standing) (meaning d .held) n (whole d) es)
-    ∙ ap (λ (r : Run). reported (front r) n (meaning d .held)) nr)
-    ∙ sym (ap (λ (o : Option ℕ). finishSaid o (runOn (phaseAfter o) (entry d .args .s .run) (meaning d)) (meaning d .held)) es))
-    (c .with-run2 .ensures ∙ ap (withRun (entry d .args .s)) (nr ∙ sym (ap (λ (o : Option ℕ). runOn (phaseAfter o) (entry d .args .s .run) (meaning d)) es)))
-    (left d)
+    (c .block-at .ensures ∙ ap (λ (h : List ℕ). reportAt h (front (w .before .went-on .result)) n) (left d)
+    ∙ report-is (meaning d .held) (drop (length (meaning d .held)) (entry d .args .hold .now)) (front (w .before .went-on .result)) n (whole-some (meaning d .standing) (meaning d .held) n (whole d) es)
+    ∙ ap (λ (x : Run). reported (front x) n (meaning d .held)) (run-is (w .before)))
+    ∙ sym (ap (λ (o : Option ℕ). finishSaid o r (meaning d .held)) es))
+    (state-is w) (left d)
 
 pub finish-on-spec : {M : Type 1} → statement M
 finish-on-spec =
     tie.close
     (tie.spec
     finish-requires
+    phase-after-requires
     went-on-requires
     with-run-requires
     same-length
     returns
-    went-on-requires-2
     sub-block-at
     block-at-requires
-    with-run-requires-2
     same-length-2
     returns-2)

@@ -1,6 +1,6 @@
 -- `scan::last` meets its contract. The invariant: the places behind those passed give, with these, what the whole gives.
 -- Assumes nothing.
-use mathlib.Core.Path.{_≡_, refl, sym, ap, _∙_}
+use mathlib.Core.Path.{_≡_, sym, ap, _∙_}
 use mathlib.Core.List.{List}
 use Prim.Native.Nat.{ℕ, _+_, _≤_, _<_, _-_}
 use native.Mathlib.Omega.{arith}
@@ -8,6 +8,7 @@ use lib.ListN.{length, drop, length-drop}
 use lib.Seq.{take-all}
 use borrow.Author.Needs.{needs}
 use Rattle.scan.specs.Settle.{judgedLast}
+use Rattle.scan.specs.Passed.{nothingPassed}
 use Rattle.scan.specs.declared.Passed.{Passed}
 use Rattle.frame.specs.declared.Reason.the-variants.{NoSync}
 use Rattle.frame.specs.declared.Verdict.{Verdict}
@@ -18,13 +19,18 @@ use Rattle.scan.proofs.last.Statement.{statement}
 use Rattle.scan.proofs.last.Tie as tie
 
 abbrev Inv-loop : tie.InvT-loop
-Inv-loop held passed₀ passed = (passed .skipped ≤ length held) × (fromEnd held (passed .skipped) passed ≡ fromEnd held 0 (record { skipped = 0 }))
+Inv-loop held passed₀ passed = (passed .skipped ≤ length held) × (fromEnd held (passed .skipped) passed ≡ fromEnd held 0 nothingPassed)
 
 abbrev μ-loop : tie.MeasureT-loop
 μ-loop held passed₀ passed = length held - passed .skipped
 
+nothing-passed-requires : tie.Need-nothing-passed-requires Inv-loop μ-loop
+nothing-passed-requires c κs = search needs
+
 loop-holds : tie.Need-loop-holds Inv-loop μ-loop
-loop-holds c = (omega arith, refl)
+loop-holds c =
+    let e = c .nothing-passed .ensures in
+    (omega (arith, ap (λ (x : Passed). x .skipped) e), ap (λ (x : Passed). fromEnd (c .before .before .args .held .now) (x .skipped) x) e)
 
 start-from-requires : tie.Need-start-from-requires Inv-loop μ-loop
 start-from-requires c κs = c .before .before .loop .inv .0
@@ -34,7 +40,7 @@ sub-count-no-sync c = c .start-from .ensures .from
 
 -- the held bytes
 abbrev bytes : tie.After-start-from Inv-loop μ-loop → List ℕ
-bytes f = f .before .before .before .before .before .args .held .now
+bytes f = f .before .before .before .before .before .before .args .held .now
 
 count-no-sync-requires : tie.Need-count-no-sync-requires Inv-loop μ-loop
 count-no-sync-requires c κs = omega (arith, c .start-from .ensures .from, c .start-from .ensures .within)
@@ -51,7 +57,8 @@ placed n =
     ap (λ (x : Passed). x .skipped) (n .count-no-sync .ensures ∙ countAll-same (f .start-from .result - a .skipped) a NoSync) in
     omega (arith, e, f .start-from .ensures .from)
 
-there : (n : tie.After-count-no-sync Inv-loop μ-loop) → fromEnd (bytes (n .before)) (n .before .start-from .result) (past n) ≡ fromEnd (bytes (n .before)) 0 (record { skipped = 0 })
+there : (n : tie.After-count-no-sync Inv-loop μ-loop)
+    → fromEnd (bytes (n .before)) (n .before .start-from .result) (past n) ≡ fromEnd (bytes (n .before)) 0 nothingPassed
 there n =
     let f = n .before in
     let l = f .before .before .before .loop in
@@ -78,10 +85,15 @@ verdict j e =
     ∙ ap judgedLast (take-all (length (run j) - place j) (drop (place j) (run j)) (omega (arith, length-drop (place j) (run j)))))
     ∙ e
 
+ended-requires : tie.Need-ended-requires Inv-loop μ-loop
+ended-requires c κs = search needs
+
 returns : tie.Need-returns Inv-loop μ-loop
 returns c =
-    let n = c .before in
-    sym (end-end (bytes (n .before)) (n .before .start-from .result) (past n) (omega (arith, c .if2 .taken))) ∙ there n
+    let n = c .before .before in
+    c .ended .ensures
+    ∙ sym (end-end (bytes (n .before)) (n .before .start-from .result) (past n) (omega (arith, c .before .if2 .taken)))
+    ∙ there n
 
 sub-judge-last : tie.Need-sub-judge-last Inv-loop μ-loop
 sub-judge-last c = omega (arith, inside c)
@@ -98,10 +110,15 @@ judge-last-requires c κs = search needs
 enum-known-v : tie.Need-enum-known-v Inv-loop μ-loop
 enum-known-v c = search needs
 
+ended-requires-2 : tie.Need-ended-requires-2 Inv-loop μ-loop
+ended-requires-2 c κs = search needs
+
 returns-2 : tie.Need-returns-2 Inv-loop μ-loop
 returns-2 c =
-    let j = c .before .before .before in
-    sym (end-frame (run j) (place j) (past (begin j)) (c .before .v .given .0 .0) (inside (j .before .before)) (verdict j (c .before .v .given .1)))
+    let v = c .before .before in
+    let j = v .before .before in
+    c .ended2 .ensures
+    ∙ sym (end-frame (run j) (place j) (past (begin j)) (v .v .given .0 .0) (inside (j .before .before)) (verdict j (v .v .given .1)))
     ∙ there (begin j)
 
 enum-known-v-2 : tie.Need-enum-known-v-2 Inv-loop μ-loop
@@ -136,14 +153,22 @@ loop-again c =
 enum-told : tie.Need-enum-told Inv-loop μ-loop
 enum-told c = search needs
 
+ended-requires-3 : tie.Need-ended-requires-3 Inv-loop μ-loop
+ended-requires-3 c κs = search needs
+
 returns-3 : tie.Need-returns-3 Inv-loop μ-loop
-returns-3 c = let j = c .before .before in absurd (last-decides (drop (place j) (run j)) (verdict j (c .enum-told .given .1)))
+returns-3 c =
+    let j = c .before .before .before in
+    absurd (last-decides (drop (place j) (run j)) (verdict j (c .before .enum-told .given .1)))
+
+ended-requires-4 : tie.Need-ended-requires-4 Inv-loop μ-loop
+ended-requires-4 c κs = search needs
 
 returns-4 : tie.Need-returns-4 Inv-loop μ-loop
 returns-4 c =
-    let w = c .before .before .before .before .args .held .now in
-    let l = c .before .before .loop in
-    sym (end-end w (l .passed .skipped) (l .passed) (omega arith)) ∙ l .inv .1
+    let w = c .before .before .before .before .before .before .args .held .now in
+    let l = c .before .before .before .loop in
+    c .ended4 .ensures ∙ sym (end-end w (l .passed .skipped) (l .passed) (omega (arith, c .before))) ∙ l .inv .1
 
 pub last-spec : {M : Type 1} → statement M
 last-spec =
@@ -151,21 +176,26 @@ last-spec =
     (tie.spec
     Inv-loop
     μ-loop
+    nothing-passed-requires
     loop-holds
     start-from-requires
     sub-count-no-sync
     count-no-sync-requires
+    ended-requires
     returns
     sub-judge-last
     part-judge-last-start
     part-judge-last-end
     judge-last-requires
     enum-known-v
+    ended-requires-2
     returns-2
     enum-known-v-2
     count-requires
     loop-less
     loop-again
     enum-told
+    ended-requires-3
     returns-3
+    ended-requires-4
     returns-4)

@@ -8,7 +8,9 @@ use lib.ListN.{length}
 use Rattle.frame.specs.Judge.{judged}
 use Rattle.scan.specs.Settle.{settle}
 use Rattle.scan.specs.Feed.{feedLit}
-use Rattle.scan.specs.Scan.{countAll, foundOf, behind, marks}
+use Rattle.scan.specs.Passed.{nothingPassed, countAll, foundOf}
+use Rattle.scan.specs.Scan.{behind, marks, partOf}
+use Rattle.scan.specs.declared.Passed.{Passed}
 use Rattle.scan.specs.declared.Found.{Found}
 use Rattle.scan.specs.declared.Part.{Part}
 use Rattle.scan.proofs.Stable.{judging}
@@ -18,7 +20,7 @@ use Rattle.scan.proofs.scan.Statement.{statement}
 use Rattle.scan.proofs.scan.Tie as tie
 
 abbrev entry : tie.After-scan-part → tie.Start
-entry s = s .before .before .before
+entry s = s .before .before .before .before
 
 -- what the call is to give
 abbrev whole : tie.After-scan-part → Found
@@ -28,20 +30,28 @@ whole s = let a = entry s .args in foundOf (feedLit (a .held .now) (a .piece .no
 abbrev given : tie.After-scan-part → Part → Found
 given s x = let a = entry s .args in foundBy x (length (a .held .now)) (length (a .piece .now))
 
--- what the held bytes give, and then the piece
+-- what the held bytes give, where nothing was passed before
+begun : (s : tie.After-scan-part) {x : Part} → s .scan-part .result ≡ x
+    → partOf (settle (behind judged (entry s .args .piece .now)) (entry s .args .held .now)) nothingPassed (length (entry s .args .held .now)) ≡ x
+begun s e =
+    let a = entry s .args in
+    ap (λ (p : Passed). partOf (settle (behind judged (a .piece .now)) (a .held .now)) p (length (a .held .now))) (sym (s .before .nothing-passed .ensures))
+    ∙ sym (s .scan-part .ensures)
+    ∙ e
+
+-- and then the piece
 first : (s : tie.After-scan-part) {x : Part} → s .scan-part .result ≡ x → whole s ≡ given s (thenPart judged (entry s .args .piece .now) x)
 first s e =
     let a = entry s .args in
     found judged judging (a .held .now) (a .piece .now)
     ∙ ap (given s)
-    (part-then judged (a .piece .now) (a .held .now) (record { skipped = 0 }) (length (a .held .now))
-    ∙ ap (thenPart judged (a .piece .now)) (sym (s .scan-part .ensures) ∙ e))
+    (part-then judged (a .piece .now) (a .held .now) nothingPassed (length (a .held .now)) ∙ ap (thenPart judged (a .piece .now)) (begun s e))
 
 first-kept : (s : tie.After-scan-part) {x : Part} → s .scan-part .result ≡ x → Kept (0 + length (entry s .args .held .now)) (length (entry s .args .held .now)) x
 first-kept s e =
     let a = entry s .args in
-    subst (Kept (0 + length (a .held .now)) (length (a .held .now))) (sym (s .scan-part .ensures) ∙ e)
-    (kept (behind judged (a .piece .now)) (a .held .now) (record { skipped = 0 }) (length (a .held .now)))
+    subst (Kept (0 + length (a .held .now)) (length (a .held .now))) (begun s e)
+    (kept (behind judged (a .piece .now)) (a .held .now) nothingPassed (length (a .held .now)))
 
 abbrev start : tie.After-scan-part2 → tie.After-scan-part
 start t = t .before .before .before .before .before
@@ -60,8 +70,11 @@ second-kept t e =
     let b = t .before .before .before .before2 .given in
     subst (Kept (b .0 .0 .skipped + length p) (b .0 .1 .0)) (sym (t .scan-part2 .ensures) ∙ e) (kept (behind judged []) p (b .0 .0) (b .0 .1 .0))
 
+nothing-passed-requires : tie.Need-nothing-passed-requires
+nothing-passed-requires c κs = search needs
+
 scan-part-requires : tie.Need-scan-part-requires
-scan-part-requires c κs = search needs
+scan-part-requires c κs = omega (arith, ap (λ (p : Passed). p .skipped) (c .nothing-passed .ensures))
 
 enum-known-passed : tie.Need-enum-known-passed
 enum-known-passed c = search needs
@@ -119,6 +132,7 @@ pub scan-spec : {M : Type 1} → statement M
 scan-spec =
     tie.close
     (tie.spec
+    nothing-passed-requires
     scan-part-requires
     enum-known-passed
     sub-t20

@@ -8,7 +8,7 @@ use lib.ListN.{length, drop, length-append, length-drop}
 use lib.Seq.{take-all}
 use borrow.Author.Needs.{needs}
 use Rattle.frame.specs.Judge.{judged}
-use Rattle.scan.specs.Scan.{count}
+use Rattle.scan.specs.Passed.{count}
 use Rattle.frame.specs.declared.Reason.the-variants.{NoSync, CrcWrong}
 use Rattle.frame.specs.declared.Verdict.{Verdict}
 use Rattle.frame.specs.declared.Verdict.the-variants.{NoFrame}

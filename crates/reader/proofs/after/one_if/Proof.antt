@@ -3,12 +3,12 @@
 use mathlib.Core.Path.{_≡_, refl}
 use Prim.Native.Nat.{ℕ, zero, suc}
 use native.Mathlib.Omega.{arith}
-use Rattle.reader.specs.Counting.{one}
+use Rattle.reader.specs.Code.{oneBy}
 use borrow.Author.Needs.{needs}
 use Rattle.reader.proofs.after.one_if.Statement.{statement}
 use Rattle.reader.proofs.after.one_if.Tie as tie
 
-some-one : (n : ℕ) → (n ≡ 0 → ⊥) → 1 ≡ one n
+some-one : (n : ℕ) → (n ≡ 0 → ⊥) → 1 ≡ oneBy n
 some-one zero f = absurd (f refl)
 some-one (suc n) f = refl
 

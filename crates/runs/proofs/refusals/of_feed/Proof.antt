@@ -21,16 +21,11 @@ use borrow.Author.Needs.{needs}
 use Rattle.runs.proofs.refusals.of_feed.Statement.{statement}
 use Rattle.runs.proofs.refusals.of_feed.Tie as tie
 
-is-sound-requires : tie.Need-is-sound-requires
-is-sound-requires c κs = search needs
-
--- the test of refusal 1, as the definition has it
-one : (c : tie.After-is-sound) {b : Bool} → (c .is-sound .result && longHold (c .before .before .before .args .hold .now)) ≡ b
-    → (sound (c .before .before .before .args .s) && longHold (c .before .before .before .args .hold .now)) ≡ b
-one c e = ap (λ (x : Bool). x && longHold (c .before .before .before .args .hold .now)) (sym (c .is-sound .ensures)) ∙ e
+may-call-requires : tie.Need-may-call-requires
+may-call-requires c κs = search needs
 
 long : (c : tie.Else1) → (sound (c .before .before .before .before .args .s) && longHold (c .before .before .before .before .args .hold .now)) ≡ true
-long c = one (c .before) (not-false _ (c .if1 .left))
+long c = sym (c .before .may-call .ensures) ∙ not-false _ (c .if1 .left)
 
 fed : (c : tie.Else2) → isFeeding (c .before .before .before .before .before .before .before .args .s .run .phase) ≡ true
 fed c = sym (c .before .is-feeding .ensures) ∙ not-false _ (c .if2 .left)
@@ -73,7 +68,7 @@ returns : tie.Need-returns
 unfolding feedRefusal
 returns c =
     let a = c .before .before .before .before .args in
-    at-1 (safe (a .s) (a .hold .now)) _ (one (c .before) (not-true _ (c .if1 .taken)))
+    at-1 (safe (a .s) (a .hold .now)) _ (sym (c .before .may-call .ensures) ∙ not-true _ (c .if1 .taken))
 
 is-feeding-requires : tie.Need-is-feeding-requires
 is-feeding-requires c κs = search needs
@@ -120,7 +115,7 @@ pub of-feed-spec : {M : Type 1} → statement M
 of-feed-spec =
     tie.close
     (tie.spec
-    is-sound-requires
+    may-call-requires
     returns
     is-feeding-requires
     returns-2

@@ -1,0 +1,21 @@
+-- Working definitions for the code: what a call did is counted, and the run goes on, by the numbers that `feed` gives. No
+-- contract of a call cites them; that they come to what `counted` says is proved where the calls are.
+-- Assumes nothing.
+use Prim.Native.Nat.{ℕ, zero, suc, _+_}
+use Rattle.feed.specs.declared.Fed.{Fed}
+use Rattle.reader.specs.declared.Phase.{Phase}
+use Rattle.reader.specs.declared.Counts.{Counts}
+use Rattle.reader.specs.declared.Run.{Run}
+
+-- 1 for a block of so many bytes; a block has at least eight bytes, so 0 says none
+abbrev pub oneBy : ℕ → ℕ
+oneBy zero = 0
+oneBy (suc n) = 1
+
+abbrev pub countedBy : Counts → Fed → Counts
+countedBy c f =
+    record { taken = c .taken + f .taken; blocks = c .blocks + oneBy (f .standing); skipped = c .skipped + f .passed .skipped }
+
+-- the run goes on in a phase
+abbrev pub runBy : Phase → Run → Fed → Run
+runBy x r f = record { phase = x; held = f .held; standing = f .standing; counts = countedBy (r .counts) f }
