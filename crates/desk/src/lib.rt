@@ -1,7 +1,7 @@
 // What lies on the desk between two calls: the reader's state, and how much of each buffer the next call is lent; and what a call
 // replies, as values.
-ghost use Prim.Native.Nat.{_+_, _≤_};
 ghost use mathlib.Core.Path.{_≡_};
+ghost use Prim.Native.Nat.{min};
 ghost use lib.ListN.{length};
 ghost use Rattle.io.specs.Counts.{Counts};
 use reader::Phase;
@@ -69,128 +69,68 @@ pub fn after(state: State) -> Desk {
 // How many bytes of a buffer are lent: as many as were asked for, or all.
 pub fn lent(n: usize, buffer: &[u8]) -> usize
     ensures { λ r. ⌜ Counts r (now (buffer .entry)) ⌝ }
+    ensures { λ r. ⌜ r ≡ min n (length (now (buffer .entry))) ⌝ }
 {
     if n < buffer.len() { n } else { buffer.len() }
 }
 
 // `size`: what the next call is lent.
 pub fn sized(b: Desk, buffer: Buffer, n: usize) -> Desk {
-    let state = b.state;
+    let mut next = b;
     match buffer {
-        Buffer::Hold => Desk {
-            state,
-            hold: n,
-            in_force: b.in_force,
-            waiting: b.waiting,
-        },
-        Buffer::InForce => Desk {
-            state,
-            hold: b.hold,
-            in_force: n,
-            waiting: b.waiting,
-        },
-        Buffer::Waiting => Desk {
-            state,
-            hold: b.hold,
-            in_force: b.in_force,
-            waiting: n,
-        },
-        Buffer::Unknown => b,
-    }
-}
-
-fn phase_of(v: usize) -> Phase {
-    if v == 0 {
-        return Phase::Closed;
-    }
-    if v == 1 {
-        return Phase::Feeding;
-    }
-    Phase::Finishing
-}
-
-fn with_phase(r: Run, v: usize) -> Run {
-    let counts = r.counts;
-    Run {
-        phase: phase_of(v),
-        held: r.held,
-        standing: r.standing,
-        counts,
-    }
-}
-
-// A count of the run is set.
-fn with_count(c: reader::Counts, part: Part, v: usize) -> reader::Counts {
-    let mut next = c;
-    match part {
-        Part::Taken => next.taken = v,
-        Part::Blocks => next.blocks = v,
-        Part::Skipped => next.skipped = v,
-        _ => {}
+        Buffer::Hold => next.hold = n,
+        Buffer::InForce => next.in_force = n,
+        Buffer::Waiting => next.waiting = n,
+        Buffer::Unknown => {}
     }
     next
 }
 
-// A number of the run is set.
-fn with_number(r: Run, part: Part, v: usize) -> Run {
-    let phase = r.phase;
+fn phase_of(v: usize) -> Phase {
+    match v {
+        0 => Phase::Closed,
+        1 => Phase::Feeding,
+        _ => Phase::Finishing,
+    }
+}
+
+// A desk whose run is in another phase.
+fn with_phase(b: Desk, phase: Phase) -> Desk {
+    let s = b.state;
+    let r = s.run;
     let counts = r.counts;
-    match part {
-        Part::Held => Run {
-            phase,
-            held: v,
-            standing: r.standing,
-            counts,
-        },
-        Part::Standing => Run {
-            phase,
-            held: r.held,
-            standing: v,
-            counts,
-        },
-        _ => Run {
-            phase,
-            held: r.held,
-            standing: r.standing,
-            counts: with_count(counts, part, v),
-        },
-    }
-}
-
-fn with_run(s: State, run: Run) -> State {
-    State {
-        run,
-        in_force: s.in_force,
-        waiting: s.waiting,
-    }
-}
-
-fn poked_state(s: State, part: Part, v: usize) -> State {
-    let run = s.run;
-    match part {
-        Part::Phase => with_run(s, with_phase(run, v)),
-        Part::InForce => State {
-            run,
-            in_force: v,
+    Desk {
+        state: State {
+            run: Run {
+                phase,
+                held: r.held,
+                standing: r.standing,
+                counts,
+            },
+            in_force: s.in_force,
             waiting: s.waiting,
         },
-        Part::Waiting => State {
-            run,
-            in_force: s.in_force,
-            waiting: v,
-        },
-        _ => with_run(s, with_number(run, part, v)),
+        hold: b.hold,
+        in_force: b.in_force,
+        waiting: b.waiting,
     }
 }
 
 // `poke`: a number of the state is set, whether the reader would or not.
 pub fn poked(b: Desk, part: Part, v: usize) -> Desk {
-    Desk {
-        state: poked_state(b.state, part, v),
-        hold: b.hold,
-        in_force: b.in_force,
-        waiting: b.waiting,
+    let mut next = b;
+    match part {
+        Part::Phase => return with_phase(b, phase_of(v)),
+        Part::InForce => next.state.in_force = v,
+        Part::Waiting => next.state.waiting = v,
+        Part::Held => next.state.run.held = v,
+        Part::Standing => next.state.run.standing = v,
+        Part::Taken => next.state.run.counts.taken = v,
+        Part::Blocks => next.state.run.counts.blocks = v,
+        Part::Skipped => next.state.run.counts.skipped = v,
+        Part::Unknown => {}
     }
+    next
 }
 
 // `put`: bytes go into a buffer; answers whether they end in it.

@@ -60,64 +60,68 @@ fn ran(state: State, reply: RunReply) -> Played
     }
 }
 
-fn asked(state: State, reply: AskReply) -> Played
-    requires { ⌜ T (plainly reply) ⌝ }
+// A call that may write, on what it is lent of each buffer.
+fn run_on(
+    s: State,
+    run: Run,
+    given: &[u8],
+    hold: &mut [u8],
+    force: &mut [u8],
+    waiting: &mut [u8],
+) -> Played
     ensures { λ r. ⌜ T (plain (r .turn)) ⌝ }
 {
-    Played {
-        desk: desk::after(state),
-        turn: Turn::Asked(reply),
+    match run {
+        Run::Open => {
+            let r = tables::open(s, force, waiting);
+            let answer = r.answer;
+            ran(r.state, RunReply::Opened(answer))
+        }
+        Run::Feed => {
+            let r = runs::feed(s, hold, given);
+            let answer = r.answer;
+            ran(r.state, RunReply::Fed(answer))
+        }
+        Run::Finish => {
+            let r = runs::finish(s, hold);
+            let answer = r.answer;
+            ran(r.state, RunReply::Finished(answer))
+        }
+        Run::Stage => {
+            let r = tables::stage(s, waiting, given);
+            let answer = r.answer;
+            ran(r.state, RunReply::Staged(answer))
+        }
+        Run::Withdraw => {
+            let r = tables::withdraw(s);
+            let answer = r.answer;
+            ran(r.state, RunReply::Withdrawn(answer))
+        }
     }
 }
 
-fn open(b: Desk, force: &mut [u8], waiting: &[u8]) -> Played
+// A call that may write.
+fn run_call(
+    b: Desk,
+    run: Run,
+    given: &[u8],
+    hold: &mut [u8],
+    force: &mut [u8],
+    waiting: &mut [u8],
+) -> Played
     ensures { λ r. ⌜ T (plain (r .turn)) ⌝ }
 {
+    let h = desk::lent(b.hold, hold);
     let f = desk::lent(b.in_force, force);
     let w = desk::lent(b.waiting, waiting);
-    let opened = tables::open(b.state, &mut force[..f], &waiting[..w]);
-    let answer = opened.answer;
-    let state = opened.state;
-    ran(state, RunReply::Opened(answer))
-}
-
-fn feed(b: Desk, given: &[u8], hold: &mut [u8]) -> Played
-    ensures { λ r. ⌜ T (plain (r .turn)) ⌝ }
-{
-    let n = desk::lent(b.hold, hold);
-    let fed = runs::feed(b.state, &mut hold[..n], given);
-    let answer = fed.answer;
-    let state = fed.state;
-    ran(state, RunReply::Fed(answer))
-}
-
-fn finish(b: Desk, hold: &mut [u8]) -> Played
-    ensures { λ r. ⌜ T (plain (r .turn)) ⌝ }
-{
-    let n = desk::lent(b.hold, hold);
-    let finished = runs::finish(b.state, &mut hold[..n]);
-    let answer = finished.answer;
-    let state = finished.state;
-    ran(state, RunReply::Finished(answer))
-}
-
-fn stage(b: Desk, given: &[u8], waiting: &mut [u8]) -> Played
-    ensures { λ r. ⌜ T (plain (r .turn)) ⌝ }
-{
-    let w = desk::lent(b.waiting, waiting);
-    let staged = tables::stage(b.state, &mut waiting[..w], given);
-    let answer = staged.answer;
-    let state = staged.state;
-    ran(state, RunReply::Staged(answer))
-}
-
-fn withdraw(b: Desk) -> Played
-    ensures { λ r. ⌜ T (plain (r .turn)) ⌝ }
-{
-    let withdrawn = tables::withdraw(b.state);
-    let answer = withdrawn.answer;
-    let state = withdrawn.state;
-    ran(state, RunReply::Withdrawn(answer))
+    run_on(
+        b.state,
+        run,
+        given,
+        &mut hold[..h],
+        &mut force[..f],
+        &mut waiting[..w],
+    )
 }
 
 // The CRCs of the whole buffers.
@@ -141,129 +145,69 @@ fn handed(bytes: &[u8]) -> Bytes
     }
 }
 
-fn bytes(b: Desk, hold: &[u8]) -> AskReply
+// The block just reported.
+fn bytes(s: State, hold: &[u8]) -> AskReply
     ensures { λ r. ⌜ T (plainly r) ⌝ }
 {
-    let n = desk::lent(b.hold, hold);
-    let lent = &hold[..n];
-    let check = runs::bytes_refused(b.state, lent);
+    let check = runs::bytes_refused(s, hold);
     match check {
         Check::Refused(why) => AskReply::Refused(why),
-        Check::Passed => AskReply::Bytes(handed(runs::bytes(b.state, lent))),
+        Check::Passed => AskReply::Bytes(handed(runs::bytes(s, hold))),
     }
 }
 
-// A field of a record.
-fn field(b: Desk, ask: Ask, given: &[u8], force: &[u8]) -> Answer
-    ensures { λ r. ⌜ T (noNanIn r) ⌝ }
-{
-    let f = desk::lent(b.in_force, force);
-    let lent = &force[..f];
-    match ask {
-        Ask::Body(i) => records::body(b.state, lent, given, i as usize),
-        Ask::Sub(k, j) => records::sub(b.state, lent, given, k as usize, j as usize),
-        Ask::Tow => records::tow(b.state, given),
-        _ => records::wnc(b.state, given),
-    }
-}
-
-fn sub_bytes(b: Desk, k: u64, given: &[u8], force: &[u8]) -> AskReply
+// A sub-block of a record.
+fn sub_bytes(s: State, force: &[u8], block: &[u8], k: usize) -> AskReply
     ensures { λ r. ⌜ T (plainly r) ⌝ }
 {
-    let f = desk::lent(b.in_force, force);
-    let lent = &force[..f];
-    let refused = records::sub_bytes_refused(b.state, lent, given, k as usize);
+    let refused = records::sub_bytes_refused(s, force, block, k);
     match refused {
         Handed::Refused(why) => AskReply::Refused(why),
-        Handed::Given => AskReply::Bytes(handed(records::sub_bytes(
-            b.state,
-            lent,
-            given,
-            k as usize,
-        ))),
+        Handed::Given => AskReply::Bytes(handed(records::sub_bytes(s, force, block, k))),
     }
 }
 
-// A call about a record.
-fn record_call(b: Desk, ask: Ask, given: &[u8], force: &[u8]) -> AskReply
+// A call that is lent nothing to write, on what it is lent of each buffer. `tow` and `wnc` read no buffer.
+fn ask_on(s: State, ask: Ask, given: &[u8], hold: &[u8], force: &[u8]) -> AskReply
     ensures { λ r. ⌜ T (plainly r) ⌝ }
 {
     match ask {
-        Ask::SubBytes(k) => sub_bytes(b, k, given, force),
-        _ => AskReply::Field(field(b, ask, given, force)),
+        Ask::Bytes => bytes(s, hold),
+        Ask::Body(i) => AskReply::Field(records::body(s, force, given, i as usize)),
+        Ask::Sub(k, j) => AskReply::Field(records::sub(s, force, given, k as usize, j as usize)),
+        Ask::SubBytes(k) => sub_bytes(s, force, given, k as usize),
+        Ask::Tow => AskReply::Field(records::tow(s, given)),
+        Ask::Wnc => AskReply::Field(records::wnc(s, given)),
     }
 }
 
-// The buffer that a line reads or writes, so that a line is lent no other: `open` alone reads the waiting one too. Unknown stands
-// for none.
-fn buffer_of(call: Call) -> Buffer {
-    match call {
-        Call::Run(run) => match run {
-            Run::Open => Buffer::InForce,
-            Run::Stage => Buffer::Waiting,
-            Run::Withdraw => Buffer::Unknown,
-            _ => Buffer::Hold,
-        },
-        Call::Ask(ask) => match ask {
-            Ask::Bytes => Buffer::Hold,
-            _ => Buffer::InForce,
-        },
-        Call::Put(buffer, _) => buffer,
-        _ => Buffer::Unknown,
-    }
-}
-
-// `feed`, `finish`, `bytes`, and bytes put into the hold: a bad line, where they would end past it.
-fn on_hold(b: Desk, call: Call, given: &[u8], hold: &mut [u8; 65536]) -> Played
+// A call that is lent nothing to write.
+fn ask_call(b: Desk, ask: Ask, given: &[u8], hold: &[u8], force: &[u8]) -> Played
     ensures { λ r. ⌜ T (plain (r .turn)) ⌝ }
 {
-    match call {
-        Call::Run(run) => match run {
-            Run::Feed => feed(b, given, hold),
-            _ => finish(b, hold),
-        },
-        Call::Put(_, offset) => quiet(b, desk::written(hold, offset as usize, given)),
-        _ => asked(b.state, bytes(b, hold)),
+    let h = desk::lent(b.hold, hold);
+    let f = desk::lent(b.in_force, force);
+    let reply = ask_on(b.state, ask, given, &hold[..h], &force[..f]);
+    Played {
+        desk: desk::after(b.state),
+        turn: Turn::Asked(reply),
     }
 }
 
-// `open`, the calls about records, and bytes put into the table in force.
-fn on_force(
-    b: Desk,
-    call: Call,
-    given: &[u8],
+// `put`: bytes go into a buffer, all of which is there for them; answers whether they end in it.
+fn put(
+    buffer: Buffer,
+    offset: usize,
+    bytes: &[u8],
+    hold: &mut [u8; 65536],
     force: &mut [u8; 8192],
-    waiting: &[u8; 8192],
-) -> Played
-    ensures { λ r. ⌜ T (plain (r .turn)) ⌝ }
-{
-    match call {
-        Call::Ask(ask) => asked(b.state, record_call(b, ask, given, force)),
-        Call::Put(_, offset) => quiet(b, desk::written(force, offset as usize, given)),
-        _ => open(b, force, waiting),
-    }
-}
-
-// `stage`, and bytes put into the waiting table.
-fn on_waiting(b: Desk, call: Call, given: &[u8], waiting: &mut [u8; 8192]) -> Played
-    ensures { λ r. ⌜ T (plain (r .turn)) ⌝ }
-{
-    match call {
-        Call::Put(_, offset) => quiet(b, desk::written(waiting, offset as usize, given)),
-        _ => stage(b, given, waiting),
-    }
-}
-
-// `withdraw`, and the lines that ask the reader nothing.
-fn on_none(b: Desk, call: Call) -> Played
-    ensures { λ r. ⌜ T (plain (r .turn)) ⌝ }
-{
-    match call {
-        Call::Run(_) => withdraw(b),
-        Call::Pass => quiet(b, true),
-        Call::Poke(part, v) => quiet(desk::poked(b, part, v as usize), true),
-        Call::Size(buffer, n) => quiet(desk::sized(b, buffer, n as usize), true),
-        _ => quiet(b, false),
+    waiting: &mut [u8; 8192],
+) -> bool {
+    match buffer {
+        Buffer::Hold => desk::written(hold, offset, bytes),
+        Buffer::InForce => desk::written(force, offset, bytes),
+        Buffer::Waiting => desk::written(waiting, offset, bytes),
+        Buffer::Unknown => false,
     }
 }
 
@@ -278,11 +222,15 @@ pub fn call(
 ) -> Played
     ensures { λ r. ⌜ T (plain (r .turn)) ⌝ }
 {
-    let buffer = buffer_of(call);
-    match buffer {
-        Buffer::Hold => on_hold(b, call, given, hold),
-        Buffer::InForce => on_force(b, call, given, force, waiting),
-        Buffer::Waiting => on_waiting(b, call, given, waiting),
-        Buffer::Unknown => on_none(b, call),
+    match call {
+        Call::Pass => quiet(b, true),
+        Call::Bad => quiet(b, false),
+        Call::Run(run) => run_call(b, run, given, hold, force, waiting),
+        Call::Ask(ask) => ask_call(b, ask, given, hold, force),
+        Call::Poke(part, v) => quiet(desk::poked(b, part, v as usize), true),
+        Call::Put(buffer, offset) => {
+            quiet(b, put(buffer, offset as usize, given, hold, force, waiting))
+        }
+        Call::Size(buffer, n) => quiet(desk::sized(b, buffer, n as usize), true),
     }
 }

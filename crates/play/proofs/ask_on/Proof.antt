@@ -1,0 +1,83 @@
+-- `play::ask_on` meets its contract: no answer of the reader carries a NaN as a float.
+-- Assumes nothing.
+use Rattle.desk.proofs.Floats.{answers-plain}
+use borrow.Author.Needs.{needs}
+use Rattle.play.proofs.ask_on.Statement.{statement}
+use Rattle.play.proofs.ask_on.Tie as tie
+
+enum-told : tie.Need-enum-told
+enum-told c = search needs
+
+bytes-requires : tie.Need-bytes-requires
+bytes-requires c κs = search needs
+
+enum-known-ask : tie.Need-enum-known-ask
+enum-known-ask c = search needs
+
+body-requires : tie.Need-body-requires
+body-requires c κs = search needs
+
+enum-known-ask-2 : tie.Need-enum-known-ask-2
+enum-known-ask-2 c = search needs
+
+sub-requires : tie.Need-sub-requires
+sub-requires c κs = search needs
+
+enum-known-ask-3 : tie.Need-enum-known-ask-3
+enum-known-ask-3 c = search needs
+
+sub-bytes-requires : tie.Need-sub-bytes-requires
+sub-bytes-requires c κs = search needs
+
+enum-told-2 : tie.Need-enum-told-2
+enum-told-2 c = search needs
+
+tow-requires : tie.Need-tow-requires
+tow-requires c κs = search needs
+
+enum-told-3 : tie.Need-enum-told-3
+enum-told-3 c = search needs
+
+wnc-requires : tie.Need-wnc-requires
+wnc-requires c κs = search needs
+
+returns : tie.Need-returns
+returns c = search needs
+
+returns-2 : tie.Need-returns-2
+returns-2 c = answers-plain (c .body .result) _ (c .body .ensures)
+
+returns-3 : tie.Need-returns-3
+returns-3 c = answers-plain (c .sub .result) _ (c .sub .ensures)
+
+returns-4 : tie.Need-returns-4
+returns-4 c = search needs
+
+returns-5 : tie.Need-returns-5
+returns-5 c = answers-plain (c .tow .result) _ (c .tow .ensures)
+
+returns-6 : tie.Need-returns-6
+returns-6 c = answers-plain (c .wnc .result) _ (c .wnc .ensures)
+
+pub ask-on-spec : {M : Type 1} → statement M
+ask-on-spec =
+    tie.close
+    (tie.spec
+    enum-told
+    bytes-requires
+    enum-known-ask
+    body-requires
+    enum-known-ask-2
+    sub-requires
+    enum-known-ask-3
+    sub-bytes-requires
+    enum-told-2
+    tow-requires
+    enum-told-3
+    wnc-requires
+    returns
+    returns-2
+    returns-3
+    returns-4
+    returns-5
+    returns-6)
