@@ -4,6 +4,7 @@ ghost use Rattle.capi.specs.Calls.{bodyC, subC, towC, wncC};
 use cform::CField;
 use cform::CState;
 use cform::Known;
+use refusal::Refusal;
 
 #[no_mangle]
 pub extern "C" fn alderflute_body(s: CState, in_force: &[u8], block: &[u8], i: usize) -> CField
@@ -11,7 +12,7 @@ pub extern "C" fn alderflute_body(s: CState, in_force: &[u8], block: &[u8], i: u
 {
     let k = cform::states::state_of(s);
     match k {
-        Known::Unknown => cform::fields::refused_c(1),
+        Known::Unknown => cform::fields::refused_c(Refusal::BadBuffer),
         Known::State(t) => cform::fields::field_c(records::body(t, in_force, block, i)),
     }
 }
@@ -28,7 +29,7 @@ pub extern "C" fn alderflute_sub(
 {
     let known = cform::states::state_of(s);
     match known {
-        Known::Unknown => cform::fields::refused_c(1),
+        Known::Unknown => cform::fields::refused_c(Refusal::BadBuffer),
         Known::State(t) => cform::fields::field_c(records::sub(t, in_force, block, k, j)),
     }
 }
@@ -39,7 +40,7 @@ pub extern "C" fn alderflute_tow(s: CState, block: &[u8]) -> CField
 {
     let k = cform::states::state_of(s);
     match k {
-        Known::Unknown => cform::fields::refused_c(1),
+        Known::Unknown => cform::fields::refused_c(Refusal::BadBuffer),
         Known::State(t) => cform::fields::field_c(records::tow(t, block)),
     }
 }
@@ -50,7 +51,7 @@ pub extern "C" fn alderflute_wnc(s: CState, block: &[u8]) -> CField
 {
     let k = cform::states::state_of(s);
     match k {
-        Known::Unknown => cform::fields::refused_c(1),
+        Known::Unknown => cform::fields::refused_c(Refusal::BadBuffer),
         Known::State(t) => cform::fields::field_c(records::wnc(t, block)),
     }
 }

@@ -9,6 +9,7 @@ use cform::CState;
 use cform::Known;
 use reader::Check;
 use record::Handed;
+use refusal::Refusal;
 
 #[no_mangle]
 pub extern "C" fn alderflute_bytes(s: CState, hold: &[u8]) -> CPart
@@ -16,11 +17,11 @@ pub extern "C" fn alderflute_bytes(s: CState, hold: &[u8]) -> CPart
 {
     let k = cform::states::state_of(s);
     match k {
-        Known::Unknown => cform::parts::no_part(1),
+        Known::Unknown => cform::parts::no_part(Refusal::BadBuffer),
         Known::State(t) => {
             let c = runs::bytes_refused(t, hold);
             match c {
-                Check::Refused(x) => cform::parts::no_part(refusal::number(x)),
+                Check::Refused(x) => cform::parts::no_part(x),
                 Check::Passed => {
                     let part = runs::bytes(t, hold);
                     CPart {
@@ -48,11 +49,11 @@ pub extern "C" fn alderflute_subbytes(s: CState, in_force: &[u8], block: &[u8], 
 {
     let known = cform::states::state_of(s);
     match known {
-        Known::Unknown => cform::parts::no_part(1),
+        Known::Unknown => cform::parts::no_part(Refusal::BadBuffer),
         Known::State(t) => {
             let h = records::sub_bytes_refused(t, in_force, block, k);
             match h {
-                Handed::Refused(x) => cform::parts::no_part(refusal::number(x)),
+                Handed::Refused(x) => cform::parts::no_part(x),
                 Handed::Given => {
                     let size = sub_length(block);
                     CPart {

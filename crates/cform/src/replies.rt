@@ -11,6 +11,7 @@ use crate::CState;
 use crate::answers;
 use crate::states;
 use reader::State;
+use refusal::Refusal;
 use runs::Fed;
 use runs::FeedAnswer;
 use runs::FinishAnswer;
@@ -28,7 +29,7 @@ pub fn one(s: CState) -> CReply
 {
     CReply {
         state: s,
-        answer: answers::plain(1, 0, 0, 0, 0),
+        answer: answers::refused_by(Refusal::BadBuffer),
     }
 }
 

@@ -1,8 +1,6 @@
 -- `capi::parts::alderflute_bytes` meets its contract: the part that stands, or an empty one.
 -- Assumes nothing.
 use mathlib.Core.Path.{refl, sym, ap, _∙_}
-use Prim.Native.Nat.{ℕ}
-use mathlib.Core.Option.{some}
 use lib.ListN.{length}
 use Rattle.reader.specs.declared.State.{State}
 use Rattle.reader.specs.Said.{refusalOf}
@@ -10,7 +8,6 @@ use Rattle.runs.specs.Refusals.{bytesRefusal}
 use Rattle.runs.specs.Calls.{bytesOf}
 use Rattle.refusal.specs.Numbers.{numberFor}
 use Rattle.cform.specs.State.{knownSays}
-use Rattle.cform.specs.Answer.{partC}
 use Rattle.capi.specs.Calls.{bytesC}
 use Rattle.capi.proofs.Handing.{hands-one, hands-none, hands-it, bytes-none, bytes-cut}
 use borrow.Author.Needs.{needs}
@@ -35,9 +32,6 @@ bytes-refused-requires c κs = search needs
 enum-known-c : tie.Need-enum-known-c
 enum-known-c c = search needs
 
-number-requires : tie.Need-number-requires
-number-requires c κs = search needs
-
 no-part-requires-2 : tie.Need-no-part-requires-2
 no-part-requires-2 c κs = search needs
 
@@ -57,7 +51,7 @@ returns c =
 returns-2 : tie.Need-returns-2
 unfolding bytesC
 returns-2 c =
-    let q = c .before .before .before in
+    let q = c .before .before in
     let b = q .before .before in
     let m = b .before .before in
     let w = m .before .before in
@@ -65,7 +59,7 @@ returns-2 c =
     let t = m .k .given .0 .0 in
     let r = sym (b .bytes-refused .ensures) ∙ ap refusalOf (q .c .given .1) in
     hands-none (λ (t : State). bytesRefusal t (a .hold .now)) 0 (λ (t : State). bytesOf t (a .hold .now)) (a .s) (a .hold .now) (sym (w .state-of .ensures) ∙ ap knownSays (m .k .given .1)) (numberFor (q .c .given .0 .0)) r (bytes-none t (a .hold .now) _ r)
-    (c .no-part2 .ensures ∙ ap (λ (n : ℕ). partC (some n) 0 0) (c .before .number .ensures))
+    (c .no-part2 .ensures)
 
 returns-3 : tie.Need-returns-3
 unfolding bytesC
@@ -90,7 +84,6 @@ alderflute-bytes-spec =
     enum-known-k
     bytes-refused-requires
     enum-known-c
-    number-requires
     no-part-requires-2
     enum-told-2
     bytes-requires

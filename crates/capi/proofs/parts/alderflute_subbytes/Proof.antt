@@ -3,7 +3,7 @@
 use mathlib.Core.Path.{_≡_, sym, ap, _∙_}
 use Prim.Native.Nat.{ℕ, _+_, _*_, _≤_}
 use native.Mathlib.Omega.{arith}
-use mathlib.Core.Option.{none, some}
+use mathlib.Core.Option.{none}
 use lib.ListN.{length}
 use Rattle.reader.specs.declared.State.{State}
 use Rattle.records.specs.Calls.{subBytesOf, subBytesRefusal}
@@ -50,9 +50,6 @@ sub-bytes-refused-requires c κs = search needs
 enum-known-h : tie.Need-enum-known-h
 enum-known-h c = search needs
 
-number-requires : tie.Need-number-requires
-number-requires c κs = search needs
-
 no-part-requires-2 : tie.Need-no-part-requires-2
 no-part-requires-2 c κs = search needs
 
@@ -78,7 +75,7 @@ returns c =
 returns-2 : tie.Need-returns-2
 unfolding subBytesC
 returns-2 c =
-    let q = c .before .before .before in
+    let q = c .before .before in
     let b = q .before .before in
     let m = b .before .before in
     let w = m .before .before in
@@ -87,7 +84,7 @@ returns-2 c =
     let r = sym (b .sub-bytes-refused .ensures) ∙ ap handedSays (q .h .given .1) in
     handing.hands-none (λ (t : State). subBytesRefusal t (a .in-force .now) (a .block .now) (a .k)) (16 + a .k * subLengthIn (a .block .now)) (λ (t : State). subBytesOf t (a .in-force .now) (a .block .now) (a .k)) (a .s) (a .block .now) (sym (w .state-of .ensures) ∙ ap knownSays (m .known .given .1)) (numberFor (q .h .given .0 .0)) r
     (handing.sub-none t (a .in-force .now) (a .block .now) (a .k) _ r)
-    (c .no-part2 .ensures ∙ ap (λ (n : ℕ). partC (some n) 0 0) (c .before .number .ensures))
+    (c .no-part2 .ensures)
 
 returns-3 : tie.Need-returns-3
 unfolding subBytesC
@@ -113,7 +110,6 @@ alderflute-subbytes-spec =
     enum-known-known
     sub-bytes-refused-requires
     enum-known-h
-    number-requires
     no-part-requires-2
     enum-told-2
     sub-length-requires

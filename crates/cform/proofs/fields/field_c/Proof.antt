@@ -1,8 +1,7 @@
 -- `cform::fields::field_c` meets its contract: case by case.
 -- Assumes nothing.
 use mathlib.Core.Path.{sym, ap, _∙_, subst}
-use Prim.Native.Nat.{ℕ}
-use Rattle.record.specs.Answer.{refused, answerSays}
+use Rattle.record.specs.Answer.{answerSays}
 use Rattle.record.specs.declared.Answer.{Answer}
 use Rattle.cform.specs.Answer.{fieldC, NoNanIn}
 use borrow.Author.Needs.{needs}
@@ -18,9 +17,6 @@ value-c-requires c κs = subst NoNanIn (c .before .a .given .1) (c .before .befo
 enum-known-a-2 : tie.Need-enum-known-a-2
 enum-known-a-2 c = search needs
 
-number-requires : tie.Need-number-requires
-number-requires c κs = search needs
-
 refused-c-requires : tie.Need-refused-c-requires
 refused-c-requires c κs = search needs
 
@@ -28,7 +24,7 @@ returns : tie.Need-returns
 returns c = search needs
 
 returns-2 : tie.Need-returns-2
-returns-2 c = c .refused-c .ensures ∙ ap (λ (n : ℕ). fieldC (refused n)) (c .before .number .ensures) ∙ sym (ap (λ (x : Answer). fieldC (answerSays x)) (c .before .before .before .a2 .given .1))
+returns-2 c = c .refused-c .ensures ∙ sym (ap (λ (x : Answer). fieldC (answerSays x)) (c .before .before .a2 .given .1))
 
 pub field-c-spec : {M : Type 1} → statement M
 field-c-spec =
@@ -37,7 +33,6 @@ field-c-spec =
     enum-known-a
     value-c-requires
     enum-known-a-2
-    number-requires
     refused-c-requires
     returns
     returns-2)
