@@ -19,16 +19,16 @@ use Rattle.table.proofs.Bools.{both}
 use Rattle.frame.specs.Frame.{wholeFrame}
 use Rattle.block.specs.Block.{countIn, subLengthIn, revisionIn, numberIn, endsBy, hasSubs, subCount, bodyFits, subsFit, Seen, refusedBy, row, seenRow, seen, seenSubRow, seenSub}
 use Rattle.record.specs.Calls.{subBytes, numberBy, partBy, subBlock, subBlockRefusal}
+use Rattle.reader.specs.State.{sound}
 use Rattle.reader.specs.declared.State.{State}
 use Rattle.runs.specs.Refusals.{bytesRefusal}
 use Rattle.reader.specs.Outcome.{partUnless}
 use Rattle.runs.specs.Calls.{bytesOf}
 use Rattle.records.specs.Calls.{tableInForce, askRefusal, firstOf, subBytesOf, subBytesRefusal}
 use Rattle.reader.proofs.Laws.{passes, with-hold}
-use Rattle.cform.specs.State.{stateOf}
+use Rattle.cform.specs.State.{Reads}
 use Rattle.cform.specs.Answer.{partC}
 use Rattle.capi.specs.Calls.{Handing, handing, hands}
-use Rattle.cform.specs.declared.CState.{CState}
 use Rattle.cform.specs.declared.CPart.{CPart}
 
 same-part : {p q : CPart} {a b : List ℕ} → p ≡ q → a ≡ b → _≡_ {A = Handing} (record { part = p; bytes = a }) (record { part = q; bytes = b })
@@ -38,25 +38,27 @@ same-part {p} {q} {a} {b} e f = ap₂ (λ (x : CPart) (y : List ℕ). record { p
 empty : (buffer : List ℕ) (n : ℕ) {p : CPart} → p ≡ partC (some n) 0 0 → handing p buffer ≡ record { part = partC (some n) 0 0; bytes = [] }
 empty buffer n e = ap (λ (x : CPart). handing x buffer) e
 
-module _ (refusal : State → Option ℕ) (offset : ℕ) (bytes : State → List ℕ) (s : CState) (buffer : List ℕ) where
-  pub hands-one : {p : CPart} → stateOf s ≡ none → p ≡ partC (some 1) 0 0 → handing p buffer ≡ hands refusal offset bytes (stateOf s)
-  hands-one k e = empty buffer 1 e ∙ sym (ap (hands refusal offset bytes) k)
+none-some : {n : ℕ} → _≡_ {A = Option ℕ} none (some n) → ⊥
+none-some e = let z : _≡_ {A = ℕ} 0 1 = cc in omega arith
 
-  module _ {t : State} (k : stateOf s ≡ some t) where
-    pub hands-none : (n : ℕ) {p : CPart} → refusal t ≡ some n → bytes t ≡ [] → p ≡ partC (some n) 0 0 → handing p buffer ≡ hands refusal offset bytes (stateOf s)
-    hands-none n r b e =
-        empty buffer n e
-        ∙ sym (same-part (ap (λ (o : Option ℕ). partC o offset (length (bytes t))) r) b)
-        ∙ sym (ap (hands refusal offset bytes) k)
+module _ (refusal : State → Option ℕ) (offset : ℕ) (bytes : State → List ℕ) (buffer : List ℕ) (refuses : (t : State) → sound t ≡ false → refusal t ≡ some 1) where
+  -- the call was made with t, and is refused with n
+  pub hands-none : (o : Option State) (t : State) (n : ℕ) {p : CPart} → Reads o t → refusal t ≡ some n → bytes t ≡ [] → p ≡ partC (some n) 0 0
+      → handing p buffer ≡ hands refusal offset bytes o
+  hands-none none t n k r b e = empty buffer 1 (e ∙ ap (λ (x : Option ℕ). partC x 0 0) (sym r ∙ refuses t k))
+  hands-none (some u) t n k r b e =
+      empty buffer n e
+      ∙ sym (same-part (ap (λ (x : Option ℕ). partC x offset (length (bytes u))) (ap refusal (sym k) ∙ r)) (ap bytes (sym k) ∙ b))
 
-    pub hands-it : (n : ℕ) {p : CPart} → refusal t ≡ none → p ≡ partC none offset n → n ≡ length (bytes t) → take n (drop offset buffer) ≡ bytes t
-        → handing p buffer ≡ hands refusal offset bytes (stateOf s)
-    hands-it n r e l b =
-        ap (λ (x : CPart). handing x buffer) e
-        ∙ same-part (ap (partC none offset) l ∙ sym (ap (λ (o : Option ℕ). partC o offset (length (bytes t))) r)) b
-        ∙ sym (ap (hands refusal offset bytes) k)
-
--- ---- Bytes
+  pub hands-it : (o : Option State) (t : State) (n : ℕ) {p : CPart} → Reads o t → refusal t ≡ none → p ≡ partC none offset n → n ≡ length (bytes t)
+      → take n (drop offset buffer) ≡ bytes t → handing p buffer ≡ hands refusal offset bytes o
+  hands-it none t n k r e l b = absurd (none-some (sym r ∙ refuses t k))
+  hands-it (some u) t n k r e l b =
+      ap (λ (x : CPart). handing x buffer) e
+      ∙ same-part
+      (ap (partC none offset) (l ∙ ap (λ (v : State). length (bytes v)) k)
+      ∙ sym (ap (λ (x : Option ℕ). partC x offset (length (bytes u))) (ap refusal (sym k) ∙ r)))
+      (b ∙ ap bytes k)
 
 module _ (t : State) (hold : List ℕ) where
   pub bytes-none : (n : ℕ) → bytesRefusal t hold ≡ some n → bytesOf t hold ≡ []

@@ -1,3 +1,4 @@
+pub mod Refusing
 pub mod Going
 pub mod Telling
 pub mod Handing

@@ -3,17 +3,13 @@ ghost use mathlib.Core.Path.{_≡_};
 ghost use Rattle.capi.specs.Calls.{bodyC, subC, towC, wncC};
 use cform::CField;
 use cform::CState;
-use cform::Known;
 
 #[no_mangle]
 pub extern "C" fn alderflute_body(s: CState, in_force: &[u8], block: &[u8], i: usize) -> CField
     ensures { λ r. ⌜ r ≡ bodyC s (now («in_force» .entry)) (now (block .entry)) i ⌝ }
 {
-    let k = cform::states::state_of(s);
-    match k {
-        Known::Unknown => cform::fields::refused_c(1),
-        Known::State(t) => cform::fields::field_c(records::body(t, in_force, block, i)),
-    }
+    let t = cform::states::state_of(s);
+    cform::fields::field_c(records::body(t, in_force, block, i))
 }
 
 #[no_mangle]
@@ -26,31 +22,22 @@ pub extern "C" fn alderflute_sub(
 ) -> CField
     ensures { λ r. ⌜ r ≡ subC s (now («in_force» .entry)) (now (block .entry)) k j ⌝ }
 {
-    let known = cform::states::state_of(s);
-    match known {
-        Known::Unknown => cform::fields::refused_c(1),
-        Known::State(t) => cform::fields::field_c(records::sub(t, in_force, block, k, j)),
-    }
+    let t = cform::states::state_of(s);
+    cform::fields::field_c(records::sub(t, in_force, block, k, j))
 }
 
 #[no_mangle]
 pub extern "C" fn alderflute_tow(s: CState, block: &[u8]) -> CField
     ensures { λ r. ⌜ r ≡ towC s (now (block .entry)) ⌝ }
 {
-    let k = cform::states::state_of(s);
-    match k {
-        Known::Unknown => cform::fields::refused_c(1),
-        Known::State(t) => cform::fields::field_c(records::tow(t, block)),
-    }
+    let t = cform::states::state_of(s);
+    cform::fields::field_c(records::tow(t, block))
 }
 
 #[no_mangle]
 pub extern "C" fn alderflute_wnc(s: CState, block: &[u8]) -> CField
     ensures { λ r. ⌜ r ≡ wncC s (now (block .entry)) ⌝ }
 {
-    let k = cform::states::state_of(s);
-    match k {
-        Known::Unknown => cform::fields::refused_c(1),
-        Known::State(t) => cform::fields::field_c(records::wnc(t, block)),
-    }
+    let t = cform::states::state_of(s);
+    cform::fields::field_c(records::wnc(t, block))
 }

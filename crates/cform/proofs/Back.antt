@@ -25,7 +25,7 @@ use Rattle.cform.specs.State.{phaseNumber, phaseOf, inPhaseIfAny, stateO
 use Rattle.cform.specs.Answer.{answerC, fieldC}
 use Rattle.cform.specs.Theorems.{answerBack, fieldBack, NothingLost}
 use Rattle.cform.specs.declared.CState.{CState}
-use Rattle.cform.proofs.Phases.{unknown-of, closed-of, feeding-of, finishing-of}
+use Rattle.cform.proofs.Phases.{none-over, closed-of, feeding-of, finishing-of}
 
 phase-back : (p : Phase) → phaseOf (phaseNumber p) ≡ some p
 unfolding phaseOf
@@ -36,9 +36,6 @@ phase-back Finishing = refl
 state-back : (t : State) → stateOf (stateC t) ≡ some t
 unfolding stateOf
 state-back t = ap (inPhaseIfAny (stateC t)) (phase-back (t .run .phase))
-
-no-state : (s : CState) → 2 < s .phase → stateOf s ≡ none
-no-state s h = unknown-of s (λ e. omega arith) (λ e. omega arith) (λ e. omega arith)
 
 some-none : {t : State} → _≡_ {A = Option State} (some t) none → ⊥
 some-none e = let z : _≡_ {A = ℕ} 0 1 = cc in omega arith
@@ -85,7 +82,7 @@ pub nothing-lost : NothingLost
 nothing-lost =
     record {
       state = state-back;
-      unknown = no-state;
+      unknown = none-over;
       known = λ s. by-number s (s .phase) refl;
       opened = opened-back;
       fed = fed-back;

@@ -1,4 +1,3 @@
 pub mod Phases
 pub mod Floats
-pub mod Replying
 pub mod Back

@@ -1,17 +1,17 @@
 -- The state as C has it, and the reader's state that it stands for.
 -- Assumes nothing.
 use Prim.Native.Nat.{ℕ}
-use mathlib.Core.Bool.{cond}
+use mathlib.Core.Path.{_≡_}
+use mathlib.Core.Bool.{false, cond}
 use mathlib.Core.Option.{Option, none, some}
 use lib.Dec.{eqb}
 use Rattle.reader.specs.declared.Phase.{Phase}
 use Rattle.reader.specs.declared.Phase.the-variants.{Closed, Feeding, Finishing}
 use Rattle.reader.specs.declared.Counts.{Counts}
 use Rattle.reader.specs.declared.State.{State}
+use Rattle.reader.specs.State.{sound}
 use Rattle.cform.specs.declared.CCounts.{CCounts}
 use Rattle.cform.specs.declared.CState.{CState}
-use Rattle.cform.specs.declared.Known.{Known}
-use Rattle.cform.specs.declared.Known.the-variants as known
 
 -- the phases' numbers: 0 closed, 1 feeding, 2 after the first Finish
 abbrev pub phaseNumber : Phase → ℕ
@@ -58,7 +58,12 @@ stateC t =
       waiting = t .waiting;
     }
 
--- what the code's answer means
-abbrev pub knownSays : Known → Option State
-knownSays (known.State t) = some t
-knownSays known.Unknown = none
+-- what a call is made with: the state that C's stands for; where it stands for none, any that refusal 1 names
+abbrev pub Reads : Option State → State → Type 0
+Reads none t = sound t ≡ false
+Reads (some u) t = t ≡ u
+
+-- what a call gives back: the state that it left; where C's stands for none, C's own
+abbrev pub backC : CState → Option State → State → CState
+backC s none next = s
+backC s (some t) next = stateC next

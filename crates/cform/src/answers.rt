@@ -1,4 +1,4 @@
-// Answers as C has them, by kind.
+// Answers as C has them, by kind. What a kind does not have is 0.
 ghost use mathlib.Core.Path.{_≡_};
 ghost use Rattle.refusal.specs.Numbers.{numberFor};
 ghost use Rattle.reader.specs.Said.{refused, ended, waited};
@@ -7,38 +7,9 @@ ghost use Rattle.cform.specs.Answer.{noBlock, noEnd, blockC, say, answer
 use crate::CAnswer;
 use crate::CBlock;
 use crate::CCounts;
-use crate::states;
 use reader::Counts;
 use refusal::Refusal;
 use runs::Block;
-
-fn no_block() -> CBlock
-    ensures { λ r. ⌜ r ≡ noBlock ⌝ }
-{
-    CBlock {
-        place: 0,
-        length: 0,
-        number: 0,
-        revision: 0,
-    }
-}
-
-fn no_end() -> CCounts
-    ensures { λ r. ⌜ r ≡ noEnd ⌝ }
-{
-    states::counts_c(reader::no_counts())
-}
-
-fn block_c(b: Block) -> CBlock
-    ensures { λ r. ⌜ r ≡ blockC (reportOf b) ⌝ }
-{
-    CBlock {
-        place: b.place,
-        length: b.length,
-        number: b.number,
-        revision: b.revision,
-    }
-}
 
 // An answer that has no block and no counts.
 pub fn plain(refusal: u32, kind: u32, version: u16, waited: u16, taken: usize) -> CAnswer
@@ -50,8 +21,17 @@ pub fn plain(refusal: u32, kind: u32, version: u16, waited: u16, taken: usize) -
         version,
         waited,
         taken,
-        block: no_block(),
-        end: no_end(),
+        block: CBlock {
+            place: 0,
+            length: 0,
+            number: 0,
+            revision: 0,
+        },
+        end: CCounts {
+            taken: 0,
+            blocks: 0,
+            skipped: 0,
+        },
     }
 }
 
@@ -65,8 +45,17 @@ pub fn reported(taken: usize, b: Block) -> CAnswer
         version: 0,
         waited: 0,
         taken,
-        block: block_c(b),
-        end: no_end(),
+        block: CBlock {
+            place: b.place,
+            length: b.length,
+            number: b.number,
+            revision: b.revision,
+        },
+        end: CCounts {
+            taken: 0,
+            blocks: 0,
+            skipped: 0,
+        },
     }
 }
 
@@ -80,8 +69,17 @@ pub fn at_end(c: Counts) -> CAnswer
         version: 0,
         waited: 0,
         taken: 0,
-        block: no_block(),
-        end: states::counts_c(c),
+        block: CBlock {
+            place: 0,
+            length: 0,
+            number: 0,
+            revision: 0,
+        },
+        end: CCounts {
+            taken: c.taken,
+            blocks: c.blocks,
+            skipped: c.skipped,
+        },
     }
 }
 

@@ -3,7 +3,7 @@ ghost use mathlib.Core.Path.{_≡_};
 ghost use mathlib.Core.Bool.{not};
 ghost use lib.Dec.{T};
 ghost use lib.Ieee.{binary32, binary64, isNan, toBits};
-ghost use Rattle.record.specs.Answer.{refused, valueSays, answerSays};
+ghost use Rattle.record.specs.Answer.{valueSays, answerSays};
 ghost use Rattle.cform.specs.Answer.{tell, fieldC, NoNan, NoNanIn};
 use crate::CField;
 use record::Answer;
@@ -58,12 +58,6 @@ fn value_c(v: Value) -> CField
     }
 }
 
-pub fn refused_c(n: u32) -> CField
-    ensures { λ r. ⌜ r ≡ fieldC (refused n) ⌝ }
-{
-    tell_c(n, 0, 0, 0, 0)
-}
-
 // Of an answer that the record reader gave: a float in it is no NaN.
 pub fn field_c(a: Answer) -> CField
     requires { ⌜ NoNanIn a ⌝ }
@@ -71,6 +65,6 @@ pub fn field_c(a: Answer) -> CField
 {
     match a {
         Answer::Field(v) => value_c(v),
-        Answer::Refused(x) => refused_c(refusal::number(x)),
+        Answer::Refused(x) => tell_c(refusal::number(x), 0, 0, 0, 0),
     }
 }

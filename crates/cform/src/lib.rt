@@ -1,7 +1,6 @@
 // C's plain structs by value, numbers for cases, and how the reader's states and answers read as them. include/alderflute.h
 // declares the structs.
 ghost use Rattle.cform.specs.Theorems.{NothingLost};
-use reader::State;
 
 pub mod states; // states.rt: states as C has them
 mod answers; // answers.rt: answers as C has them
@@ -72,12 +71,6 @@ pub struct CPart {
     pub refusal: u32,
     pub offset: usize,
     pub length: usize,
-}
-
-// The state that C's stands for, where its phase is one.
-pub enum Known {
-    State(State),
-    Unknown,
 }
 
 // State, answer and field can be read back from the plain structs.

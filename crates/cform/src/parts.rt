@@ -1,15 +1,17 @@
 // Parts of buffers as C has them.
 ghost use mathlib.Core.Path.{_≡_};
 ghost use mathlib.Core.Option.{some};
+ghost use Rattle.refusal.specs.Numbers.{numberFor};
 ghost use Rattle.cform.specs.Answer.{partC};
 use crate::CPart;
+use refusal::Refusal;
 
 // The empty part of a refused call.
-pub fn no_part(n: u32) -> CPart
-    ensures { λ r. ⌜ r ≡ partC (some n) 0 0 ⌝ }
+pub fn no_part(x: Refusal) -> CPart
+    ensures { λ r. ⌜ r ≡ partC (some (numberFor x)) 0 0 ⌝ }
 {
     CPart {
-        refusal: n,
+        refusal: refusal::number(x),
         offset: 0,
         length: 0,
     }

@@ -1,10 +1,9 @@
-// What a call that goes on with the state leaves and answers, as C has it.
+// What a call that goes on with the state answers, and the reply that it makes with the state, as C has them.
 ghost use mathlib.Core.Path.{_≡_};
-ghost use Rattle.reader.specs.Said.{refused};
 ghost use Rattle.tables.specs.Said.{saidOpened, saidStaged, saidWithdrawn};
 ghost use Rattle.runs.specs.Said.{saidFed, saidFinished};
-ghost use Rattle.cform.specs.State.{stateC};
-ghost use Rattle.cform.specs.Answer.{replyC};
+ghost use Rattle.cform.specs.State.{stateOf, backC};
+ghost use Rattle.cform.specs.Answer.{answerC};
 use crate::CAnswer;
 use crate::CReply;
 use crate::CState;
@@ -12,89 +11,70 @@ use crate::answers;
 use crate::states;
 use reader::State;
 use runs::Fed;
-use runs::FeedAnswer;
-use runs::FinishAnswer;
 use runs::Finished;
-use tables::OpenAnswer;
 use tables::Opened;
-use tables::StageAnswer;
 use tables::Staged;
-use tables::WithdrawAnswer;
 use tables::Withdrawn;
 
-// A phase that is none.
-pub fn one(s: CState) -> CReply
-    ensures { λ r. ⌜ r ≡ replyC (refused 1) s ⌝ }
+pub fn opened(a: Opened) -> CAnswer
+    ensures { λ r. ⌜ r ≡ answerC (saidOpened a) ⌝ }
 {
-    CReply {
-        state: s,
-        answer: answers::plain(1, 0, 0, 0, 0),
+    match a {
+        Opened::Version(v) => answers::plain(0, 1, v, 0, 0),
+        Opened::Refused(x) => answers::refused_by(x),
     }
 }
 
-// The state that a call left, with its answer.
-fn reply(next: State, a: CAnswer) -> CReply
-    ensures { λ r. ⌜ r ≡ record { state = stateC next; answer = a } ⌝ }
+pub fn fed(a: Fed) -> CAnswer
+    ensures { λ r. ⌜ r ≡ answerC (saidFed a) ⌝ }
 {
+    match a {
+        Fed::Block(n, b) => answers::reported(n, b),
+        Fed::More(n) => answers::plain(0, 3, 0, 0, n),
+        Fed::Refused(x) => answers::refused_by(x),
+    }
+}
+
+pub fn finished(a: Finished) -> CAnswer
+    ensures { λ r. ⌜ r ≡ answerC (saidFinished a) ⌝ }
+{
+    match a {
+        Finished::Block(b) => answers::reported(0, b),
+        Finished::End(c) => answers::at_end(c),
+        Finished::Refused(x) => answers::refused_by(x),
+    }
+}
+
+pub fn staged(a: Staged) -> CAnswer
+    ensures { λ r. ⌜ r ≡ answerC (saidStaged a) ⌝ }
+{
+    match a {
+        Staged::Version(v) => answers::plain(0, 1, v, 0, 0),
+        Staged::Refused(x) => answers::refused_by(x),
+    }
+}
+
+pub fn withdrawn(a: Withdrawn) -> CAnswer
+    ensures { λ r. ⌜ r ≡ answerC (saidWithdrawn a) ⌝ }
+{
+    match a {
+        Withdrawn::Waited(w) => answers::whether_waited(w),
+        Withdrawn::Refused(x) => answers::refused_by(x),
+    }
+}
+
+// The answer to a call made with C's state s that left the state `next`. C gets its own state back where its phase is none.
+pub fn reply(s: CState, next: State, a: CAnswer) -> CReply
+    ensures { λ r. ⌜ r ≡ record { state = backC s (stateOf s) next; answer = a } ⌝ }
+{
+    if 2 < s.phase {
+        return CReply {
+            state: s,
+            answer: a,
+        };
+    }
     CReply {
         state: states::state_c(next),
         answer: a,
-    }
-}
-
-pub fn opened(o: OpenAnswer) -> CReply
-    ensures { λ r. ⌜ r ≡ replyC (saidOpened (o .answer)) (stateC (o .state)) ⌝ }
-{
-    let a = o.answer;
-    let next = o.state;
-    match a {
-        Opened::Version(v) => reply(next, answers::plain(0, 1, v, 0, 0)),
-        Opened::Refused(x) => reply(next, answers::refused_by(x)),
-    }
-}
-
-pub fn fed(o: FeedAnswer) -> CReply
-    ensures { λ r. ⌜ r ≡ replyC (saidFed (o .answer)) (stateC (o .state)) ⌝ }
-{
-    let a = o.answer;
-    let next = o.state;
-    match a {
-        Fed::Block(n, b) => reply(next, answers::reported(n, b)),
-        Fed::More(n) => reply(next, answers::plain(0, 3, 0, 0, n)),
-        Fed::Refused(x) => reply(next, answers::refused_by(x)),
-    }
-}
-
-pub fn finished(o: FinishAnswer) -> CReply
-    ensures { λ r. ⌜ r ≡ replyC (saidFinished (o .answer)) (stateC (o .state)) ⌝ }
-{
-    let a = o.answer;
-    let next = o.state;
-    match a {
-        Finished::Block(b) => reply(next, answers::reported(0, b)),
-        Finished::End(c) => reply(next, answers::at_end(c)),
-        Finished::Refused(x) => reply(next, answers::refused_by(x)),
-    }
-}
-
-pub fn staged(o: StageAnswer) -> CReply
-    ensures { λ r. ⌜ r ≡ replyC (saidStaged (o .answer)) (stateC (o .state)) ⌝ }
-{
-    let a = o.answer;
-    let next = o.state;
-    match a {
-        Staged::Version(v) => reply(next, answers::plain(0, 1, v, 0, 0)),
-        Staged::Refused(x) => reply(next, answers::refused_by(x)),
-    }
-}
-
-pub fn withdrawn(o: WithdrawAnswer) -> CReply
-    ensures { λ r. ⌜ r ≡ replyC (saidWithdrawn (o .answer)) (stateC (o .state)) ⌝ }
-{
-    let a = o.answer;
-    let next = o.state;
-    match a {
-        Withdrawn::Waited(w) => reply(next, answers::whether_waited(w)),
-        Withdrawn::Refused(x) => reply(next, answers::refused_by(x)),
     }
 }

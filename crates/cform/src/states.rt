@@ -1,64 +1,61 @@
 // States as C has them, from the reader's and back.
 ghost use mathlib.Core.Path.{_≡_};
-ghost use Rattle.cform.specs.State.{phaseNumber, countsOf, countsC, inPhase, stateOf, stateC, knownSays};
+ghost use Rattle.cform.specs.State.{phaseNumber, inPhase, stateOf, Reads, stateC};
 use crate::CCounts;
 use crate::CState;
-use crate::Known;
 use reader::Counts;
 use reader::Phase;
 use reader::Run;
 use reader::State;
 
-fn counts_of(c: CCounts) -> Counts
-    ensures { λ r. ⌜ r ≡ countsOf c ⌝ }
-{
-    Counts {
-        taken: c.taken,
-        blocks: c.blocks,
-        skipped: c.skipped,
-    }
-}
-
-pub fn counts_c(c: Counts) -> CCounts
-    ensures { λ r. ⌜ r ≡ countsC c ⌝ }
-{
-    CCounts {
-        taken: c.taken,
-        blocks: c.blocks,
-        skipped: c.skipped,
-    }
-}
-
 fn in_phase(s: CState, phase: Phase) -> State
     ensures { λ r. ⌜ r ≡ inPhase s phase ⌝ }
 {
-    let c = s.counts;
     State {
         run: Run {
             phase,
             held: s.held,
             standing: s.standing,
-            counts: counts_of(c),
+            counts: Counts {
+                taken: s.counts.taken,
+                blocks: s.counts.blocks,
+                skipped: s.counts.skipped,
+            },
         },
         in_force: s.in_force,
         waiting: s.waiting,
     }
 }
 
-pub fn state_of(s: CState) -> Known
-    ensures { λ r. ⌜ knownSays r ≡ stateOf s ⌝ }
+// The state to call the reader with. Where the phase is none, one with more held bytes than a hold may have: every call refuses it
+// with 1, so that no call has to ask for the phase.
+pub fn state_of(s: CState) -> State
+    ensures { λ r. ⌜ Reads (stateOf s) r ⌝ }
 {
     let phase = s.phase;
     if phase == 0 {
-        return Known::State(in_phase(s, Phase::Closed));
+        return in_phase(s, Phase::Closed);
     }
     if phase == 1 {
-        return Known::State(in_phase(s, Phase::Feeding));
+        return in_phase(s, Phase::Feeding);
     }
     if phase == 2 {
-        return Known::State(in_phase(s, Phase::Finishing));
+        return in_phase(s, Phase::Finishing);
     }
-    Known::Unknown
+    State {
+        run: Run {
+            phase: Phase::Closed,
+            held: 65533,
+            standing: 0,
+            counts: Counts {
+                taken: 0,
+                blocks: 0,
+                skipped: 0,
+            },
+        },
+        in_force: 0,
+        waiting: 0,
+    }
 }
 
 fn phase_number(p: Phase) -> usize
@@ -76,12 +73,15 @@ pub fn state_c(s: State) -> CState
 {
     let run = s.run;
     let phase = run.phase;
-    let counts = run.counts;
     CState {
         phase: phase_number(phase),
         held: run.held,
         standing: run.standing,
-        counts: counts_c(counts),
+        counts: CCounts {
+            taken: run.counts.taken,
+            blocks: run.counts.blocks,
+            skipped: run.counts.skipped,
+        },
         in_force: s.in_force,
         waiting: s.waiting,
     }

@@ -1,4 +1,5 @@
--- What Open, Stage and Withdraw answer and leave, and their refusals in order (document 01: "Order: Open 1, 2, 5, 4. .. Withdraw 1. Stage 1, 4.").
+-- What Open, Stage and Withdraw answer and leave, and their refusals in order (document 01: "Order: Open 1, 2, 5, 4. .. Withdraw 1.
+-- Stage 1, 4.").
 -- Assumes nothing.
 use Prim.Native.Nat.{ℕ}
 use mathlib.Core.Bool.{_&&_, _||_, cond}
@@ -32,8 +33,8 @@ openRefusal s force wait =
 abbrev pub openRun : Run
 openRun = record { phase = Feeding; held = 0; standing = 0; counts = noCounts }
 
--- "if a table waits, its bytes are copied over the start of the in-force store and nothing waits. Counts become zero, the hold counts as
--- empty. Answers the version in force."
+-- "if a table waits, its bytes are copied over the start of the in-force store and nothing waits. Counts become zero, the hold
+-- counts as empty. Answers the version in force."
 abbrev pub opening : State → List ℕ → List ℕ → Outcome
 opening s force wait =
     record {

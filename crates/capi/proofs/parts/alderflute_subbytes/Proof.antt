@@ -1,48 +1,50 @@
 -- `capi::parts::alderflute_subbytes` meets its contract: the sub-block, or an empty part.
 -- Assumes nothing.
 use mathlib.Core.Path.{_≡_, sym, ap, _∙_}
+use mathlib.Core.Bool.{false}
+use mathlib.Core.Option.{none}
 use Prim.Native.Nat.{ℕ, _+_, _*_, _≤_}
 use native.Mathlib.Omega.{arith}
-use mathlib.Core.Option.{none, some}
 use lib.ListN.{length}
+use Rattle.reader.specs.State.{sound}
 use Rattle.reader.specs.declared.State.{State}
 use Rattle.records.specs.Calls.{subBytesOf, subBytesRefusal}
 use Rattle.record.specs.Answer.{handedSays}
 use Rattle.refusal.specs.Numbers.{numberFor}
 use Rattle.block.specs.Block.{subLengthIn}
 use Rattle.record.proofs.Parts.{lies}
-use Rattle.cform.specs.State.{knownSays}
+use Rattle.cform.specs.State.{stateOf}
 use Rattle.cform.specs.Answer.{partC}
 use Rattle.capi.specs.Calls.{subBytesC}
+use Rattle.capi.proofs.Refusing.{sub-bytes-one}
 use Rattle.capi.proofs.Handing as handing
 use borrow.Author.Needs.{needs}
 use Rattle.capi.proofs.parts.alderflute_subbytes.Statement.{statement}
 use Rattle.capi.proofs.parts.alderflute_subbytes.Tie as tie
 
-abbrev start : tie.After-enum-told2 → tie.Start
-start e = e .before .before .before .before .before .before .before .before .before
+abbrev asked : tie.After-enum-told → tie.After-sub-bytes-refused
+asked e = e .before .before
 
-free : (e : tie.After-enum-told2)
-    → subBytesRefusal (e .before .before .before .before .known .given .0 .0) (start e .args .in-force .now) (start e .args .block .now) (start e .args .k) ≡ none
-free e = sym (e .before .before .sub-bytes-refused .ensures) ∙ ap handedSays (e .enum-told2 .given .1)
+abbrev made : tie.After-enum-told → tie.After-state-of
+made e = asked e .before
 
-inside : (e : tie.After-enum-told2) → 16 + start e .args .k * subLengthIn (start e .args .block .now) + subLengthIn (start e .args .block .now) ≤ length (start e .args .block .now)
-inside e = handing.sub-within (e .before .before .before .before .known .given .0 .0) (start e .args .in-force .now) (start e .args .block .now) (start e .args .k) (free e)
+abbrev start : tie.After-enum-told → tie.Start
+start e = made e .before .before .before
 
-near : (c : tie.After-sub-length) → 16 + start (c .before) .args .k * c .sub-length .result + c .sub-length .result ≤ length (start (c .before) .args .block .now)
-near c = lies (start (c .before) .args .block .now) (start (c .before) .args .k) (c .sub-length .result) (c .sub-length .ensures .0) (inside (c .before))
+free : (e : tie.After-enum-told)
+    → subBytesRefusal (made e .state-of .result) (start e .args .in-force .now) (start e .args .block .now) (start e .args .k) ≡ none
+free e = sym (asked e .sub-bytes-refused .ensures) ∙ ap handedSays (e .enum-told .given .1)
+
+inside : (e : tie.After-enum-told) → 16 + start e .args .k * subLengthIn (start e .args .block .now) + subLengthIn (start e .args .block .now) ≤ length (start e .args .block .now)
+inside e = handing.sub-within (made e .state-of .result) (start e .args .in-force .now) (start e .args .block .now) (start e .args .k) (free e)
+
+near : (c : tie.After-wide) → 16 + start (c .before .before) .args .k * c .wide .result + c .wide .result ≤ length (start (c .before .before) .args .block .now)
+near c =
+    let e = c .before .before in
+    lies (start e .args .block .now) (start e .args .k) (c .wide .result) (c .wide .ensures .0) (inside e)
 
 state-of-requires : tie.Need-state-of-requires
 state-of-requires c κs = search needs
-
-enum-told : tie.Need-enum-told
-enum-told c = search needs
-
-no-part-requires : tie.Need-no-part-requires
-no-part-requires c κs = search needs
-
-enum-known-known : tie.Need-enum-known-known
-enum-known-known c = search needs
 
 sub-bytes-refused-requires : tie.Need-sub-bytes-refused-requires
 sub-bytes-refused-requires c κs = search needs
@@ -50,75 +52,67 @@ sub-bytes-refused-requires c κs = search needs
 enum-known-h : tie.Need-enum-known-h
 enum-known-h c = search needs
 
-number-requires : tie.Need-number-requires
-number-requires c κs = search needs
+no-part-requires : tie.Need-no-part-requires
+no-part-requires c κs = search needs
 
-no-part-requires-2 : tie.Need-no-part-requires-2
-no-part-requires-2 c κs = search needs
+enum-told : tie.Need-enum-told
+enum-told c = search needs
 
-enum-told-2 : tie.Need-enum-told-2
-enum-told-2 c = search needs
+shared-slice-read-wide : tie.Need-shared-slice-read-wide
+shared-slice-read-wide c = let h = inside (c .before) in omega (arith, h)
 
-sub-length-requires : tie.Need-sub-length-requires
-sub-length-requires c κs = let h = inside c in omega (arith, h)
+wide-requires : tie.Need-wide-requires
+wide-requires c κs = search needs
 
-mul-t13 : tie.Need-mul-t13
-mul-t13 c = let h = near c in omega (arith, h)
+mul-offset : tie.Need-mul-offset
+mul-offset c = let h = near c in omega (arith, h)
 
-add-t14 : tie.Need-add-t14
-add-t14 c = let h = near c in omega (arith, h)
+add-offset : tie.Need-add-offset
+add-offset c = let h = near c in omega (arith, h)
 
 returns : tie.Need-returns
 unfolding subBytesC
 returns c =
-    let w = c .before .before .before in
+    let q = c .before .before in
+    let b = q .before .before in
+    let w = b .before in
     let a = w .before .before .before .args in
-    handing.hands-one (λ (t : State). subBytesRefusal t (a .in-force .now) (a .block .now) (a .k)) (16 + a .k * subLengthIn (a .block .now)) (λ (t : State). subBytesOf t (a .in-force .now) (a .block .now) (a .k)) (a .s) (a .block .now) (sym (w .state-of .ensures) ∙ ap knownSays (c .before .enum-told .given .1)) (c .no-part .ensures)
+    let force = a .in-force .now in
+    let block = a .block .now in
+    let t = w .state-of .result in
+    let r = sym (b .sub-bytes-refused .ensures) ∙ ap handedSays (q .h .given .1) in
+    handing.hands-none (λ (t : State). subBytesRefusal t force block (a .k)) (16 + a .k * subLengthIn block) (λ (t : State). subBytesOf t force block (a .k)) block
+    (λ (t : State) (e : sound t ≡ false). sub-bytes-one t e force block (a .k)) (stateOf (a .s)) t (numberFor (q .h .given .0 .0)) (w .state-of .ensures) r
+    (handing.sub-none t force block (a .k) _ r) (c .no-part .ensures)
 
 returns-2 : tie.Need-returns-2
 unfolding subBytesC
 returns-2 c =
-    let q = c .before .before .before in
-    let b = q .before .before in
-    let m = b .before .before in
-    let w = m .before .before in
-    let a = w .before .before .before .args in
-    let t = m .known .given .0 .0 in
-    let r = sym (b .sub-bytes-refused .ensures) ∙ ap handedSays (q .h .given .1) in
-    handing.hands-none (λ (t : State). subBytesRefusal t (a .in-force .now) (a .block .now) (a .k)) (16 + a .k * subLengthIn (a .block .now)) (λ (t : State). subBytesOf t (a .in-force .now) (a .block .now) (a .k)) (a .s) (a .block .now) (sym (w .state-of .ensures) ∙ ap knownSays (m .known .given .1)) (numberFor (q .h .given .0 .0)) r
-    (handing.sub-none t (a .in-force .now) (a .block .now) (a .k) _ r)
-    (c .no-part2 .ensures ∙ ap (λ (n : ℕ). partC (some n) 0 0) (c .before .number .ensures))
-
-returns-3 : tie.Need-returns-3
-unfolding subBytesC
-returns-3 c =
-    let e = c .before in
-    let m = e .before .before .before .before in
-    let w = m .before .before in
-    let a = w .before .before .before .args in
-    let t = m .known .given .0 .0 in
+    let e = c .before .before in
+    let w = made e in
+    let a = start e .args in
+    let force = a .in-force .now in
+    let block = a .block .now in
+    let t = w .state-of .result in
     let r = free e in
-    handing.hands-it (λ (t : State). subBytesRefusal t (a .in-force .now) (a .block .now) (a .k)) (16 + a .k * subLengthIn (a .block .now)) (λ (t : State). subBytesOf t (a .in-force .now) (a .block .now) (a .k)) (a .s) (a .block .now) (sym (w .state-of .ensures) ∙ ap knownSays (m .known .given .1)) (subLengthIn (a .block .now)) r
-    (ap (λ (n : ℕ). partC none (16 + a .k * n) n) (c .sub-length .ensures .0))
-    (handing.sub-length t (a .in-force .now) (a .block .now) (a .k) r)
-    (handing.sub-cut t (a .in-force .now) (a .block .now) (a .k) r)
+    handing.hands-it (λ (t : State). subBytesRefusal t force block (a .k)) (16 + a .k * subLengthIn block) (λ (t : State). subBytesOf t force block (a .k)) block
+    (λ (t : State) (e : sound t ≡ false). sub-bytes-one t e force block (a .k)) (stateOf (a .s)) t (subLengthIn block) (w .state-of .ensures) r
+    (ap (λ (n : ℕ). partC none (16 + a .k * n) n) (c .wide .ensures .0))
+    (handing.sub-length t force block (a .k) r)
+    (handing.sub-cut t force block (a .k) r)
 
 pub alderflute-subbytes-spec : {M : Type 1} → statement M
 alderflute-subbytes-spec =
     tie.close
     (tie.spec
     state-of-requires
-    enum-told
-    no-part-requires
-    enum-known-known
     sub-bytes-refused-requires
     enum-known-h
-    number-requires
-    no-part-requires-2
-    enum-told-2
-    sub-length-requires
-    mul-t13
-    add-t14
+    no-part-requires
+    enum-told
+    shared-slice-read-wide
+    wide-requires
+    mul-offset
+    add-offset
     returns
-    returns-2
-    returns-3)
+    returns-2)

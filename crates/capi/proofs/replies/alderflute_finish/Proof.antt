@@ -1,11 +1,14 @@
 -- `capi::replies::alderflute_finish` meets its contract: the reader's outcome, or refusal 1.
 -- Assumes nothing.
-use mathlib.Core.Path.{sym, ap, _∙_}
+use mathlib.Core.Path.{_≡_}
+use mathlib.Core.Bool.{false}
+use Rattle.reader.specs.State.{sound}
 use Rattle.reader.specs.declared.State.{State}
 use Rattle.runs.specs.Calls.{finishOf}
-use Rattle.cform.specs.State.{knownSays}
+use Rattle.cform.specs.State.{stateOf}
 use Rattle.capi.specs.Calls.{finishC}
-use Rattle.capi.proofs.Going.{goes-on, goes-nowhere}
+use Rattle.capi.proofs.Refusing.{finish-one}
+use Rattle.capi.proofs.Going.{goes-on}
 use borrow.Author.Needs.{needs}
 use Rattle.capi.proofs.replies.alderflute_finish.Statement.{statement}
 use Rattle.capi.proofs.replies.alderflute_finish.Tie as tie
@@ -13,50 +16,25 @@ use Rattle.capi.proofs.replies.alderflute_finish.Tie as tie
 state-of-requires : tie.Need-state-of-requires
 state-of-requires c κs = search needs
 
-enum-told : tie.Need-enum-told
-enum-told c = search needs
-
-one-requires : tie.Need-one-requires
-one-requires c κs = search needs
-
-enum-known-k : tie.Need-enum-known-k
-enum-known-k c = search needs
-
 finish-requires : tie.Need-finish-requires
 finish-requires c κs = search needs
 
 finished-requires : tie.Need-finished-requires
 finished-requires c κs = search needs
 
-returns : tie.Need-returns
-unfolding finishC
-returns c =
-    let w = c .before .before .before in
-    let a = w .before .before .args in
-    goes-nowhere (λ (t : State). finishOf t (a .hold .now)) (a .s) (a .hold .now) (sym (w .state-of .ensures) ∙ ap knownSays (c .before .enum-told .given .1)) (c .one .ensures)
+reply-requires : tie.Need-reply-requires
+reply-requires c κs = search needs
 
 same-length : tie.Need-same-length
 same-length c = search needs
 
-returns-2 : tie.Need-returns-2
+returns : tie.Need-returns
 unfolding finishC
-returns-2 c =
-    let f = c .before .before .before in
-    let m = f .before .before .before in
-    let w = m .before .before in
+returns c =
+    let f = c .before .before .before .before .before in
+    let w = f .before .before in
     let a = w .before .before .args in
-    goes-on (λ (t : State). finishOf t (a .hold .now)) (a .s) (a .hold .now) (sym (w .state-of .ensures) ∙ ap knownSays (m .k .given .1)) (f .finish .ensures) (c .finished .ensures)
+    goes-on (λ (t : State). finishOf t (a .hold .now)) (a .s) (a .hold .now) (λ (t : State) (e : sound t ≡ false). finish-one t e (a .hold .now)) (stateOf (a .s)) (w .state-of .ensures) (f .finish .ensures) (c .before .finished .ensures) (c .reply .ensures)
 
 pub alderflute-finish-spec : {M : Type 1} → statement M
-alderflute-finish-spec =
-    tie.close
-    (tie.spec
-    state-of-requires
-    enum-told
-    one-requires
-    enum-known-k
-    finish-requires
-    finished-requires
-    returns
-    same-length
-    returns-2)
+alderflute-finish-spec = tie.close (tie.spec state-of-requires finish-requires finished-requires reply-requires same-length returns)

@@ -2,9 +2,10 @@
 -- Assumes nothing.
 use mathlib.Core.Path.{sym, ap, _∙_, subst}
 use Prim.Native.Nat.{ℕ}
-use Rattle.record.specs.Answer.{refused, answerSays}
+use lib.IntN.{pos}
+use Rattle.record.specs.Answer.{answerSays}
 use Rattle.record.specs.declared.Answer.{Answer}
-use Rattle.cform.specs.Answer.{fieldC, NoNanIn}
+use Rattle.cform.specs.Answer.{tell, fieldC, NoNanIn}
 use borrow.Author.Needs.{needs}
 use Rattle.cform.proofs.fields.field_c.Statement.{statement}
 use Rattle.cform.proofs.fields.field_c.Tie as tie
@@ -21,14 +22,16 @@ enum-known-a-2 c = search needs
 number-requires : tie.Need-number-requires
 number-requires c κs = search needs
 
-refused-c-requires : tie.Need-refused-c-requires
-refused-c-requires c κs = search needs
+tell-c-requires : tie.Need-tell-c-requires
+tell-c-requires c κs = search needs
 
 returns : tie.Need-returns
 returns c = search needs
 
 returns-2 : tie.Need-returns-2
-returns-2 c = c .refused-c .ensures ∙ ap (λ (n : ℕ). fieldC (refused n)) (c .before .number .ensures) ∙ sym (ap (λ (x : Answer). fieldC (answerSays x)) (c .before .before .before .a2 .given .1))
+returns-2 c =
+    c .tell-c .ensures ∙ ap (λ (n : ℕ). tell n 0 0 (pos 0) 0) (c .before .number .ensures)
+    ∙ sym (ap (λ (x : Answer). fieldC (answerSays x)) (c .before .before .before .a2 .given .1))
 
 pub field-c-spec : {M : Type 1} → statement M
 field-c-spec =
@@ -38,6 +41,6 @@ field-c-spec =
     value-c-requires
     enum-known-a-2
     number-requires
-    refused-c-requires
+    tell-c-requires
     returns
     returns-2)

@@ -1,8 +1,9 @@
 -- `cform::replies::fed` meets its contract: case by case.
 -- Assumes nothing.
-use mathlib.Core.Path.{ap}
+use mathlib.Core.Path.{sym, ap, _∙_}
+use Rattle.runs.specs.declared.Fed.{Fed}
 use Rattle.runs.specs.Said.{saidFed}
-use Rattle.cform.proofs.Replying.{replied}
+use Rattle.cform.specs.Answer.{answerC}
 use borrow.Author.Needs.{needs}
 use Rattle.cform.proofs.replies.fed.Statement.{statement}
 use Rattle.cform.proofs.replies.fed.Tie as tie
@@ -13,17 +14,11 @@ enum-known-a c = search needs
 reported-requires : tie.Need-reported-requires
 reported-requires c κs = search needs
 
-reply-requires : tie.Need-reply-requires
-reply-requires c κs = search needs
-
 enum-known-a-2 : tie.Need-enum-known-a-2
 enum-known-a-2 c = search needs
 
 plain-requires : tie.Need-plain-requires
 plain-requires c κs = search needs
-
-reply-requires-2 : tie.Need-reply-requires-2
-reply-requires-2 c κs = search needs
 
 enum-known-a-3 : tie.Need-enum-known-a-3
 enum-known-a-3 c = search needs
@@ -31,17 +26,14 @@ enum-known-a-3 c = search needs
 refused-by-requires : tie.Need-refused-by-requires
 refused-by-requires c κs = search needs
 
-reply-requires-3 : tie.Need-reply-requires-3
-reply-requires-3 c κs = search needs
-
 returns : tie.Need-returns
-returns c = replied (ap saidFed (c .before .before .before .a .given .1)) (c .before .reported .ensures) (c .reply .ensures)
+returns c = c .reported .ensures ∙ sym (ap (λ (x : Fed). answerC (saidFed x)) (c .before .before .a .given .1))
 
 returns-2 : tie.Need-returns-2
-returns-2 c = replied (ap saidFed (c .before .before .before .a2 .given .1)) (c .before .plain .ensures) (c .reply2 .ensures)
+returns-2 c = c .plain .ensures ∙ sym (ap (λ (x : Fed). answerC (saidFed x)) (c .before .before .a2 .given .1))
 
 returns-3 : tie.Need-returns-3
-returns-3 c = replied (ap saidFed (c .before .before .before .a3 .given .1)) (c .before .refused-by .ensures) (c .reply3 .ensures)
+returns-3 c = c .refused-by .ensures ∙ sym (ap (λ (x : Fed). answerC (saidFed x)) (c .before .before .a3 .given .1))
 
 pub fed-spec : {M : Type 1} → statement M
 fed-spec =
@@ -49,13 +41,10 @@ fed-spec =
     (tie.spec
     enum-known-a
     reported-requires
-    reply-requires
     enum-known-a-2
     plain-requires
-    reply-requires-2
     enum-known-a-3
     refused-by-requires
-    reply-requires-3
     returns
     returns-2
     returns-3)

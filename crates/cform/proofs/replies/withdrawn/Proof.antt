@@ -1,8 +1,9 @@
 -- `cform::replies::withdrawn` meets its contract: case by case.
 -- Assumes nothing.
-use mathlib.Core.Path.{ap}
+use mathlib.Core.Path.{sym, ap, _∙_}
+use Rattle.tables.specs.declared.Withdrawn.{Withdrawn}
 use Rattle.tables.specs.Said.{saidWithdrawn}
-use Rattle.cform.proofs.Replying.{replied}
+use Rattle.cform.specs.Answer.{answerC}
 use borrow.Author.Needs.{needs}
 use Rattle.cform.proofs.replies.withdrawn.Statement.{statement}
 use Rattle.cform.proofs.replies.withdrawn.Tie as tie
@@ -13,23 +14,17 @@ enum-known-a c = search needs
 whether-waited-requires : tie.Need-whether-waited-requires
 whether-waited-requires c κs = search needs
 
-reply-requires : tie.Need-reply-requires
-reply-requires c κs = search needs
-
 enum-known-a-2 : tie.Need-enum-known-a-2
 enum-known-a-2 c = search needs
 
 refused-by-requires : tie.Need-refused-by-requires
 refused-by-requires c κs = search needs
 
-reply-requires-2 : tie.Need-reply-requires-2
-reply-requires-2 c κs = search needs
-
 returns : tie.Need-returns
-returns c = replied (ap saidWithdrawn (c .before .before .before .a .given .1)) (c .before .whether-waited .ensures) (c .reply .ensures)
+returns c = c .whether-waited .ensures ∙ sym (ap (λ (x : Withdrawn). answerC (saidWithdrawn x)) (c .before .before .a .given .1))
 
 returns-2 : tie.Need-returns-2
-returns-2 c = replied (ap saidWithdrawn (c .before .before .before .a2 .given .1)) (c .before .refused-by .ensures) (c .reply2 .ensures)
+returns-2 c = c .refused-by .ensures ∙ sym (ap (λ (x : Withdrawn). answerC (saidWithdrawn x)) (c .before .before .a2 .given .1))
 
 pub withdrawn-spec : {M : Type 1} → statement M
 withdrawn-spec =
@@ -37,9 +32,7 @@ withdrawn-spec =
     (tie.spec
     enum-known-a
     whether-waited-requires
-    reply-requires
     enum-known-a-2
     refused-by-requires
-    reply-requires-2
     returns
     returns-2)

@@ -7,11 +7,8 @@ use Rattle.cform.proofs.states.state_c.Tie as tie
 phase-number-requires : tie.Need-phase-number-requires
 phase-number-requires c κs = search needs
 
-counts-c-requires : tie.Need-counts-c-requires
-counts-c-requires c κs = search needs
-
 returns : tie.Need-returns
-returns c = rw (c .before .phase-number .ensures, c .counts-c .ensures)
+returns c = rw (c .phase-number .ensures)
 
 pub state-c-spec : {M : Type 1} → statement M
-state-c-spec = tie.close (tie.spec phase-number-requires counts-c-requires returns)
+state-c-spec = tie.close (tie.spec phase-number-requires returns)

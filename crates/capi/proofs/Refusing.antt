@@ -1,0 +1,65 @@
+-- A state that refusal 1 names: each call refuses it with 1, leaves it as it is and stores nothing.
+-- Assumes nothing.
+use mathlib.Core.Path.{_≡_}
+use mathlib.Core.Bool.{false}
+use mathlib.Core.List.{List, []}
+use mathlib.Core.Option.{some}
+use Prim.Native.Nat.{ℕ}
+use Rattle.record.specs.Answer as field
+use Rattle.reader.specs.declared.State.{State}
+use Rattle.reader.specs.State.{sound}
+use Rattle.reader.specs.Said.{refused}
+use Rattle.reader.specs.Outcome.{outcome}
+use Rattle.tables.specs.Calls.{openRefusal, openOf, stageRefusal, stageOf, withdrawRefusal, withdrawOf}
+use Rattle.runs.specs.Refusals.{feedRefusal, finishRefusal, bytesRefusal}
+use Rattle.runs.specs.Calls.{feedOf, finishOf}
+use Rattle.records.specs.Calls.{askRefusal, bodyOf, subOf, subBytesRefusal, stampOf, towOf, wncOf}
+
+module _ (t : State) (e : sound t ≡ false) where
+  pub open-one : (force wait : List ℕ) → openOf t force wait ≡ outcome (refused 1) t force
+  unfolding openOf openRefusal
+  open-one force wait = rw e
+
+  pub stage-one : (wait table : List ℕ) → stageOf t wait table ≡ outcome (refused 1) t wait
+  unfolding stageOf stageRefusal
+  stage-one wait table = rw e
+
+  pub withdraw-one : withdrawOf t ≡ outcome (refused 1) t []
+  unfolding withdrawOf withdrawRefusal
+  withdraw-one = rw e
+
+  pub feed-one : (hold piece : List ℕ) → feedOf t hold piece ≡ outcome (refused 1) t hold
+  unfolding feedOf feedRefusal
+  feed-one hold piece = rw e
+
+  pub finish-one : (hold : List ℕ) → finishOf t hold ≡ outcome (refused 1) t hold
+  unfolding finishOf finishRefusal
+  finish-one hold = rw e
+
+  pub bytes-one : (hold : List ℕ) → bytesRefusal t hold ≡ some 1
+  unfolding bytesRefusal
+  bytes-one hold = rw e
+
+  ask-one : (force : List ℕ) → askRefusal t force ≡ some 1
+  unfolding askRefusal
+  ask-one force = rw e
+
+  pub body-one : (force block : List ℕ) (i : ℕ) → bodyOf t force block i ≡ field.refused 1
+  unfolding bodyOf
+  body-one force block i = rw (ask-one force)
+
+  pub sub-one : (force block : List ℕ) (k j : ℕ) → subOf t force block k j ≡ field.refused 1
+  unfolding subOf
+  sub-one force block k j = rw (ask-one force)
+
+  pub sub-bytes-one : (force block : List ℕ) (k : ℕ) → subBytesRefusal t force block k ≡ some 1
+  unfolding subBytesRefusal
+  sub-bytes-one force block k = rw (ask-one force)
+
+  pub tow-one : (block : List ℕ) → towOf t block ≡ field.refused 1
+  unfolding stampOf
+  tow-one block = rw e
+
+  pub wnc-one : (block : List ℕ) → wncOf t block ≡ field.refused 1
+  unfolding stampOf
+  wnc-one block = rw e
