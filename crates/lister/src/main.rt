@@ -66,7 +66,7 @@ fn offer(state: State, hold: &mut [u8; 65536], piece: &[u8]) -> Called
             taken: 0,
             lists: false,
             line: Line::Nothing,
-            course: Course::Stopped,
+            course: Course::Stopped, // the run is full
             done: true,
         },
     }
@@ -219,11 +219,12 @@ fn read_all(state: State, hold: &mut [u8; 65536], out: &mut [u8; 8192]) -> Listi
     now
 }
 
-// How many calls of Finish the run may have: none where reading or writing failed.
+// How many calls of Finish the run may have: none where reading or writing failed. That a run is full is told here.
 fn closings(course: Course) -> u64 {
     match course {
         Course::ReadFailed | Course::WriteFailed => 0,
         Course::Stopped => {
+            // the run is full
             console::tell(b"lister: the run is full at 4294967295 bytes\n");
             0xffff_ffff_ffff_ffff
         }

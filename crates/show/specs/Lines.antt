@@ -32,7 +32,7 @@ wordWithdrawn = 119 ∷ 105 ∷ 116 ∷ 104 ∷ 100 ∷ 114 ∷ 97 ∷ 119 ∷ 1
 abbrev pub wordFed : List ℕ
 wordFed = 102 ∷ 101 ∷ 100 ∷ []
 
--- `more`
+-- `more`, a space before it
 abbrev pub wordMore : List ℕ
 wordMore = 32 ∷ 109 ∷ 111 ∷ 114 ∷ 101 ∷ []
 
@@ -69,7 +69,7 @@ runText (run.Finished a) = saidText wordFed (saidFinished a)
 runText (run.Staged a) = saidText wordStaged (saidStaged a)
 runText (run.Withdrawn a) = saidText wordStaged (saidWithdrawn a)
 
--- the same, told apart by what is said and not by the call
+-- the same, told apart by what is said and not by the call: a working definition, cited by inner functions alone
 abbrev pub textOf : Says → List ℕ
 textOf (says.Opened v) = saidText wordOpened (version v)
 textOf (says.Staged v) = saidText wordStaged (version v)
