@@ -76,7 +76,7 @@ pub struct Room {
 // Makes room for a line: writes out what waits where less than that is left.
 pub fn make_room(out: &[u8; 8192], filled: usize, line: usize) -> Room
     requires { ⌜ (filled ≤ 8192) × (line ≤ 8192) ⌝ }
-    ensures { λ r. ⌜ r .filled + line ≤ 8192 ⌝ }
+    ensures { λ r. ⌜ (r .filled ≤ filled) × (r .filled + line ≤ 8192) ⌝ }
 {
     if filled <= 8192 - line {
         return Room {

@@ -137,7 +137,7 @@ pub fn left(turns: u64, more: bool) -> u64
 // A line begins where the last one ended.
 pub fn next_line(r: Reading, buf: &mut [u8; 65536], line: &mut [u8; 270000]) -> Reading
     requires { ⌜ (r .at ≤ r .count) × (r .count ≤ 65536) ⌝ }
-    ensures { λ s. ⌜ (s .at ≤ s .count) × (s .count ≤ 65536) ⌝ }
+    ensures { λ s. ⌜ (s .at ≤ s .count) × (s .count ≤ 65536) × (s .length ≤ 270001) ⌝ }
 {
     let course = r.course;
     let mut now = Reading {
