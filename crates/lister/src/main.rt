@@ -107,7 +107,7 @@ fn close(state: State, hold: &mut [u8; 65536]) -> Called {
 
 fn put_line(out: &mut [u8; 8192], at: usize, line: Line) -> usize
     requires { ⌜ at + 90 ≤ 8192 ⌝ }
-    ensures { λ r. ⌜ r ≤ 8192 ⌝ }
+    ensures { λ r. ⌜ r ≤ at + 90 ⌝ }
 {
     match line {
         Line::Nothing => at,
@@ -119,7 +119,7 @@ fn put_line(out: &mut [u8; 8192], at: usize, line: Line) -> usize
 // Lists the line of a call, where it has one. Nothing is read on where writing failed.
 fn list_line(called: Called, out: &mut [u8; 8192], filled: usize) -> Listing
     requires { ⌜ filled ≤ 8192 ⌝ }
-    ensures { λ r. ⌜ r .filled ≤ 8192 ⌝ }
+    ensures { λ r. ⌜ (r .filled ≤ filled + 90) × (r .filled ≤ 8192) ⌝ }
 {
     let state = called.state;
     let course = called.course;
