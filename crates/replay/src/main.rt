@@ -178,12 +178,12 @@ fn play_all(
 {
     let mut now = so_far(desk::after(reader::new()), 0, 0, Course::GoesOn);
     let mut reading = lines::start();
-    let mut turns: u64 = lines::TURNS;
+    let mut turns: u64 = console::TURNS;
     while turns > 0 {
         reading = lines::next_line(reading, buf, line);
         now = begin_line(now, reading, out);
         now = play_line(now, reading.length, line, given, hold, force, waiting, out);
-        turns = lines::left(turns, now.playing);
+        turns = console::left(turns, now.playing);
     }
     now
 }
