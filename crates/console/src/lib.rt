@@ -1,5 +1,5 @@
 // The three standard streams, as both programs use them: input in pieces, output from a buffer, and errors told.
-ghost use Prim.Native.Nat.{_+_, _≤_};
+ghost use Prim.Native.Nat.{_+_, _≤_, _<_};
 ghost use lib.ListN.{length};
 ghost use Rattle.io.specs.Counts.{Counts};
 
@@ -23,6 +23,17 @@ pub fn goes_on(c: Course) -> bool {
         Course::GoesOn => true,
         _ => false,
     }
+}
+
+// A proved loop has to end, and nothing says that the input does: it counts its turns down, and has none left where it does not
+// go on.
+pub const TURNS: u64 = 0xffff_ffff_ffff_ffff;
+
+pub fn left(turns: u64, more: bool) -> u64
+    requires { ⌜ 0 < turns ⌝ }
+    ensures { λ r. ⌜ r < turns ⌝ }
+{
+    if more { turns - 1 } else { 0 }
 }
 
 // How many bytes were read, and whether to go on.
@@ -76,7 +87,7 @@ pub struct Room {
 // Makes room for a line: writes out what waits where less than that is left.
 pub fn make_room(out: &[u8; 8192], filled: usize, line: usize) -> Room
     requires { ⌜ (filled ≤ 8192) × (line ≤ 8192) ⌝ }
-    ensures { λ r. ⌜ r .filled + line ≤ 8192 ⌝ }
+    ensures { λ r. ⌜ (r .filled ≤ filled) × (r .filled + line ≤ 8192) ⌝ }
 {
     if filled <= 8192 - line {
         return Room {

@@ -123,21 +123,10 @@ fn goes_on(r: Reading) -> bool {
     crate::goes_on(course)
 }
 
-// A proved loop has to end, and nothing says that the input does: it counts its turns down, and has none left where it does not
-// go on.
-pub const TURNS: u64 = 0xffff_ffff_ffff_ffff;
-
-pub fn left(turns: u64, more: bool) -> u64
-    requires { ⌜ 0 < turns ⌝ }
-    ensures { λ r. ⌜ r < turns ⌝ }
-{
-    if more { turns - 1 } else { 0 }
-}
-
 // A line begins where the last one ended.
 pub fn next_line(r: Reading, buf: &mut [u8; 65536], line: &mut [u8; 270000]) -> Reading
     requires { ⌜ (r .at ≤ r .count) × (r .count ≤ 65536) ⌝ }
-    ensures { λ s. ⌜ (s .at ≤ s .count) × (s .count ≤ 65536) ⌝ }
+    ensures { λ s. ⌜ (s .at ≤ s .count) × (s .count ≤ 65536) × (s .length ≤ 270001) ⌝ }
 {
     let course = r.course;
     let mut now = Reading {
@@ -147,10 +136,10 @@ pub fn next_line(r: Reading, buf: &mut [u8; 65536], line: &mut [u8; 270000]) -> 
         found: false,
         course,
     };
-    let mut turns: u64 = left(TURNS, goes_on(now));
+    let mut turns: u64 = crate::left(crate::TURNS, goes_on(now));
     while turns > 0 {
         now = read_on(now, buf, line);
-        turns = left(turns, goes_on(now));
+        turns = crate::left(turns, goes_on(now));
     }
     now
 }

@@ -11,12 +11,12 @@ use runs::Finished;
 use tables::Opened;
 
 // Between two calls: the reader's state, how many bytes of the output buffer wait to be written, whether to go on, and
-// whether the piece or the run is done with.
+// whether the piece or the run has more to give.
 pub struct Listing {
     pub state: State,
     pub filled: usize,
     pub course: Course,
-    pub done: bool,
+    pub more: bool,
 }
 
 // The line that a call of the reader asks for.
@@ -33,10 +33,10 @@ pub struct Called {
     pub lists: bool,
     pub line: Line,
     pub course: Course,
-    pub done: bool,
+    pub more: bool,
 }
 
-// Offers a piece once. It is done with when all of it is taken and gives no more blocks. In a run that is open and fed by
+// Offers a piece once. It has no more to give when all of it is taken and gives no block. In a run that is open and fed by
 // this program the one refusal left is a full run's.
 fn offer(state: State, hold: &mut [u8; 65536], piece: &[u8]) -> Called
     ensures { λ r. ⌜ r .taken ≤ length (now (piece .entry)) ⌝ }
@@ -51,7 +51,7 @@ fn offer(state: State, hold: &mut [u8; 65536], piece: &[u8]) -> Called
             lists: true,
             line: Line::Block(b),
             course: Course::GoesOn,
-            done: false,
+            more: true,
         },
         Fed::More(taken) => Called {
             state: next,
@@ -59,15 +59,15 @@ fn offer(state: State, hold: &mut [u8; 65536], piece: &[u8]) -> Called
             lists: false,
             line: Line::Nothing,
             course: Course::GoesOn,
-            done: taken == piece.len(),
+            more: taken < piece.len(),
         },
         Fed::Refused(_) => Called {
             state: next,
             taken: 0,
             lists: false,
             line: Line::Nothing,
-            course: Course::Stopped,
-            done: true,
+            course: Course::Stopped, // the run is full
+            more: false,
         },
     }
 }
@@ -84,7 +84,7 @@ fn close(state: State, hold: &mut [u8; 65536]) -> Called {
             lists: true,
             line: Line::Block(b),
             course: Course::GoesOn,
-            done: false,
+            more: true,
         },
         Finished::End(c) => Called {
             state: next,
@@ -92,7 +92,7 @@ fn close(state: State, hold: &mut [u8; 65536]) -> Called {
             lists: true,
             line: Line::End(c),
             course: Course::InputEnded,
-            done: true,
+            more: false,
         },
         Finished::Refused(_) => Called {
             state: next,
@@ -100,14 +100,14 @@ fn close(state: State, hold: &mut [u8; 65536]) -> Called {
             lists: false,
             line: Line::Nothing,
             course: Course::InputEnded,
-            done: true,
+            more: false,
         },
     }
 }
 
 fn put_line(out: &mut [u8; 8192], at: usize, line: Line) -> usize
     requires { ⌜ at + 90 ≤ 8192 ⌝ }
-    ensures { λ r. ⌜ r ≤ 8192 ⌝ }
+    ensures { λ r. ⌜ r ≤ at + 90 ⌝ }
 {
     match line {
         Line::Nothing => at,
@@ -119,17 +119,17 @@ fn put_line(out: &mut [u8; 8192], at: usize, line: Line) -> usize
 // Lists the line of a call, where it has one. Nothing is read on where writing failed.
 fn list_line(called: Called, out: &mut [u8; 8192], filled: usize) -> Listing
     requires { ⌜ filled ≤ 8192 ⌝ }
-    ensures { λ r. ⌜ r .filled ≤ 8192 ⌝ }
+    ensures { λ r. ⌜ (r .filled ≤ filled + 90) × (r .filled ≤ 8192) ⌝ }
 {
     let state = called.state;
     let course = called.course;
-    let done = called.done;
+    let more = called.more;
     if !called.lists {
         return Listing {
             state,
             filled,
             course,
-            done,
+            more,
         };
     }
     let room = console::make_room(out, filled, text::ROOM);
@@ -138,7 +138,7 @@ fn list_line(called: Called, out: &mut [u8; 8192], filled: usize) -> Listing
             state,
             filled: 0,
             course: Course::WriteFailed,
-            done: true,
+            more: false,
         };
     }
     let line = called.line;
@@ -146,11 +146,11 @@ fn list_line(called: Called, out: &mut [u8; 8192], filled: usize) -> Listing
         state,
         filled: put_line(out, room.filled, line),
         course,
-        done,
+        more,
     }
 }
 
-// Offers the first n bytes until they are done with. Nothing says here that the offers end: the loop counts them down.
+// Offers the first n bytes until they have no more to give.
 fn drain(
     l: Listing,
     hold: &mut [u8; 65536],
@@ -164,15 +164,12 @@ fn drain(
     let all: &[u8] = buf;
     let mut now = l;
     let mut at: usize = 0;
-    let mut turns: u64 = 0xffff_ffff_ffff_ffff;
+    let mut turns: u64 = console::TURNS;
     while turns > 0 {
         let called = offer(now.state, hold, &all[at..n]);
         at = at + called.taken;
         now = list_line(called, out, now.filled);
-        if now.done {
-            return now;
-        }
-        turns -= 1;
+        turns = console::left(turns, now.more);
     }
     now
 }
@@ -190,13 +187,13 @@ fn turn(l: Listing, hold: &mut [u8; 65536], buf: &mut [u8; 65536], out: &mut [u8
             state,
             filled: l.filled,
             course,
-            done: true,
+            more: false,
         };
     }
     drain(l, hold, buf, got.count, out)
 }
 
-// A proved loop has to end, and nothing says that the input does: it counts its turns down.
+// Reads and feeds, to the end of the input or of the run.
 fn read_all(state: State, hold: &mut [u8; 65536], out: &mut [u8; 8192]) -> Listing
     ensures { λ r. ⌜ r .filled ≤ 8192 ⌝ }
 {
@@ -205,29 +202,27 @@ fn read_all(state: State, hold: &mut [u8; 65536], out: &mut [u8; 8192]) -> Listi
         state,
         filled: 0,
         course: Course::GoesOn,
-        done: false,
+        more: true,
     };
-    let mut turns: u64 = 0xffff_ffff_ffff_ffff;
+    let mut turns: u64 = console::TURNS;
     while turns > 0 {
         now = turn(now, hold, &mut buf, out);
         let course = now.course;
-        if !console::goes_on(course) {
-            return now;
-        }
-        turns -= 1;
+        turns = console::left(turns, console::goes_on(course));
     }
     now
 }
 
-// How many calls of Finish the run may have: none where reading or writing failed.
+// How many calls of Finish the run may have: none where reading or writing failed. That a run is full is told here.
 fn closings(course: Course) -> u64 {
     match course {
         Course::ReadFailed | Course::WriteFailed => 0,
         Course::Stopped => {
+            // the run is full
             console::tell(b"lister: the run is full at 4294967295 bytes\n");
-            0xffff_ffff_ffff_ffff
+            console::TURNS
         }
-        _ => 0xffff_ffff_ffff_ffff,
+        _ => console::TURNS,
     }
 }
 
@@ -241,10 +236,7 @@ fn close_all(l: Listing, closings: u64, hold: &mut [u8; 65536], out: &mut [u8; 8
     while turns > 0 {
         let called = close(now.state, hold);
         now = list_line(called, out, now.filled);
-        if now.done {
-            return now;
-        }
-        turns -= 1;
+        turns = console::left(turns, now.more);
     }
     now
 }

@@ -1,6 +1,7 @@
 // Plays a script of calls from standard input, and prints one line a call.
 ghost use Prim.Native.Nat.{_+_, _≤_};
 ghost use lib.Dec.{T};
+ghost use mathlib.Core.Path.{_≡_};
 ghost use Rattle.play.specs.Turns.{plain};
 use console::Course;
 use console::lines;
@@ -26,7 +27,7 @@ pub struct Script {
 // No line is played.
 fn so_far(desk: Desk, ended: u64, filled: usize, course: Course) -> Script
     requires { ⌜ filled ≤ 8192 ⌝ }
-    ensures { λ r. ⌜ (r .filled ≤ 8192) × (r .at + 320 ≤ 8192) ⌝ }
+    ensures { λ r. ⌜ (r .filled ≡ filled) × (r .filled ≤ 8192) × (r .at + 320 ≤ 8192) ⌝ }
 {
     Script {
         desk,
@@ -177,12 +178,12 @@ fn play_all(
 {
     let mut now = so_far(desk::after(reader::new()), 0, 0, Course::GoesOn);
     let mut reading = lines::start();
-    let mut turns: u64 = lines::TURNS;
+    let mut turns: u64 = console::TURNS;
     while turns > 0 {
         reading = lines::next_line(reading, buf, line);
         now = begin_line(now, reading, out);
         now = play_line(now, reading.length, line, given, hold, force, waiting, out);
-        turns = lines::left(turns, now.playing);
+        turns = console::left(turns, now.playing);
     }
     now
 }

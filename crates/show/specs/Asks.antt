@@ -1,4 +1,5 @@
--- The lines of the calls that are lent nothing to write, byte by byte: "ANSWER | phase force waits held stands taken blocks skipped | - - -".
+-- The lines of the calls that are lent nothing to write, byte by byte: "ANSWER | phase force waits held stands taken blocks
+-- skipped | - - -".
 -- Assumes nothing.
 use Prim.Native.Nat.{ℕ}
 use mathlib.Core.List.{List, [], _∷_, _++_}

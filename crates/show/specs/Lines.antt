@@ -3,16 +3,18 @@
 use Prim.Native.Nat.{ℕ}
 use mathlib.Core.Bool.{Bool, true, false}
 use mathlib.Core.List.{List, [], _∷_, _++_}
-use mathlib.Core.Option.{none, some}
+use mathlib.Core.Option.{Option, none, some}
 use Rattle.text.specs.Lines.{spaced, newline, blockWords, endWords}
 use Rattle.text.specs.Replies.{refusedText, wordBar, crcText}
 use Rattle.refusal.specs.Numbers.{numberFor}
-use Rattle.reader.specs.Said.{Said, refused, version, took, found, ended, waited}
+use Rattle.reader.specs.Said.{Report, Said, refused, version, took, found, ended, waited}
 use Rattle.runs.specs.Said.{reportOf, saidFed, saidFinished}
 use Rattle.tables.specs.Said.{saidOpened, saidStaged, saidWithdrawn}
 use Rattle.desk.specs.declared.Crcs.{Crcs}
 use Rattle.desk.specs.declared.RunReply.{RunReply}
 use Rattle.desk.specs.declared.RunReply.the-variants as run
+use Rattle.show.specs.declared.Found.{Found}
+use Rattle.show.specs.declared.Found.the-variants as feeding
 use Rattle.show.specs.declared.Says.{Says}
 use Rattle.show.specs.declared.Says.the-variants as says
 
@@ -32,7 +34,7 @@ wordWithdrawn = 119 ∷ 105 ∷ 116 ∷ 104 ∷ 100 ∷ 114 ∷ 97 ∷ 119 ∷ 1
 abbrev pub wordFed : List ℕ
 wordFed = 102 ∷ 101 ∷ 100 ∷ []
 
--- `more`
+-- `more`, a space before it
 abbrev pub wordMore : List ℕ
 wordMore = 32 ∷ 109 ∷ 111 ∷ 114 ∷ 101 ∷ []
 
@@ -69,13 +71,17 @@ runText (run.Finished a) = saidText wordFed (saidFinished a)
 runText (run.Staged a) = saidText wordStaged (saidStaged a)
 runText (run.Withdrawn a) = saidText wordStaged (saidWithdrawn a)
 
--- the same, told apart by what is said and not by the call
+-- what Feed found, as it says it
+abbrev pub foundBy : Found → Option Report
+foundBy feeding.More = none
+foundBy (feeding.Block b) = some (reportOf b)
+
+-- the same, told apart by what is said and not by the call: a working definition, cited by inner functions alone
 abbrev pub textOf : Says → List ℕ
 textOf (says.Opened v) = saidText wordOpened (version v)
 textOf (says.Staged v) = saidText wordStaged (version v)
 textOf (says.Withdrawn b) = saidText wordStaged (waited b)
-textOf (says.More t) = saidText wordFed (took t none)
-textOf (says.Fed t b) = saidText wordFed (took t (some (reportOf b)))
+textOf (says.Fed t f) = saidText wordFed (took t (foundBy f))
 textOf (says.Block b) = saidText wordFed (found (reportOf b))
 textOf (says.End c) = saidText wordFed (ended c)
 textOf (says.Refused r) = saidText wordFed (refused (numberFor r))

@@ -31,7 +31,7 @@ wordDoNotUse = 100 ∷ 111 ∷ 45 ∷ 110 ∷ 111 ∷ 116 ∷ 45 ∷ 117 ∷ 115
 abbrev pub wordNotInRevision : List ℕ
 wordNotInRevision = 110 ∷ 111 ∷ 116 ∷ 45 ∷ 105 ∷ 110 ∷ 45 ∷ 116 ∷ 104 ∷ 105 ∷ 115 ∷ 45 ∷ 114 ∷ 101 ∷ 118 ∷ 105 ∷ 115 ∷ 105 ∷ 111 ∷ 110 ∷ []
 
--- `-`
+-- `-`, a space before it
 abbrev pub wordMinus : List ℕ
 wordMinus = 32 ∷ 45 ∷ []
 

@@ -7,8 +7,8 @@ ghost use lib.Dec.{T};
 ghost use lib.IntN.{natAbs};
 ghost use lib.Ieee.{binary32, isNan, toBits};
 ghost use lib.ListN.{take};
-ghost use Rattle.record.specs.Answer.{answerSays, valueSays};
-ghost use Rattle.desk.specs.Plain.{noNan, noNanIn, plainly};
+ghost use Rattle.record.specs.Answer.{valueSays};
+ghost use Rattle.desk.specs.Plain.{noNan, plainly};
 ghost use Rattle.text.specs.Replies.{stateText};
 ghost use Rattle.show.specs.Values.{integerText, fieldText};
 ghost use Rattle.show.specs.Asks.{bytesText, askText, wordNoCrcs};
@@ -76,19 +76,6 @@ fn field_value(out: &mut [u8; 8192], at: usize, v: Value) -> usize
     }
 }
 
-// What a field answers.
-fn field(out: &mut [u8; 8192], at: usize, a: Answer) -> usize
-    requires { ⌜ T (noNanIn a) ⌝ }
-    requires { ⌜ at + 120 ≤ 8192 ⌝ }
-    ensures { λ r. ⌜ r ≤ at + 120 ⌝ }
-    ensures { λ r. ⌜ take r (now (out .exit)) ≡ take at (now (out .entry)) ++ fieldText (answerSays a) ⌝ }
-{
-    match a {
-        Answer::Field(v) => field_value(out, at, v),
-        Answer::Refused(why) => text::refused(out, at, why),
-    }
-}
-
 // Bytes that were handed back: how many, and their CRC.
 fn bytes(out: &mut [u8; 8192], at: usize, b: Bytes) -> usize
     requires { ⌜ at + 120 ≤ 8192 ⌝ }
@@ -107,7 +94,10 @@ fn ask_reply(out: &mut [u8; 8192], at: usize, reply: AskReply) -> usize
     ensures { λ r. ⌜ take r (now (out .exit)) ≡ take at (now (out .entry)) ++ askText reply ⌝ }
 {
     match reply {
-        AskReply::Field(a) => field(out, at, a),
+        AskReply::Field(a) => match a {
+            Answer::Field(v) => field_value(out, at, v),
+            Answer::Refused(why) => text::refused(out, at, why),
+        },
         AskReply::Bytes(b) => bytes(out, at, b),
         AskReply::Refused(why) => text::refused(out, at, why),
     }

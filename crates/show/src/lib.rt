@@ -2,12 +2,10 @@
 ghost use Prim.Native.Nat.{_+_, _≤_};
 ghost use mathlib.Core.Path.{_≡_};
 ghost use mathlib.Core.List.{_++_};
-ghost use mathlib.Core.Option.{none, some};
 ghost use lib.ListN.{take};
 ghost use Rattle.reader.specs.Said.{took};
-ghost use Rattle.runs.specs.Said.{reportOf};
 ghost use Rattle.text.specs.Replies.{stateText};
-ghost use Rattle.show.specs.Lines.{oneFor, wordFed, saidText, textOf, runText, crcsText};
+ghost use Rattle.show.specs.Lines.{oneFor, wordFed, saidText, foundBy, textOf, runText, crcsText};
 
 pub mod asks; // asks.rt: the lines of the calls that are lent nothing to write
 
@@ -32,23 +30,25 @@ fn one_for(b: bool) -> u64
     if b { 1 } else { 0 }
 }
 
-fn more(out: &mut [u8; 8192], at: usize, taken: usize) -> usize
-    requires { ⌜ at + 120 ≤ 8192 ⌝ }
-    ensures { λ r. ⌜ r ≤ at + 120 ⌝ }
-    ensures { λ r. ⌜ take r (now (out .exit)) ≡ take at (now (out .entry)) ++ saidText wordFed (took taken none) ⌝ }
-{
-    let count = text::told(out, at, b"fed", taken as u64);
-    text::put(out, count, b" more")
+// What Feed found: that it needs more, or a block.
+enum Found {
+    More,
+    Block(Block),
 }
 
-fn fed_block(out: &mut [u8; 8192], at: usize, taken: usize, b: Block) -> usize
+fn fed_words(out: &mut [u8; 8192], at: usize, taken: usize, found: Found) -> usize
     requires { ⌜ at + 120 ≤ 8192 ⌝ }
     ensures { λ r. ⌜ r ≤ at + 120 ⌝ }
-    ensures { λ r. ⌜ take r (now (out .exit)) ≡ take at (now (out .entry)) ++ saidText wordFed (took taken (some (reportOf b))) ⌝ }
+    ensures { λ r. ⌜ take r (now (out .exit)) ≡ take at (now (out .entry)) ++ saidText wordFed (took taken (foundBy found)) ⌝ }
 {
     let count = text::told(out, at, b"fed", taken as u64);
-    let gap = text::put(out, count, b" ");
-    text::block_words(out, gap, b)
+    match found {
+        Found::More => text::put(out, count, b" more"),
+        Found::Block(b) => {
+            let gap = text::put(out, count, b" ");
+            text::block_words(out, gap, b)
+        }
+    }
 }
 
 // What a call says, whichever call it was.
@@ -56,8 +56,7 @@ enum Says {
     Opened(u16),
     Staged(u16),
     Withdrawn(bool),
-    More(usize),
-    Fed(usize, Block),
+    Fed(usize, Found),
     Block(Block),
     End(Counts),
     Refused(Refusal),
@@ -72,8 +71,8 @@ fn said_in(reply: RunReply) -> Says
             Opened::Refused(why) => Says::Refused(why),
         },
         RunReply::Fed(a) => match a {
-            Fed::Block(taken, b) => Says::Fed(taken, b),
-            Fed::More(taken) => Says::More(taken),
+            Fed::Block(taken, b) => Says::Fed(taken, Found::Block(b)),
+            Fed::More(taken) => Says::Fed(taken, Found::More),
             Fed::Refused(why) => Says::Refused(why),
         },
         RunReply::Finished(a) => match a {
@@ -101,8 +100,7 @@ fn print(out: &mut [u8; 8192], at: usize, said: Says) -> usize
         Says::Opened(v) => text::told(out, at, b"opened", v as u64),
         Says::Staged(v) => text::told(out, at, b"staged", v as u64),
         Says::Withdrawn(one) => text::told(out, at, b"withdrawn", one_for(one)),
-        Says::More(taken) => more(out, at, taken),
-        Says::Fed(taken, b) => fed_block(out, at, taken, b),
+        Says::Fed(taken, found) => fed_words(out, at, taken, found),
         Says::Block(b) => text::block_words(out, at, b),
         Says::End(c) => text::end_words(out, at, c),
         Says::Refused(why) => text::refused(out, at, why),

@@ -1,5 +1,5 @@
--- The lines that the lister prints, byte by byte (document 01: "prints a line `block PLACE NUMBER REVISION LENGTH` for each block and last
--- `end BYTES BLOCKS SKIPPED`, in decimal").
+-- The lines that the lister prints, byte by byte (document 01: "prints a line `block PLACE NUMBER REVISION LENGTH` for each
+-- block and last `end BYTES BLOCKS SKIPPED`, in decimal").
 -- Assumes nothing.
 use Prim.Native.Nat.{ℕ, zero, suc, _/_}
 use mathlib.Core.Bool.{cond}

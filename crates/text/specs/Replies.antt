@@ -11,7 +11,7 @@ use Rattle.reader.specs.declared.State.{State}
 abbrev pub wordRefused : List ℕ
 wordRefused = 114 ∷ 101 ∷ 102 ∷ 117 ∷ 115 ∷ 101 ∷ 100 ∷ []
 
--- `|`
+-- `|`, a space before it
 abbrev pub wordBar : List ℕ
 wordBar = 32 ∷ 124 ∷ []
 

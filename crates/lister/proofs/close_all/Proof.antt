@@ -20,11 +20,8 @@ close-requires c κs = search needs
 list-line-requires : tie.Need-list-line-requires Inv-loop μ-loop
 list-line-requires c κs = search needs
 
-returns : tie.Need-returns Inv-loop μ-loop
-returns c = search needs
-
-sub-turns : tie.Need-sub-turns Inv-loop μ-loop
-sub-turns c = search needs
+left-requires : tie.Need-left-requires Inv-loop μ-loop
+left-requires c κs = search needs
 
 loop-less : tie.Need-loop-less Inv-loop μ-loop
 loop-less c = search needs
@@ -32,8 +29,8 @@ loop-less c = search needs
 loop-again : tie.Need-loop-again Inv-loop μ-loop
 loop-again c = search needs
 
-returns-2 : tie.Need-returns-2 Inv-loop μ-loop
-returns-2 c = search needs
+returns : tie.Need-returns Inv-loop μ-loop
+returns c = search needs
 
 pub close-all-spec : {M : Type 1} → statement M
 close-all-spec =
@@ -44,8 +41,7 @@ close-all-spec =
     loop-holds
     close-requires
     list-line-requires
-    returns
-    sub-turns
+    left-requires
     loop-less
     loop-again
-    returns-2)
+    returns)

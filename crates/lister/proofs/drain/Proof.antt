@@ -38,11 +38,8 @@ add-at c =
 list-line-requires : tie.Need-list-line-requires Inv-loop μ-loop
 list-line-requires c κs = search needs
 
-returns : tie.Need-returns Inv-loop μ-loop
-returns c = search needs
-
-sub-turns : tie.Need-sub-turns Inv-loop μ-loop
-sub-turns c = search needs
+left-requires : tie.Need-left-requires Inv-loop μ-loop
+left-requires c κs = search needs
 
 loop-less : tie.Need-loop-less Inv-loop μ-loop
 loop-less c = search needs
@@ -50,8 +47,8 @@ loop-less c = search needs
 loop-again : tie.Need-loop-again Inv-loop μ-loop
 loop-again c = search needs
 
-returns-2 : tie.Need-returns-2 Inv-loop μ-loop
-returns-2 c = search needs
+returns : tie.Need-returns Inv-loop μ-loop
+returns c = search needs
 
 pub drain-spec : {M : Type 1} → statement M
 drain-spec =
@@ -66,8 +63,7 @@ drain-spec =
     offer-requires
     add-at
     list-line-requires
-    returns
-    sub-turns
+    left-requires
     loop-less
     loop-again
-    returns-2)
+    returns)

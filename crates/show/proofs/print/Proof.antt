@@ -50,29 +50,23 @@ told-requires-3 c κs = search needs
 enum-known-said-4 : tie.Need-enum-known-said-4
 enum-known-said-4 c = search needs
 
-more-requires : tie.Need-more-requires
-more-requires c κs = search needs
+fed-words-requires : tie.Need-fed-words-requires
+fed-words-requires c κs = search needs
 
 enum-known-said-5 : tie.Need-enum-known-said-5
 enum-known-said-5 c = search needs
 
-fed-block-requires : tie.Need-fed-block-requires
-fed-block-requires c κs = search needs
+block-words-requires : tie.Need-block-words-requires
+block-words-requires c κs = search needs
 
 enum-known-said-6 : tie.Need-enum-known-said-6
 enum-known-said-6 c = search needs
 
-block-words-requires : tie.Need-block-words-requires
-block-words-requires c κs = search needs
-
-enum-known-said-7 : tie.Need-enum-known-said-7
-enum-known-said-7 c = search needs
-
 end-words-requires : tie.Need-end-words-requires
 end-words-requires c κs = search needs
 
-enum-known-said-8 : tie.Need-enum-known-said-8
-enum-known-said-8 c = search needs
+enum-known-said-7 : tie.Need-enum-known-said-7
+enum-known-said-7 c = search needs
 
 refused-requires : tie.Need-refused-requires
 refused-requires c κs = search needs
@@ -96,27 +90,22 @@ returns-3 c =
 returns-4 : tie.Need-returns-4
 returns-4 c =
     let b = c .before .before .before .before .before in
-    (omega (arith, c .more .ensures .0, b .pre), rw (c .before .before .before .said4 .given .1) (c .more .ensures .1))
+    (omega (arith, c .fed-words .ensures .0, b .pre), rw (c .before .before .before .said4 .given .1) (c .fed-words .ensures .1))
 
 returns-5 : tie.Need-returns-5
 returns-5 c =
     let b = c .before .before .before .before .before in
-    (omega (arith, c .fed-block .ensures .0, b .pre), rw (c .before .before .before .said5 .given .1) (c .fed-block .ensures .1))
+    (omega (arith, c .block-words .ensures .0, b .pre), rw (c .before .before .before .said5 .given .1) (c .block-words .ensures .1))
 
 returns-6 : tie.Need-returns-6
 returns-6 c =
     let b = c .before .before .before .before .before in
-    (omega (arith, c .block-words .ensures .0, b .pre), rw (c .before .before .before .said6 .given .1) (c .block-words .ensures .1))
+    (omega (arith, c .end-words .ensures .0, b .pre), rw (c .before .before .before .said6 .given .1) (c .end-words .ensures .1))
 
 returns-7 : tie.Need-returns-7
 returns-7 c =
     let b = c .before .before .before .before .before in
-    (omega (arith, c .end-words .ensures .0, b .pre), rw (c .before .before .before .said7 .given .1) (c .end-words .ensures .1))
-
-returns-8 : tie.Need-returns-8
-returns-8 c =
-    let b = c .before .before .before .before .before in
-    (omega (arith, c .refused .ensures .0, b .pre), rw (c .before .before .before .said8 .given .1) (c .refused .ensures .1))
+    (omega (arith, c .refused .ensures .0, b .pre), rw (c .before .before .before .said7 .given .1) (c .refused .ensures .1))
 
 pub print-spec : {M : Type 1} → statement M
 print-spec =
@@ -135,14 +124,12 @@ print-spec =
     one-for-requires
     told-requires-3
     enum-known-said-4
-    more-requires
+    fed-words-requires
     enum-known-said-5
-    fed-block-requires
-    enum-known-said-6
     block-words-requires
-    enum-known-said-7
+    enum-known-said-6
     end-words-requires
-    enum-known-said-8
+    enum-known-said-7
     refused-requires
     returns
     returns-2
@@ -150,5 +137,4 @@ print-spec =
     returns-4
     returns-5
     returns-6
-    returns-7
-    returns-8)
+    returns-7)

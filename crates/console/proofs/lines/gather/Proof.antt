@@ -1,4 +1,5 @@
--- `console::lines::gather` meets its contract. The invariant: the line is at most one byte too long, and the place is in the piece.
+-- `console::lines::gather` meets its contract. The invariant: the line is at most one byte too long, and the place is in the
+-- piece.
 -- Assumes nothing.
 use Prim.Native.Nat.{_-_, _≤_}
 use lib.ListN.{length}
