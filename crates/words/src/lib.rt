@@ -4,6 +4,7 @@ ghost use mathlib.Core.Path.{_≡_};
 ghost use lib.ListN.{length, take, drop};
 ghost use Rattle.io.specs.Counts.{Counts};
 ghost use Rattle.words.specs.Words.{upTo, keyOf, numberSays, addDigit, numberIn, hexDigit, bytesSay, bytesFrom, bytesIn};
+ghost use Rattle.words.specs.Theorems.{ToldApart};
 
 // Where the word at the front of a text ends: at its first space, or with it.
 pub fn word_end(text: &[u8]) -> usize
@@ -45,6 +46,11 @@ pub fn key(word: &[u8]) -> u64
     }
     k
 }
+
+// No two words have the same key, and the words that have one are those of one to eight bytes, none of them zero.
+pub fn told_apart()
+    ensures { λ _. ⌜ ToldApart ⌝ }
+{}
 
 pub enum Decimal {
     Value(u64),

@@ -1,0 +1,45 @@
+-- The words that a line is told by, each with the number that the code matches, which is its key. No other word has that key:
+-- `words::told_apart`.
+-- Assumes nothing.
+use Prim.Native.Nat.{ℕ}
+use Prim.Native.Char.{code}
+use Prim.Native.String.{String, [], _∷_}
+use mathlib.Core.Path.{_≡_}
+use mathlib.Core.List as L
+use Rattle.words.specs.Words.{keyOf}
+
+-- a word as its bytes
+unfoldable pub lettersOf : String → L.List ℕ
+lettersOf [] = L.[]
+lettersOf (c ∷ s) = L._∷_ (code c) (lettersOf s)
+
+abbrev pub Key : String → ℕ → Type 0
+Key word n = keyOf (lettersOf word) ≡ n
+
+-- a line's first word, then the buffers, then the numbers of the state; `force` is a buffer and a number
+abbrev pub KeysHold : Type 0
+KeysHold =
+    Key "open" 0x6f70656e
+    × Key "finish" 0x66696e697368
+    × Key "withdraw" 0x7769746864726177
+    × Key "bytes" 0x6279746573
+    × Key "feed" 0x66656564
+    × Key "stage" 0x7374616765
+    × Key "tow" 0x746f77
+    × Key "wnc" 0x776e63
+    × Key "body" 0x626f6479
+    × Key "subbytes" 0x7375626279746573
+    × Key "sub" 0x737562
+    × Key "poke" 0x706f6b65
+    × Key "put" 0x707574
+    × Key "size" 0x73697a65
+    × Key "hold" 0x686f6c64
+    × Key "force" 0x666f726365
+    × Key "waiting" 0x77616974696e67
+    × Key "phase" 0x7068617365
+    × Key "waits" 0x7761697473
+    × Key "held" 0x68656c64
+    × Key "stands" 0x7374616e6473
+    × Key "taken" 0x74616b656e
+    × Key "blocks" 0x626c6f636b73
+    × Key "skipped" 0x736b6970706564
