@@ -3,6 +3,7 @@ ghost use Prim.Native.Nat.{_≤_};
 ghost use lib.ListN.{length};
 ghost use Rattle.script.specs.Keys.{KeysHold};
 use words::Decimal;
+use words::Decoded;
 
 pub enum Buffer {
     Hold,
@@ -71,17 +72,13 @@ struct Word {
     ends: bool,
 }
 
-fn is_number(d: Decimal) -> bool {
-    match d {
-        Decimal::Value(_) => true,
-        Decimal::NoNumber => false,
-    }
-}
+// Whether a word is a number, and which.
+struct Number(bool, u64);
 
-fn value_of(d: Decimal) -> u64 {
+fn number_of(d: Decimal) -> Number {
     match d {
-        Decimal::Value(n) => n,
-        Decimal::NoNumber => 0,
+        Decimal::Value(n) => Number(true, n),
+        Decimal::NoNumber => Number(false, 0),
     }
 }
 
@@ -99,16 +96,16 @@ fn word_at(line: &[u8], from: usize) -> Word
 {
     let text = &line[from..];
     let e = words::word_end(text);
-    let told = words::number(&text[..e]);
-    let numeric = is_number(told);
+    let word = &text[..e];
+    let told = number_of(words::number(word));
     let is_last = e == text.len();
     Word {
-        key: words::key(&text[..e]),
-        number: value_of(told),
+        key: words::key(word),
+        number: told.1,
         next: behind(from + e, line.len()),
         is_last,
-        leads: numeric & !is_last,
-        ends: numeric & is_last,
+        leads: told.0 & !is_last,
+        ends: told.0 & is_last,
     }
 }
 
@@ -219,16 +216,15 @@ fn bare(call: Call) -> Asked
     Asked { call, count: 0 }
 }
 
-// A call whose last word is bytes.
-fn with_bytes(call: Call, word: &[u8], given: &mut [u8; 135000]) -> Asked
-    requires { ⌜ length (now word) ≤ 270000 ⌝ }
+// A call whose last word is read as bytes.
+fn with_bytes(call: Call, read: Decoded) -> Asked
+    requires { ⌜ read .count ≤ 135000 ⌝ }
     ensures { λ r. ⌜ r .count ≤ 135000 ⌝ }
 {
-    let decoded = words::bytes(word, given);
-    if decoded.is_hex {
+    if read.is_hex {
         return Asked {
             call,
-            count: decoded.count,
+            count: read.count,
         };
     }
     bare(Call::Bad)
@@ -254,5 +250,5 @@ pub fn read(line: &[u8], given: &mut [u8; 135000]) -> Asked
         return bare(call);
     }
     let from = start(head.words, first.next, second.next, third.next);
-    with_bytes(call, &line[from..], given)
+    with_bytes(call, words::bytes(&line[from..], given))
 }

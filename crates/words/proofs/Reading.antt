@@ -1,17 +1,47 @@
 -- Reading a word from left to right: one law for each step of each loop, over plain lists.
 -- Assumes nothing.
-use mathlib.Core.Path.{_≡_, refl, ap, _∙_}
+use mathlib.Core.Path.{_≡_, refl, sym, ap, ap₂, _∙_}
+use mathlib.Core.Bool.{Bool, true, false, cond, not, _&&_, _||_}
 use mathlib.Core.List.{List, [], _∷_, _++_, append-assoc, append-nil}
 use mathlib.Core.Option.{Option, none, some}
-use Prim.Native.Nat.{ℕ, suc, _+_, _-_, _*_, _^_, _≤_, _<_}
+use Prim.Native.Nat.{ℕ, suc, _+_, _-_, _*_, _/_, _^_, _≤_, _<_}
 use native.Mathlib.Nat.{pow-succ', pow-le-pow-right}
 use native.Mathlib.Numerals.{add-one}
 use native.Mathlib.Omega.{arith}
 use lib.ListN.{length, take, drop, getD, set, drop-of-length-le}
-use lib.Dec.{eqb}
+use lib.Dec.{eqb, leb, ltb}
 use lib.Seq.{drop-cons, take-suc-set}
-use borrow.Author.Tests.{eq-eqb, ne-eqb, le-leb, lt-leb, lt-ltb, le-ltb}
+use borrow.Author.Tests.{eqb-true, eqb-false, eq-eqb, ne-eqb, leb-true, le-leb, lt-leb, ltb-true, ltb-false, lt-ltb, le-ltb}
 use Rattle.words.specs.Words.{upTo, keyFrom, keyOf, addDigit, numberThen, numberIn, hexDigit, behind, bytesSay, bytesFrom, bytesIn}
+
+never : {X : Type 0} {b : Bool} → b ≡ true → b ≡ false → X
+never e f = let z : _≡_ {A = ℕ} 0 1 = cc in let g : ⊥ = omega arith in absurd g
+
+-- two tests as one
+both : (a b : Bool) → (a && b) ≡ true → (a ≡ true) × (b ≡ true)
+both true b e = (refl, e)
+both false b e = never e refl
+
+neither : (a b : Bool) → (a || b) ≡ false → (a ≡ false) × (b ≡ false)
+neither true b e = never refl e
+neither false b e = (refl, e)
+
+-- below a range or above it
+low : (l c : ℕ) (t : Bool) → ltb c l ≡ t → leb l c ≡ not t
+low l c true e = lt-leb l c (ltb-true c l e)
+low l c false e = le-leb l c (ltb-false c l e)
+
+high : (c h : ℕ) (t : Bool) → ltb h c ≡ t → leb c h ≡ not t
+high c h true e = lt-leb c h (ltb-true h c e)
+high c h false e = le-leb c h (ltb-false h c e)
+
+out : (a b : Bool) → (a || b) ≡ true → (not a && not b) ≡ false
+out true b e = refl
+out false true e = refl
+out false false e = never e refl
+
+outside : (l c h : ℕ) → (ltb c l || ltb h c) ≡ true → (leb l c && leb c h) ≡ false
+outside l c h e = ap₂ _&&_ (low l c (ltb c l) refl) (high c h (ltb h c) refl) ∙ out (ltb c l) (ltb h c) e
 
 at-cons : (s : List ℕ) (i : ℕ) → i < length s → drop i s ≡ getD s i 0 ∷ drop (i + 1) s
 at-cons s i h = rw (add-one, drop-cons s i 0)
@@ -58,13 +88,13 @@ module _ (w : List ℕ) (i k : ℕ) where
   key-end h = rw (drop-of-length-le w h)
 
 module _ (v c : ℕ) where
-  pub digit-low : c < 48 → addDigit v c ≡ none
+  -- below `0` or above `9`
+  pub no-digit : (ltb c 48 || ltb 57 c) ≡ true → addDigit v c ≡ none
   unfolding addDigit
-  digit-low h = rw (lt-leb 48 c h)
+  no-digit e = ap (λ (t : Bool). cond (t && leb (v * 10 + (c - 48)) 18446744073709551615) (some (v * 10 + (c - 48))) none) (outside 48 c 57 e)
 
-  pub digit-high : 57 < c → addDigit v c ≡ none
-  unfolding addDigit
-  digit-high h = rw (le-leb 48 c (omega arith), lt-leb c 57 h)
+  pub a-digit : (ltb c 48 || ltb 57 c) ≡ false → (48 ≤ c) × (c ≤ 57)
+  a-digit e = let n = neither (ltb c 48) (ltb 57 c) e in (ltb-false c 48 (n .0), ltb-false 57 c (n .1))
 
   pub digit-over : 48 ≤ c → c ≤ 57 → 18446744073709551615 < v * 10 + (c - 48) → addDigit v c ≡ none
   unfolding addDigit
@@ -102,34 +132,25 @@ module _ (w : List ℕ) (i v : ℕ) where
   unfolding numberThen
   number-end h = rw (drop-of-length-le w h)
 
+pub within : (l c h : ℕ) → (leb l c && leb c h) ≡ true → (l ≤ c) × (c ≤ h)
+within l c h e = let b = both (leb l c) (leb c h) e in (leb-true l c (b .0), leb-true c h (b .1))
+
 module _ (c : ℕ) where
-  pub hex-figure : 48 ≤ c → c ≤ 57 → hexDigit c ≡ c - 48
+  pub hex-figure : (leb 48 c && leb c 57) ≡ true → hexDigit c ≡ c - 48
   unfolding hexDigit
-  hex-figure h k = rw (le-leb 48 c h, le-leb c 57 k)
+  hex-figure e = rw e
 
-  pub hex-capital : 65 ≤ c → c ≤ 70 → hexDigit c ≡ c - 55
+  pub hex-capital : (leb 48 c && leb c 57) ≡ false → (leb 65 c && leb c 70) ≡ true → hexDigit c ≡ c - 55
   unfolding hexDigit
-  hex-capital h k = rw (le-leb 48 c (omega arith), lt-leb c 57 (omega arith), le-leb 65 c h, le-leb c 70 k)
+  hex-capital e f = rw (e, f)
 
-  pub hex-small : 97 ≤ c → c ≤ 102 → hexDigit c ≡ c - 87
+  pub hex-small : (leb 48 c && leb c 57) ≡ false → (leb 65 c && leb c 70) ≡ false → (leb 97 c && leb c 102) ≡ true → hexDigit c ≡ c - 87
   unfolding hexDigit
-  hex-small h k = rw (le-leb 48 c (omega arith), lt-leb c 57 (omega arith), le-leb 65 c (omega arith), lt-leb c 70 (omega arith), le-leb 97 c h, le-leb c 102 k)
+  hex-small e f g = rw (e, f, g)
 
-  pub hex-below : c < 48 → hexDigit c ≡ 16
+  pub hex-other : (leb 48 c && leb c 57) ≡ false → (leb 65 c && leb c 70) ≡ false → (leb 97 c && leb c 102) ≡ false → hexDigit c ≡ 16
   unfolding hexDigit
-  hex-below h = rw (lt-leb 48 c h, lt-leb 65 c (omega arith), lt-leb 97 c (omega arith))
-
-  pub hex-between : 57 < c → c < 65 → hexDigit c ≡ 16
-  unfolding hexDigit
-  hex-between h k = rw (le-leb 48 c (omega arith), lt-leb c 57 h, lt-leb 65 c k, lt-leb 97 c (omega arith))
-
-  pub hex-amid : 70 < c → c < 97 → hexDigit c ≡ 16
-  unfolding hexDigit
-  hex-amid h k = rw (le-leb 48 c (omega arith), lt-leb c 57 (omega arith), le-leb 65 c (omega arith), lt-leb c 70 h, lt-leb 97 c k)
-
-  pub hex-above : 102 < c → hexDigit c ≡ 16
-  unfolding hexDigit
-  hex-above h = rw (le-leb 48 c (omega arith), lt-leb c 57 (omega arith), le-leb 65 c (omega arith), lt-leb c 70 (omega arith), le-leb 97 c (omega arith), lt-leb c 102 h)
+  hex-other e f g = rw (e, f, g)
 
 -- bytes found, and those of the rest behind them
 abbrev pub before : List ℕ → Option (List ℕ) → Option (List ℕ)
@@ -161,22 +182,51 @@ module _ (w : List ℕ) (i : ℕ) where
       let l : length w ≤ i + 1 = omega arith in
       ap bytesFrom (at-cons w i (omega arith) ∙ ap (λ (x : List ℕ). getD w i 0 ∷ x) (drop-of-length-le w l))
 
-  pub bytes-high : i + 1 < length w → 15 < hexDigit (getD w i 0) → bytesFrom (drop i w) ≡ none
-  unfolding bytesFrom
-  bytes-high h k = ap bytesFrom (two-cons h) ∙ rw (lt-ltb 15 (hexDigit (getD w i 0)) k)
-
-  pub bytes-low : i + 1 < length w → hexDigit (getD w i 0) ≤ 15 → 15 < hexDigit (getD w (i + 1) 0) → bytesFrom (drop i w) ≡ none
-  unfolding bytesFrom
-  bytes-low h j k = ap bytesFrom (two-cons h) ∙ rw (le-ltb 15 (hexDigit (getD w i 0)) j, lt-ltb 15 (hexDigit (getD w (i + 1) 0)) k)
-
-  pub bytes-more : i + 1 < length w → hexDigit (getD w i 0) ≤ 15 → hexDigit (getD w (i + 1) 0) ≤ 15
-      → bytesFrom (drop i w) ≡ behind (hexDigit (getD w i 0) * 16 + hexDigit (getD w (i + 1) 0)) (bytesFrom (drop (i + 2) w))
-  unfolding bytesFrom
-  bytes-more h j k = ap bytesFrom (two-cons h) ∙ rw (le-ltb 15 (hexDigit (getD w i 0)) j, le-ltb 15 (hexDigit (getD w (i + 1) 0)) k)
-
   pub bytes-end : length w ≤ i → bytesFrom (drop i w) ≡ some []
   unfolding bytesFrom
   bytes-end h = rw (drop-of-length-le w h)
+
+-- a pair is left out where one of the two is no digit
+none-of : {X : Type 0} (a b : Bool) (o : Option X) → (a || b) ≡ true → cond a none (cond b none o) ≡ none
+none-of true b o e = refl
+none-of false true o e = refl
+none-of false false o e = never e refl
+
+-- the pair n of a word, read as the digits x and y
+module _ (w g : List ℕ) (n x y : ℕ) (ex : x ≡ hexDigit (getD w (n + n) 0)) (ey : y ≡ hexDigit (getD w (n + n + 1) 0)) (h : n + n + 1 < length w) where
+  abbrev rest : Option (List ℕ)
+  rest = bytesFrom (drop (n + n + 2) w)
+
+  pair : bytesFrom (drop (n + n) w) ≡ cond (ltb 15 x) none (cond (ltb 15 y) none (behind (x * 16 + y) rest))
+  unfolding bytesFrom
+  pair =
+      ap bytesFrom (two-cons w (n + n) h)
+      ∙ ap₂ (λ (p q : ℕ). cond (ltb 15 p) none (cond (ltb 15 q) none (behind (p * 16 + q) rest))) (sym ex) (sym ey)
+
+  pub pair-bad : (ltb 15 x || ltb 15 y) ≡ true → none ≡ before (take n g) (bytesFrom (drop (n + n) w))
+  pair-bad e = sym (ap (before (take n g)) (pair ∙ none-of (ltb 15 x) (ltb 15 y) (behind (x * 16 + y) rest) e))
+
+  pub pair-more : n < length g → (ltb 15 x || ltb 15 y) ≡ false
+      → before (take (n + 1) (set g n (x * 16 + y))) (bytesFrom (drop (n + 1 + (n + 1)) w)) ≡ before (take n g) (bytesFrom (drop (n + n) w))
+  pair-more l e =
+      let d : n + 1 + (n + 1) ≡ n + n + 2 = omega arith in
+      let t = neither (ltb 15 x) (ltb 15 y) e in
+      let c : cond (ltb 15 x) none (cond (ltb 15 y) none (behind (x * 16 + y) rest)) ≡ behind (x * 16 + y) rest = rw (t .0, t .1) in
+      ap (λ (k : ℕ). before (take (n + 1) (set g n (x * 16 + y))) (bytesFrom (drop k w))) d
+      ∙ before-more g n (x * 16 + y) rest l
+      ∙ sym (ap (before (take n g)) (pair ∙ c))
+
+pub digits : (x y : ℕ) → (ltb 15 x || ltb 15 y) ≡ false → (x ≤ 15) × (y ≤ 15)
+digits x y e = let t = neither (ltb 15 x) (ltb 15 y) e in (ltb-false 15 x (t .0), ltb-false 15 y (t .1))
+
+-- behind the last pair, nothing is left or one digit
+module _ (w l : List ℕ) (n : ℕ) (m : n + n ≤ length w) (h : length w / 2 ≤ n) where
+  ends : (t : Bool) → eqb (n + n) (length w) ≡ t → bytesSay t l ≡ before l (bytesFrom (drop (n + n) w))
+  ends true e = sym (ap (before l) (bytes-end w (n + n) (omega (arith, eqb-true (n + n) (length w) e))) ∙ before-last l)
+  ends false e = sym (ap (before l) (bytes-odd w (n + n) (omega (arith, eqb-false (n + n) (length w) e))))
+
+  pub pairs-end : bytesSay (eqb (n + n) (length w)) l ≡ before l (bytesFrom (drop (n + n) w))
+  pairs-end = ends (eqb (n + n) (length w)) refl
 
 pub bytes-none : (w : List ℕ) → length w ≡ 0 → bytesIn w ≡ none
 unfolding bytesIn

@@ -61,10 +61,7 @@ pub enum Decimal {
 fn add_digit(v: u64, c: u8) -> Decimal
     ensures { λ r. ⌜ numberSays r ≡ addDigit v c ⌝ }
 {
-    if c < 48 {
-        return Decimal::NoNumber;
-    }
-    if 57 < c {
+    if (c < 48) | (57 < c) {
         return Decimal::NoNumber;
     }
     let d = (c - 48) as u64;
@@ -98,22 +95,13 @@ pub fn number(word: &[u8]) -> Decimal
 fn hex_digit(c: u8) -> u8
     ensures { λ r. ⌜ (r ≡ hexDigit c) × (r ≤ 16) ⌝ }
 {
-    if c < 48 {
-        return 16;
-    }
-    if c <= 57 {
+    if (48 <= c) & (c <= 57) {
         return c - 48;
     }
-    if c < 65 {
-        return 16;
-    }
-    if c <= 70 {
+    if (65 <= c) & (c <= 70) {
         return c - 55;
     }
-    if c < 97 {
-        return 16;
-    }
-    if c <= 102 {
+    if (97 <= c) & (c <= 102) {
         return c - 87;
     }
     16
@@ -132,24 +120,12 @@ fn decode(word: &[u8], given: &mut [u8]) -> Decoded
     ensures { λ r. ⌜ r .count ≤ length (now (given .entry)) ⌝ }
 {
     let mut count: usize = 0;
-    let mut at: usize = 0;
-    while at < word.len() {
+    while count < word.len() / 2 {
+        let at = count + count;
         let second = at + 1;
-        if second == word.len() {
-            return Decoded {
-                is_hex: false,
-                count: 0,
-            };
-        }
         let high = hex_digit(word[at]);
         let low = hex_digit(word[second]);
-        if 15 < high {
-            return Decoded {
-                is_hex: false,
-                count: 0,
-            };
-        }
-        if 15 < low {
+        if (15 < high) | (15 < low) {
             return Decoded {
                 is_hex: false,
                 count: 0,
@@ -157,10 +133,10 @@ fn decode(word: &[u8], given: &mut [u8]) -> Decoded
         }
         given[count] = high * 16 + low;
         count += 1;
-        at += 2;
     }
+    let read = count + count;
     Decoded {
-        is_hex: true,
+        is_hex: read == word.len(),
         count,
     }
 }

@@ -1,35 +1,29 @@
 -- `words::decode` meets its contract. The invariant: the bytes so far, with what is left behind them, are the whole.
 -- Assumes nothing.
-use mathlib.Core.Path.{_≡_, refl, sym, ap, _∙_}
-use Prim.Native.Nat.{ℕ, _+_, _-_, _*_, _≤_, _<_}
+use mathlib.Core.Path.{_≡_, refl, _∙_}
+use Prim.Native.Nat.{_+_, _-_, _*_, _≤_}
 use native.Mathlib.Omega.{arith}
-use lib.ListN.{length, take, drop, getD, length-set}
-use Rattle.words.specs.Words.{hexDigit, behind, bytesFrom}
-use Rattle.words.proofs.Reading.{before, before-empty, before-more, before-last, bytes-odd, bytes-high, bytes-low, bytes-more, bytes-end}
+use lib.ListN.{length, take, drop, length-set}
+use Rattle.words.specs.Words.{bytesFrom}
+use Rattle.words.proofs.Reading.{before, before-empty, digits, pair-bad, pair-more, pairs-end}
 use borrow.Author.Needs.{needs}
 use Rattle.words.proofs.decode.Statement.{statement}
 use Rattle.words.proofs.decode.Tie as tie
 
 abbrev Inv-loop : tie.InvT-loop
-Inv-loop word given₀ count₀ at₀ given count at = (at ≡ count + count) × (at ≤ length word) × (length given ≡ length given₀) × (before (take count given) (bytesFrom (drop at word)) ≡ bytesFrom word)
+Inv-loop word given₀ count₀ given count = (count + count ≤ length word) × (length given ≡ length given₀) × (before (take count given) (bytesFrom (drop (count + count) word)) ≡ bytesFrom word)
 
 abbrev μ-loop : tie.MeasureT-loop
-μ-loop word given₀ count₀ at₀ given count at = length word - at
+μ-loop word given₀ count₀ given count = length word - count
 
 loop-holds : tie.Need-loop-holds Inv-loop μ-loop
-loop-holds c = (refl, omega arith, refl, before-empty (bytesFrom (c .before .before .args .word .now)))
+loop-holds c = (omega arith, refl, before-empty (bytesFrom (c .before .before .args .word .now)))
+
+add-at : tie.Need-add-at Inv-loop μ-loop
+add-at c = search needs
 
 add-second : tie.Need-add-second Inv-loop μ-loop
 add-second c = search needs
-
-same-length : tie.Need-same-length Inv-loop μ-loop
-same-length c = search needs
-
-returns : tie.Need-returns Inv-loop μ-loop
-returns c =
-    let w = c .before .before .before .before .before .args .word .now in
-    let l = c .before .before .loop in
-    (sym (ap (before (take (l .count) (l .given))) (bytes-odd w (l .at) (c .if1 .taken))) ∙ l .inv .3, omega arith)
 
 shared-slice-read-hex-digit : tie.Need-shared-slice-read-hex-digit Inv-loop μ-loop
 shared-slice-read-hex-digit c = search needs
@@ -43,32 +37,22 @@ shared-slice-read-hex-digit-2 c = search needs
 hex-digit-requires-2 : tie.Need-hex-digit-requires-2 Inv-loop μ-loop
 hex-digit-requires-2 c κs = search needs
 
-same-length-2 : tie.Need-same-length-2 Inv-loop μ-loop
-same-length-2 c = search needs
+same-length : tie.Need-same-length Inv-loop μ-loop
+same-length c = search needs
 
-returns-2 : tie.Need-returns-2 Inv-loop μ-loop
-returns-2 c =
-    let w = c .before .before .before .before .before .before .before .before .before .before .args .word .now in
-    let l = c .before .before .before .before .before .before .before .loop in
-    let h : 15 < hexDigit (getD w (l .at) 0) = omega (arith, c .before .before .before .hex-digit .ensures .0) in
-    (sym (ap (before (take (l .count) (l .given))) (bytes-high w (l .at) (omega arith) h)) ∙ l .inv .3, omega arith)
-
-same-length-3 : tie.Need-same-length-3 Inv-loop μ-loop
-same-length-3 c = search needs
-
-returns-3 : tie.Need-returns-3 Inv-loop μ-loop
-returns-3 c =
-    let w = c .before .before .before .before .before .before .before .before .before .before .before .args .word .now in
-    let l = c .before .before .before .before .before .before .before .before .loop in
-    let h : hexDigit (getD w (l .at) 0) ≤ 15 = omega (arith, c .before .before .before .before .hex-digit .ensures .0) in
-    let k : 15 < hexDigit (getD w (l .at + 1) 0) = omega (arith, c .before .before .hex-digit2 .ensures .0) in
-    (sym (ap (before (take (l .count) (l .given))) (bytes-low w (l .at) (omega arith) h k)) ∙ l .inv .3, omega arith)
+returns : tie.Need-returns Inv-loop μ-loop
+returns c =
+    let w = c .before .before .before .before .before .before .before .before .before .args .word .now in
+    let l = c .before .before .before .before .before .before .loop in
+    let x = c .before .before .before .hex-digit in
+    let y = c .before .hex-digit2 in
+    (pair-bad w (l .given) (l .count) (x .result) (y .result) (x .ensures .0) (y .ensures .0) (omega arith) (c .if1 .taken) ∙ l .inv .2, omega arith)
 
 mul-given : tie.Need-mul-given Inv-loop μ-loop
-mul-given c = omega arith
+mul-given c = let d = digits (c .before .before .before .hex-digit .result) (c .before .hex-digit2 .result) (c .if1 .left) in omega arith
 
 add-given : tie.Need-add-given Inv-loop μ-loop
-add-given c = omega arith
+add-given c = let d = digits (c .before .before .before .hex-digit .result) (c .before .hex-digit2 .result) (c .if1 .left) in omega arith
 
 slice-write-given : tie.Need-slice-write-given Inv-loop μ-loop
 slice-write-given c = search needs
@@ -76,39 +60,30 @@ slice-write-given c = search needs
 add-count : tie.Need-add-count Inv-loop μ-loop
 add-count c = search needs
 
-add-at : tie.Need-add-at Inv-loop μ-loop
-add-at c = search needs
-
 loop-less : tie.Need-loop-less Inv-loop μ-loop
 loop-less c = search needs
 
 loop-again : tie.Need-loop-again Inv-loop μ-loop
 loop-again c =
-    let w = c .before .before .before .before .before .before .before .before .before .before .before .args .word .now in
-    let l = c .before .before .before .before .before .before .before .before .loop in
-    let x = c .before .before .before .before .hex-digit in
-    let y = c .before .before .hex-digit2 in
-    let h : hexDigit (getD w (l .at) 0) ≤ 15 = omega (arith, x .ensures .0) in
-    let k : hexDigit (getD w (l .at + 1) 0) ≤ 15 = omega (arith, y .ensures .0) in
-    let e : x .result * 16 + y .result ≡ hexDigit (getD w (l .at) 0) * 16 + hexDigit (getD w (l .at + 1) 0) = omega (arith, x .ensures .0, y .ensures .0) in
-    let r = bytesFrom (drop (l .at + 2) w) in (
+    let w = c .before .before .before .before .before .before .before .before .before .args .word .now in
+    let l = c .before .before .before .before .before .before .loop in
+    let x = c .before .before .before .hex-digit in
+    let y = c .before .hex-digit2 in (
       omega arith,
-      omega arith,
-      length-set (l .given) (l .count) (x .result * 16 + y .result) ∙ l .inv .2,
-      before-more (l .given) (l .count) (x .result * 16 + y .result) r (omega arith)
-          ∙ ap (λ (n : ℕ). before (take (l .count) (l .given)) (behind n r)) e
-          ∙ sym (ap (before (take (l .count) (l .given))) (bytes-more w (l .at) (omega arith) h k))
-          ∙ l .inv .3,
+      length-set (l .given) (l .count) (x .result * 16 + y .result) ∙ l .inv .1,
+      pair-more w (l .given) (l .count) (x .result) (y .result) (x .ensures .0) (y .ensures .0) (omega arith) (omega arith) (c .if1 .left) ∙ l .inv .2,
     )
 
-same-length-4 : tie.Need-same-length-4 Inv-loop μ-loop
-same-length-4 c = search needs
+add-read : tie.Need-add-read Inv-loop μ-loop
+add-read c = search needs
 
-returns-4 : tie.Need-returns-4 Inv-loop μ-loop
-returns-4 c =
-    let w = c .before .before .before .before .args .word .now in
+same-length-2 : tie.Need-same-length-2 Inv-loop μ-loop
+same-length-2 c = search needs
+
+returns-2 : tie.Need-returns-2 Inv-loop μ-loop
+returns-2 c =
     let l = c .before .loop in
-    (sym (before-last (take (l .count) (l .given))) ∙ sym (ap (before (take (l .count) (l .given))) (bytes-end w (l .at) (omega arith))) ∙ l .inv .3, omega arith)
+    (pairs-end (c .before .before .before .before .args .word .now) (take (l .count) (l .given)) (l .count) (omega arith) (omega arith) ∙ l .inv .2, omega arith)
 
 pub decode-spec : {M : Type 1} → statement M
 decode-spec =
@@ -117,23 +92,20 @@ decode-spec =
     Inv-loop
     μ-loop
     loop-holds
+    add-at
     add-second
-    same-length
-    returns
     shared-slice-read-hex-digit
     hex-digit-requires
     shared-slice-read-hex-digit-2
     hex-digit-requires-2
-    same-length-2
-    returns-2
-    same-length-3
-    returns-3
+    same-length
+    returns
     mul-given
     add-given
     slice-write-given
     add-count
-    add-at
     loop-less
     loop-again
-    same-length-4
-    returns-4)
+    add-read
+    same-length-2
+    returns-2)
