@@ -3,11 +3,13 @@ ghost use Prim.Native.Nat.{_+_, _≤_};
 ghost use lib.ListN.{length};
 ghost use mathlib.Core.Path.{_≡_};
 use console::Course;
+use console::Piece;
 use reader::Counts;
 use reader::State;
 use runs::Block;
 use runs::Fed;
 use runs::Finished;
+use tables::OpenAnswer;
 use tables::Opened;
 
 // Between two calls: the reader's state, how many bytes of the output buffer wait to be written, whether to go on, and
@@ -72,14 +74,11 @@ fn offer(state: State, hold: &mut [u8; 65536], piece: &[u8]) -> Called
     }
 }
 
-// Finishes once: a block that was held back, or the end.
-fn close(state: State, hold: &mut [u8; 65536]) -> Called {
-    let closed = runs::finish(state, hold);
-    let answer = closed.answer;
-    let next = closed.state;
+// A block that was held back, or the end.
+fn closed_by(answer: Finished, state: State) -> Called {
     match answer {
         Finished::Block(b) => Called {
-            state: next,
+            state,
             taken: 0,
             lists: true,
             line: Line::Block(b),
@@ -87,7 +86,7 @@ fn close(state: State, hold: &mut [u8; 65536]) -> Called {
             more: true,
         },
         Finished::End(c) => Called {
-            state: next,
+            state,
             taken: 0,
             lists: true,
             line: Line::End(c),
@@ -95,7 +94,7 @@ fn close(state: State, hold: &mut [u8; 65536]) -> Called {
             more: false,
         },
         Finished::Refused(_) => Called {
-            state: next,
+            state,
             taken: 0,
             lists: false,
             line: Line::Nothing,
@@ -103,6 +102,14 @@ fn close(state: State, hold: &mut [u8; 65536]) -> Called {
             more: false,
         },
     }
+}
+
+// Finishes once.
+fn close(state: State, hold: &mut [u8; 65536]) -> Called {
+    let closed = runs::finish(state, hold);
+    let answer = closed.answer;
+    let next = closed.state;
+    closed_by(answer, next)
 }
 
 fn put_line(out: &mut [u8; 8192], at: usize, line: Line) -> usize
@@ -150,21 +157,29 @@ fn list_line(called: Called, out: &mut [u8; 8192], filled: usize) -> Listing
     }
 }
 
-// Offers the first n bytes until they have no more to give.
+// Offers what was read until it has no more to give. Nothing is offered where reading does not go on.
 fn drain(
     l: Listing,
+    got: Piece,
     hold: &mut [u8; 65536],
     buf: &[u8; 65536],
-    n: usize,
     out: &mut [u8; 8192],
 ) -> Listing
-    requires { ⌜ (l .filled ≤ 8192) × (n ≤ 65536) ⌝ }
+    requires { ⌜ (l .filled ≤ 8192) × (got .count ≤ 65536) ⌝ }
     ensures { λ r. ⌜ r .filled ≤ 8192 ⌝ }
 {
     let all: &[u8] = buf;
-    let mut now = l;
+    let n = got.count;
+    let course = got.course;
+    let state = l.state;
+    let mut now = Listing {
+        state,
+        filled: l.filled,
+        course,
+        more: false,
+    };
     let mut at: usize = 0;
-    let mut turns: u64 = console::TURNS;
+    let mut turns: u64 = console::left(console::TURNS, console::goes_on(course));
     while turns > 0 {
         let called = offer(now.state, hold, &all[at..n]);
         at = at + called.taken;
@@ -174,30 +189,15 @@ fn drain(
     now
 }
 
-// Reads once, and feeds what came.
-fn turn(l: Listing, hold: &mut [u8; 65536], buf: &mut [u8; 65536], out: &mut [u8; 8192]) -> Listing
-    requires { ⌜ l .filled ≤ 8192 ⌝ }
-    ensures { λ r. ⌜ r .filled ≤ 8192 ⌝ }
-{
-    let got = console::read(buf);
-    let course = got.course;
-    let state = l.state;
-    if !console::goes_on(course) {
-        return Listing {
-            state,
-            filled: l.filled,
-            course,
-            more: false,
-        };
-    }
-    drain(l, hold, buf, got.count, out)
-}
-
 // Reads and feeds, to the end of the input or of the run.
-fn read_all(state: State, hold: &mut [u8; 65536], out: &mut [u8; 8192]) -> Listing
+fn read_all(
+    state: State,
+    buf: &mut [u8; 65536],
+    hold: &mut [u8; 65536],
+    out: &mut [u8; 8192],
+) -> Listing
     ensures { λ r. ⌜ r .filled ≤ 8192 ⌝ }
 {
-    let mut buf = io::large_buffer();
     let mut now = Listing {
         state,
         filled: 0,
@@ -206,7 +206,8 @@ fn read_all(state: State, hold: &mut [u8; 65536], out: &mut [u8; 8192]) -> Listi
     };
     let mut turns: u64 = console::TURNS;
     while turns > 0 {
-        now = turn(now, hold, &mut buf, out);
+        let got = console::read(buf);
+        now = drain(now, got, hold, buf, out);
         let course = now.course;
         turns = console::left(turns, console::goes_on(course));
     }
@@ -243,9 +244,10 @@ fn close_all(l: Listing, closings: u64, hold: &mut [u8; 65536], out: &mut [u8; 8
 
 // Reads the run and lists it, and writes out what waits. Without its end, where reading or writing fails.
 fn list(state: State) {
-    let mut hold = io::large_buffer();
+    let mut buf = [0u8; 65536];
+    let mut hold = [0u8; 65536];
     let mut out = [0u8; 8192];
-    let read = read_all(state, &mut hold, &mut out);
+    let read = read_all(state, &mut buf, &mut hold, &mut out);
     let course = read.course;
     let turns = closings(course);
     let last = close_all(read, turns, &mut hold, &mut out);
@@ -254,12 +256,16 @@ fn list(state: State) {
 }
 
 // Stages the rows shipped and opens with them. A refused table would wait nowhere, and then Open is refused too.
-fn main() {
+fn open() -> OpenAnswer {
     let mut in_force = [0u8; 8192];
     let mut waiting = [0u8; 8192];
     let rows = shipped::table();
     let staged = tables::stage(reader::new(), &mut waiting, &rows);
-    let opened = tables::open(staged.state, &mut in_force, &waiting);
+    tables::open(staged.state, &mut in_force, &waiting)
+}
+
+fn main() {
+    let opened = open();
     let answer = opened.answer;
     match answer {
         Opened::Version(_) => list(opened.state),

@@ -1,11 +1,15 @@
 // Plays a script of calls from standard input, and prints one line a call.
 ghost use Prim.Native.Nat.{_+_, _≤_};
 ghost use lib.Dec.{T};
+ghost use lib.ListN.{take};
 ghost use mathlib.Core.Path.{_≡_};
+ghost use mathlib.Core.List.{_++_};
 ghost use Rattle.play.specs.Turns.{plain};
+ghost use Rattle.replay.specs.Printed.{printed};
 use console::Course;
 use console::lines;
 use console::lines::Reading;
+use desk::Crcs;
 use desk::Desk;
 use libc::STDERR_FILENO;
 use play::Played;
@@ -84,26 +88,33 @@ fn read_call(playing: bool, line: &[u8; 270000], n: usize, given: &mut [u8; 1350
     script::read(&all[..n], given)
 }
 
+// The CRCs of the whole buffers, after a call that may write. No other line prints any.
+fn crcs_after(turn: Turn, hold: &[u8; 65536], force: &[u8; 8192], waiting: &[u8; 8192]) -> Crcs {
+    match turn {
+        Turn::Ran(_) => play::crcs(hold, force, waiting),
+        _ => Crcs {
+            hold: 0,
+            in_force: 0,
+            waiting: 0,
+        },
+    }
+}
+
 // What a line came to, as text.
-fn print(
-    p: Played,
-    hold: &[u8; 65536],
-    force: &[u8; 8192],
-    waiting: &[u8; 8192],
-    out: &mut [u8; 8192],
-    at: usize,
-) -> usize
+fn print(p: Played, c: Crcs, out: &mut [u8; 8192], at: usize) -> usize
     requires { ⌜ T (plain (p .turn)) ⌝ }
     requires { ⌜ at + 320 ≤ 8192 ⌝ }
-    ensures { λ r. ⌜ r ≤ 8192 ⌝ }
+    ensures { λ r. ⌜ r ≤ at + 320 ⌝ }
+    ensures { λ r. ⌜ take r (now (out .exit)) ≡ take at (now (out .entry)) ++ printed (p .turn) (p .desk .state) c ⌝ }
 {
     let desk = p.desk;
     let state = desk.state;
     let turn = p.turn;
     match turn {
-        Turn::Ran(reply) => show::run_line(out, at, reply, state, play::crcs(hold, force, waiting)),
+        Turn::Ran(reply) => show::run_line(out, at, reply, state, c),
         Turn::Asked(reply) => show::asks::ask_line(out, at, reply, state),
-        _ => at,
+        Turn::Quiet => at,
+        Turn::Bad => at,
     }
 }
 
@@ -118,13 +129,15 @@ fn tell_bad(turn: Turn, number: u64) {
     }
 }
 
-// A line has been played and printed.
-fn end_line(s: Script, p: Played, printed: usize) -> Script
-    requires { ⌜ (s .filled ≤ 8192) × (printed ≤ 8192) ⌝ }
+// A line has been played: it is printed, or told as a bad one.
+fn end_line(s: Script, p: Played, c: Crcs, out: &mut [u8; 8192]) -> Script
+    requires { ⌜ T (plain (p .turn)) ⌝ }
+    requires { ⌜ (s .filled ≤ 8192) × (s .at + 320 ≤ 8192) ⌝ }
     ensures { λ r. ⌜ r .filled ≤ 8192 ⌝ }
 {
     let turn = p.turn;
     tell_bad(turn, s.ended);
+    let printed = print(p, c, out, s.at);
     if !s.playing {
         return s;
     }
@@ -160,8 +173,8 @@ fn play_line(
     let desk = s.desk;
     let all: &[u8] = given;
     let played = play::call(desk, call, &all[..count], hold, force, waiting);
-    let printed = print(played, hold, force, waiting, out, s.at);
-    end_line(s, played, printed)
+    let turn = played.turn;
+    end_line(s, played, crcs_after(turn, hold, force, waiting), out)
 }
 
 // Plays line after line.

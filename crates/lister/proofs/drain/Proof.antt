@@ -9,10 +9,16 @@ use Rattle.lister.proofs.drain.Statement.{statement}
 use Rattle.lister.proofs.drain.Tie as tie
 
 abbrev Inv-loop : tie.InvT-loop
-Inv-loop hold₀ buf n out₀ all now₀ at₀ turns₀ hold out now at turns = (now .filled ≤ 8192) × (at ≤ n) × (n ≤ length all) × (n ≤ 65536)
+Inv-loop hold₀ buf out₀ all n now₀ at₀ turns₀ hold out now at turns = (now .filled ≤ 8192) × (at ≤ n) × (n ≤ length all) × (n ≤ 65536)
 
 abbrev μ-loop : tie.MeasureT-loop
-μ-loop hold₀ buf n out₀ all now₀ at₀ turns₀ hold out now at turns = turns
+μ-loop hold₀ buf out₀ all n now₀ at₀ turns₀ hold out now at turns = turns
+
+goes-on-requires : tie.Need-goes-on-requires Inv-loop μ-loop
+goes-on-requires c κs = search needs
+
+left-requires : tie.Need-left-requires Inv-loop μ-loop
+left-requires c κs = search needs
 
 loop-holds : tie.Need-loop-holds Inv-loop μ-loop
 loop-holds c = search needs
@@ -38,8 +44,8 @@ add-at c =
 list-line-requires : tie.Need-list-line-requires Inv-loop μ-loop
 list-line-requires c κs = search needs
 
-left-requires : tie.Need-left-requires Inv-loop μ-loop
-left-requires c κs = search needs
+left-requires-2 : tie.Need-left-requires-2 Inv-loop μ-loop
+left-requires-2 c κs = search needs
 
 loop-less : tie.Need-loop-less Inv-loop μ-loop
 loop-less c = search needs
@@ -56,6 +62,8 @@ drain-spec =
     (tie.spec
     Inv-loop
     μ-loop
+    goes-on-requires
+    left-requires
     loop-holds
     sub-offer
     part-offer-start
@@ -63,7 +71,7 @@ drain-spec =
     offer-requires
     add-at
     list-line-requires
-    left-requires
+    left-requires-2
     loop-less
     loop-again
     returns)

@@ -6,19 +6,19 @@ use Rattle.lister.proofs.read_all.Statement.{statement}
 use Rattle.lister.proofs.read_all.Tie as tie
 
 abbrev Inv-loop : tie.InvT-loop
-Inv-loop hold₀ out₀ buf₀ now₀ turns₀ hold out buf now turns = (now .filled ≤ 8192)
+Inv-loop buf₀ hold₀ out₀ now₀ turns₀ buf hold out now turns = (now .filled ≤ 8192)
 
 abbrev μ-loop : tie.MeasureT-loop
-μ-loop hold₀ out₀ buf₀ now₀ turns₀ hold out buf now turns = turns
-
-large-buffer-requires : tie.Need-large-buffer-requires Inv-loop μ-loop
-large-buffer-requires c κs = search needs
+μ-loop buf₀ hold₀ out₀ now₀ turns₀ buf hold out now turns = turns
 
 loop-holds : tie.Need-loop-holds Inv-loop μ-loop
 loop-holds c = search needs
 
-turn-requires : tie.Need-turn-requires Inv-loop μ-loop
-turn-requires c κs = search needs
+read-requires : tie.Need-read-requires Inv-loop μ-loop
+read-requires c κs = search needs
+
+drain-requires : tie.Need-drain-requires Inv-loop μ-loop
+drain-requires c κs = search needs
 
 goes-on-requires : tie.Need-goes-on-requires Inv-loop μ-loop
 goes-on-requires c κs = search needs
@@ -41,9 +41,9 @@ read-all-spec =
     (tie.spec
     Inv-loop
     μ-loop
-    large-buffer-requires
     loop-holds
-    turn-requires
+    read-requires
+    drain-requires
     goes-on-requires
     left-requires
     loop-less

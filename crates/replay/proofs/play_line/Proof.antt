@@ -18,8 +18,8 @@ slice-aggregate-call c =
 call-requires : tie.Need-call-requires
 call-requires c κs = search needs
 
-print-requires : tie.Need-print-requires
-print-requires c κs = search needs
+crcs-after-requires : tie.Need-crcs-after-requires
+crcs-after-requires c κs = search needs
 
 end-line-requires : tie.Need-end-line-requires
 end-line-requires c κs = search needs
@@ -34,6 +34,6 @@ play-line-spec =
     read-call-requires
     slice-aggregate-call
     call-requires
-    print-requires
+    crcs-after-requires
     end-line-requires
     returns)
