@@ -1,5 +1,5 @@
-// The calls that go on with the state, for C: Open, Feed, Finish, Stage, Withdraw. A state whose phase is none goes to the reader as
-// one that it refuses with 1.
+// The calls that go on with the state, for C: Open, Feed, Finish, Stage, Withdraw. A state whose phase is none goes to the reader
+// as one that it refuses with 1.
 ghost use mathlib.Core.Path.{_≡_};
 ghost use mathlib.Core.List.{[]};
 ghost use Rattle.capi.specs.Calls.{left, openC, feedC, finishC, stageC, withdrawC};

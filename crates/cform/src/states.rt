@@ -27,8 +27,8 @@ fn in_phase(s: CState, phase: Phase) -> State
     }
 }
 
-// The state to call the reader with. Where the phase is none, one with more held bytes than a hold may have: every call refuses it
-// with 1, so that no call has to ask for the phase.
+// The state to call the reader with. Where the phase is none, one with more held bytes than a hold may have: every call refuses
+// it with 1, so that no call has to ask for the phase.
 pub fn state_of(s: CState) -> State
     ensures { λ r. ⌜ Reads (stateOf s) r ⌝ }
 {

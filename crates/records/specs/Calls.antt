@@ -1,5 +1,5 @@
--- What the record calls answer: "Record calls 1, 5, 4, 10, 6, 7, 8, 9; the TOW and WNc calls read no table and give only 1, 10 and,
--- for L below 14, 7".
+-- What the record calls answer: "Record calls 1, 5, 4, 10, 6, 7, 8, 9; the TOW and WNc calls read no table and give only 1, 10
+-- and, for L below 14, 7".
 -- Assumes nothing.
 use Prim.Native.Nat.{ℕ}
 use mathlib.Core.Bool.{_&&_}

@@ -1,5 +1,5 @@
--- What Open, Stage and Withdraw answer and leave, and their refusals in order (document 01: "Order: Open 1, 2, 5, 4. .. Withdraw 1.
--- Stage 1, 4.").
+-- What Open, Stage and Withdraw answer and leave, and their refusals in order (document 01: "Order: Open 1, 2, 5, 4. .. Withdraw
+-- 1. Stage 1, 4.").
 -- Assumes nothing.
 use Prim.Native.Nat.{ℕ}
 use mathlib.Core.Bool.{_&&_, _||_, cond}
