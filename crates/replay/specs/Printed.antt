@@ -9,7 +9,7 @@ use Rattle.play.specs.declared.Turn.{Turn}
 use Rattle.play.specs.declared.Turn.the-variants.{Quiet, Bad, Ran, Asked}
 use Rattle.text.specs.Replies.{stateText}
 use Rattle.show.specs.Lines.{runText, crcsText}
-use Rattle.show.specs.Asks.{askText, wordNoCrcs}
+use Rattle.wording.specs.Lines.{askText, wordNoCrcs}
 
 abbrev pub printed : Turn → State → Crcs → List ℕ
 printed Quiet s c = []

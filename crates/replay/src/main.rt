@@ -112,7 +112,7 @@ fn print(p: Played, c: Crcs, out: &mut [u8; 8192], at: usize) -> usize
     let turn = p.turn;
     match turn {
         Turn::Ran(reply) => show::run_line(out, at, reply, state, c),
-        Turn::Asked(reply) => show::asks::ask_line(out, at, reply, state),
+        Turn::Asked(reply) => wording::ask_line(out, at, reply, state),
         Turn::Quiet => at,
         Turn::Bad => at,
     }

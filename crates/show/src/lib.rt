@@ -6,9 +6,6 @@ ghost use lib.ListN.{take};
 ghost use Rattle.reader.specs.Said.{took};
 ghost use Rattle.text.specs.Replies.{stateText};
 ghost use Rattle.show.specs.Lines.{oneFor, wordFed, saidText, foundBy, textOf, runText, crcsText};
-
-pub mod asks; // asks.rt: the lines of the calls that are lent nothing to write
-
 use desk::Crcs;
 use desk::RunReply;
 use reader::Counts;

@@ -7,7 +7,7 @@ use Rattle.text.specs.Lines.{spaced}
 use Rattle.text.specs.Replies.{refusedText, crcText}
 use Rattle.refusal.specs.Numbers.{numberFor}
 use Rattle.record.specs.Answer.{answerSays}
-use Rattle.show.specs.Values.{fieldText}
+use Rattle.wording.specs.Values.{fieldText}
 use Rattle.desk.specs.declared.Bytes.{Bytes}
 use Rattle.desk.specs.declared.AskReply.{AskReply}
 use Rattle.desk.specs.declared.AskReply.the-variants as ask

@@ -1,4 +1,4 @@
--- `show::asks::integer` meets its contract: a minus before a negative number.
+-- `wording::integer` meets its contract: a minus before a negative number.
 -- Assumes nothing.
 use mathlib.Core.Path.{sym, ap, _∙_}
 use mathlib.Core.List.{List, _++_}
@@ -7,15 +7,15 @@ use native.Mathlib.Omega.{arith}
 use lib.ListN.{take}
 use Rattle.text.proofs.Joins.{joined}
 use Rattle.text.specs.Lines.{spaced, decimal}
-use Rattle.show.specs.Values.{wordMinus}
+use Rattle.wording.specs.Values.{wordMinus}
 use mathlib.Core.Bool.{true, false}
 use lib.IntN.{natAbs}
 use mir.Syntax.{w64}
 use mir.ValLaws.{toZ-ofZ}
-use Rattle.show.proofs.Signs.{tested, negative-text, plain-text}
+use Rattle.wording.proofs.Signs.{tested, negative-text, plain-text}
 use borrow.Author.Needs.{needs}
-use Rattle.show.proofs.asks.integer.Statement.{statement}
-use Rattle.show.proofs.asks.integer.Tie as tie
+use Rattle.wording.proofs.integer.Statement.{statement}
+use Rattle.wording.proofs.integer.Tie as tie
 
 magnitude-requires : tie.Need-magnitude-requires
 magnitude-requires c κs = search needs

@@ -1,14 +1,14 @@
--- `show::asks::ask_line` meets its contract: the reply, the state, what stands for the CRCs.
+-- `wording::ask_line` meets its contract: the reply, the state, what stands for the CRCs.
 -- Assumes nothing.
 use mathlib.Core.List.{_++_}
 use native.Mathlib.Omega.{arith}
 use lib.ListN.{take}
 use Rattle.text.proofs.Joins.{joined}
 use Rattle.text.specs.Replies.{stateText}
-use Rattle.show.specs.Asks.{askText, wordNoCrcs}
+use Rattle.wording.specs.Lines.{askText, wordNoCrcs}
 use borrow.Author.Needs.{needs}
-use Rattle.show.proofs.asks.ask_line.Statement.{statement}
-use Rattle.show.proofs.asks.ask_line.Tie as tie
+use Rattle.wording.proofs.ask_line.Statement.{statement}
+use Rattle.wording.proofs.ask_line.Tie as tie
 
 ask-reply-requires : tie.Need-ask-reply-requires
 ask-reply-requires c κs = search needs

@@ -1,11 +1,11 @@
--- `show::asks::magnitude` meets its contract: a negative number is told from its distance below -1.
+-- `wording::magnitude` meets its contract: a negative number is told from its distance below -1.
 -- Assumes nothing.
 use native.Mathlib.Omega.{arith}
 use mathlib.Core.Bool.{true, false}
-use Rattle.show.proofs.Signs.{tested, plain-sign, plain-small, below-fits, below-plain, below-distance, below-small}
+use Rattle.wording.proofs.Signs.{tested, plain-sign, plain-small, below-fits, below-plain, below-distance, below-small}
 use borrow.Author.Needs.{needs}
-use Rattle.show.proofs.asks.magnitude.Statement.{statement}
-use Rattle.show.proofs.asks.magnitude.Tie as tie
+use Rattle.wording.proofs.magnitude.Statement.{statement}
+use Rattle.wording.proofs.magnitude.Tie as tie
 
 sub-result : tie.Need-sub-result
 sub-result c = let z = c .before .args .z in let f = c .before .fits .z in let h = tested true z f (c .if1 .taken) in below-fits z f h

@@ -1,4 +1,4 @@
--- `show::asks::field_value` meets its contract: each case is one word, most with a number.
+-- `wording::field_value` meets its contract: each case is one word, most with a number.
 -- Assumes nothing.
 use mathlib.Core.Path.{ap, _∙_, subst}
 use mathlib.Core.List.{_++_}
@@ -11,11 +11,11 @@ use mir.Syntax.{w64}
 use mir.ValLaws.{toZ-ofZ}
 use Rattle.value.specs.declared.Value.{Value}
 use Rattle.desk.specs.Plain.{noNan}
-use Rattle.show.specs.Values.{wordSingle, wordSigned, integerText}
+use Rattle.wording.specs.Values.{wordSingle, wordSigned, integerText}
 use Rattle.text.specs.Lines.{spaced}
 use borrow.Author.Needs.{needs}
-use Rattle.show.proofs.asks.field_value.Statement.{statement}
-use Rattle.show.proofs.asks.field_value.Tie as tie
+use Rattle.wording.proofs.field_value.Statement.{statement}
+use Rattle.wording.proofs.field_value.Tie as tie
 
 enum-known-v : tie.Need-enum-known-v
 enum-known-v c = search needs

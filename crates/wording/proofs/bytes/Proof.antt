@@ -1,4 +1,4 @@
--- `show::asks::bytes` meets its contract: the count, then the CRC.
+-- `wording::bytes` meets its contract: the count, then the CRC.
 -- Assumes nothing.
 use mathlib.Core.List.{_++_}
 use native.Mathlib.Omega.{arith}
@@ -6,10 +6,10 @@ use lib.ListN.{take}
 use Rattle.text.proofs.Joins.{joined}
 use Rattle.text.specs.Lines.{spaced}
 use Rattle.text.specs.Replies.{crcText}
-use Rattle.show.specs.Asks.{wordPart}
+use Rattle.wording.specs.Lines.{wordPart}
 use borrow.Author.Needs.{needs}
-use Rattle.show.proofs.asks.bytes.Statement.{statement}
-use Rattle.show.proofs.asks.bytes.Tie as tie
+use Rattle.wording.proofs.bytes.Statement.{statement}
+use Rattle.wording.proofs.bytes.Tie as tie
 
 slice-aggregate-told : tie.Need-slice-aggregate-told
 slice-aggregate-told c = search needs

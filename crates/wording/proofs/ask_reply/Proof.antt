@@ -1,4 +1,4 @@
--- `show::asks::ask_reply` meets its contract: one text for each reply.
+-- `wording::ask_reply` meets its contract: one text for each reply.
 -- Assumes nothing.
 use mathlib.Core.Path.{ap, _∙_, subst}
 use native.Mathlib.Omega.{arith}
@@ -7,8 +7,8 @@ use Rattle.record.specs.declared.Answer.{Answer}
 use Rattle.desk.specs.Plain.{noNanIn, plainly}
 use Rattle.desk.specs.declared.AskReply.{AskReply}
 use borrow.Author.Needs.{needs}
-use Rattle.show.proofs.asks.ask_reply.Statement.{statement}
-use Rattle.show.proofs.asks.ask_reply.Tie as tie
+use Rattle.wording.proofs.ask_reply.Statement.{statement}
+use Rattle.wording.proofs.ask_reply.Tie as tie
 
 enum-known-reply : tie.Need-enum-known-reply
 enum-known-reply c = search needs

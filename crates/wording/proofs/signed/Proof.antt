@@ -1,17 +1,17 @@
--- `show::asks::signed` meets its contract: the word, then the number.
+-- `wording::signed` meets its contract: the word, then the number.
 -- Assumes nothing.
 use mathlib.Core.Path.{ap, _∙_}
 use mathlib.Core.List.{_++_}
 use native.Mathlib.Omega.{arith}
 use lib.ListN.{take}
 use Rattle.text.proofs.Joins.{joined}
-use Rattle.show.specs.Values.{wordSigned, integerText}
+use Rattle.wording.specs.Values.{wordSigned, integerText}
 use lib.IntN.{ℤ}
 use mir.Syntax.{w64}
 use mir.ValLaws.{toZ-ofZ}
 use borrow.Author.Needs.{needs}
-use Rattle.show.proofs.asks.signed.Statement.{statement}
-use Rattle.show.proofs.asks.signed.Tie as tie
+use Rattle.wording.proofs.signed.Statement.{statement}
+use Rattle.wording.proofs.signed.Tie as tie
 
 slice-aggregate-put : tie.Need-slice-aggregate-put
 slice-aggregate-put c = search needs

@@ -13,7 +13,7 @@ use mir.Syntax.{w64}
 use mir.Val.{SFits, toZ, ofZ}
 use mir.ValLaws.{toZ-ofZ}
 use Rattle.text.specs.Lines.{decimal, spaced}
-use Rattle.show.specs.Values.{wordMinus, integerText}
+use Rattle.wording.specs.Values.{wordMinus, integerText}
 
 pub negative-text : (z : ℤ) → ltZ z (pos 0) ≡ true → integerText z ≡ wordMinus ++ decimal (natAbs z)
 negative-text (pos n) h = let x : ⊥ = omega (arith, ltb-true n 0 h) in absurd x
