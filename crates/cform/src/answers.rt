@@ -1,15 +1,14 @@
 // Answers as C has them, by kind. What a kind does not have is 0.
 ghost use mathlib.Core.Path.{_≡_};
 ghost use Rattle.refusal.specs.Numbers.{numberFor};
-ghost use Rattle.reader.specs.Said.{refused, ended, waited};
-ghost use Rattle.runs.specs.Said.{reportOf};
+ghost use Rattle.reader.specs.Said.{reportOf, refused, ended, waited};
 ghost use Rattle.cform.specs.Answer.{noBlock, noEnd, blockC, say, answerC};
 use crate::CAnswer;
 use crate::CBlock;
 use crate::CCounts;
+use reader::Block;
 use reader::Counts;
 use refusal::Refusal;
-use runs::Block;
 
 // An answer that has no block and no counts.
 pub fn plain(refusal: u32, kind: u32, version: u16, waited: u16, taken: usize) -> CAnswer

@@ -5,10 +5,10 @@ use native.Mathlib.Omega.{arith}
 use mathlib.Core.Path.{_≡_, refl, ap, ap₂, _∙_}
 use Rattle.refusal.specs.Numbers.{numberFor}
 use Rattle.refusal.proofs.Numbers.{same-refusal}
-use Rattle.reader.specs.Said.{Report, refusalOf}
-use Rattle.runs.specs.Said.{reportOf, saidFed, saidFinished}
+use Rattle.reader.specs.Said.{Report, reportOf, refusalOf}
+use Rattle.runs.specs.Said.{saidFed, saidFinished}
 use Rattle.tables.specs.Said.{saidOpened, saidStaged, saidWithdrawn}
-use Rattle.runs.specs.declared.Block.{Block}
+use Rattle.reader.specs.declared.Block.{Block}
 use Rattle.reader.specs.declared.Check.{Check}
 use Rattle.reader.specs.declared.Check.the-variants as check
 use Rattle.tables.specs.declared.Opened.{Opened}

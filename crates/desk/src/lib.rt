@@ -4,18 +4,14 @@ ghost use mathlib.Core.Path.{_≡_};
 ghost use Prim.Native.Nat.{min};
 ghost use lib.ListN.{length};
 ghost use Rattle.io.specs.Counts.{Counts};
+use reader::Block;
 use reader::Phase;
 use reader::Run;
 use reader::State;
 use record::Answer;
 use refusal::Refusal;
-use runs::Fed;
-use runs::Finished;
 use script::Buffer;
 use script::Part;
-use tables::Opened;
-use tables::Staged;
-use tables::Withdrawn;
 
 // More than any buffer has: all of it is lent.
 const WHOLE: usize = 0xffff_ffff_ffff_ffff;
@@ -27,13 +23,17 @@ pub struct Desk {
     pub waiting: usize,
 }
 
-// What a call replies that may write.
+// What a call replies that may write: Open, Stage and Withdraw, Feed without a block and with one, Finish with a block and at the
+// end, or a refusal, whichever call it was.
 pub enum RunReply {
-    Opened(Opened),
-    Fed(Fed),
-    Finished(Finished),
-    Staged(Staged),
-    Withdrawn(Withdrawn),
+    Opened(u16),
+    Staged(u16),
+    Withdrawn(bool),
+    More(usize),
+    Fed(usize, Block),
+    Found(Block),
+    End(reader::Counts),
+    Refused(Refusal),
 }
 
 // Bytes that were handed back: how many, and their CRC.

@@ -6,6 +6,9 @@ ghost use lib.ListN.{length};
 ghost use Rattle.crc.specs.Crc.{crcOf};
 ghost use Rattle.desk.specs.Plain.{noNanIn, plainly};
 ghost use Rattle.play.specs.Turns.{plain};
+
+mod replies; // replies.rt: what a call that may write answered, as a reply
+
 use desk::AskReply;
 use desk::Bytes;
 use desk::Crcs;
@@ -75,27 +78,27 @@ fn run_on(
         Run::Open => {
             let r = tables::open(s, force, waiting);
             let answer = r.answer;
-            ran(r.state, RunReply::Opened(answer))
+            ran(r.state, replies::opened(answer))
         }
         Run::Feed => {
             let r = runs::feed(s, hold, given);
             let answer = r.answer;
-            ran(r.state, RunReply::Fed(answer))
+            ran(r.state, replies::fed(answer))
         }
         Run::Finish => {
             let r = runs::finish(s, hold);
             let answer = r.answer;
-            ran(r.state, RunReply::Finished(answer))
+            ran(r.state, replies::finished(answer))
         }
         Run::Stage => {
             let r = tables::stage(s, waiting, given);
             let answer = r.answer;
-            ran(r.state, RunReply::Staged(answer))
+            ran(r.state, replies::staged(answer))
         }
         Run::Withdraw => {
             let r = tables::withdraw(s);
             let answer = r.answer;
-            ran(r.state, RunReply::Withdrawn(answer))
+            ran(r.state, replies::withdrawn(answer))
         }
     }
 }

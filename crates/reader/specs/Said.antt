@@ -5,6 +5,7 @@ use Prim.Native.Nat.{ℕ}
 use mathlib.Core.Bool.{Bool}
 use mathlib.Core.Option.{Option, none, some}
 use Rattle.refusal.specs.Numbers.{numberFor}
+use Rattle.reader.specs.declared.Block.{Block}
 use Rattle.reader.specs.declared.Counts.{Counts}
 use Rattle.reader.specs.declared.Check.{Check}
 use Rattle.reader.specs.declared.Check.the-variants as check
@@ -15,6 +16,9 @@ pub record Report : Type 0 where
   pub number : ℕ
   pub revision : ℕ
   pub size : ℕ
+
+abbrev pub reportOf : Block → Report
+reportOf b = record { place = b .place; number = b .number; revision = b .revision; size = b .length }
 
 pub data Said : Type 0 where
   refused : ℕ → Said

@@ -24,6 +24,14 @@ pub struct Counts {
     pub skipped: usize,
 }
 
+// What is reported of a block.
+pub struct Block {
+    pub place: usize,
+    pub number: u16,
+    pub revision: u16,
+    pub length: usize,
+}
+
 // A run, open or closed: its phase, how many bytes of the hold count, how many of these are the standing block, and its counts.
 pub struct Run {
     pub phase: Phase,

@@ -2,15 +2,11 @@
 -- Assumes nothing.
 use mathlib.Core.Option.{none, some}
 use Rattle.refusal.specs.Numbers.{numberFor}
-use Rattle.reader.specs.Said.{Report, Said, refused, took, found, ended}
-use Rattle.runs.specs.declared.Block.{Block}
+use Rattle.reader.specs.Said.{Said, reportOf, refused, took, found, ended}
 use Rattle.runs.specs.declared.Fed.{Fed}
 use Rattle.runs.specs.declared.Fed.the-variants as fed
 use Rattle.runs.specs.declared.Finished.{Finished}
 use Rattle.runs.specs.declared.Finished.the-variants as finished
-
-abbrev pub reportOf : Block → Report
-reportOf b = record { place = b .place; number = b .number; revision = b .revision; size = b .length }
 
 abbrev pub saidFed : Fed → Said
 saidFed (fed.Block t b) = took t (some (reportOf b))

@@ -3,29 +3,22 @@ ghost use mathlib.Core.Path.{_≡_};
 ghost use mathlib.Core.Option.{none};
 ghost use Prim.Native.Nat.{_≤_};
 ghost use lib.ListN.{length};
-ghost use Rattle.reader.specs.Said.{refusalOf};
+ghost use Rattle.reader.specs.Said.{reportOf, refusalOf};
 ghost use Rattle.reader.specs.Outcome.{outcome};
-ghost use Rattle.runs.specs.Said.{reportOf, saidFed, saidFinished};
+ghost use Rattle.runs.specs.Said.{saidFed, saidFinished};
 ghost use Rattle.runs.specs.Refusals.{feedRefusal, finishRefusal, bytesRefusal};
 ghost use Rattle.runs.specs.Calls.{feedingOf, feedingBy, feedOf, finishingOf, finishingBy, finishOf, bytesOf};
 ghost use Rattle.runs.specs.Code.{reportAt, phaseBy};
 
 mod refusals; // refusals.rt: the refusals of each call, in their order
 
+use reader::Block;
 use reader::Check;
 use reader::Counts;
 use reader::Phase;
 use reader::State;
 use reader::after;
 use refusal::Refusal;
-
-// What is reported of a block.
-pub struct Block {
-    pub place: usize,
-    pub number: u16,
-    pub revision: u16,
-    pub length: usize,
-}
 
 // How many bytes were taken, with a block or with none.
 pub enum Fed {

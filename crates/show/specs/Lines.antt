@@ -1,22 +1,15 @@
 -- The lines of the calls that may write, byte by byte: "ANSWER | phase force waits held stands taken blocks skipped | H F W".
 -- Assumes nothing.
 use Prim.Native.Nat.{ℕ}
-use mathlib.Core.Bool.{Bool, true, false}
+use mathlib.Core.Bool.{Bool, true, false, cond}
 use mathlib.Core.List.{List, [], _∷_, _++_}
-use mathlib.Core.Option.{Option, none, some}
+use mathlib.Core.Option.{none, some}
 use Rattle.text.specs.Lines.{spaced, newline, blockWords, endWords}
 use Rattle.text.specs.Replies.{refusedText, wordBar, crcText}
-use Rattle.refusal.specs.Numbers.{numberFor}
-use Rattle.reader.specs.Said.{Report, Said, refused, version, took, found, ended, waited}
-use Rattle.runs.specs.Said.{reportOf, saidFed, saidFinished}
-use Rattle.tables.specs.Said.{saidOpened, saidStaged, saidWithdrawn}
+use Rattle.reader.specs.Said.{Said, refused, version, took, found, ended, waited}
 use Rattle.desk.specs.declared.Crcs.{Crcs}
 use Rattle.desk.specs.declared.RunReply.{RunReply}
-use Rattle.desk.specs.declared.RunReply.the-variants as run
-use Rattle.show.specs.declared.Found.{Found}
-use Rattle.show.specs.declared.Found.the-variants as feeding
-use Rattle.show.specs.declared.Says.{Says}
-use Rattle.show.specs.declared.Says.the-variants as says
+use Rattle.desk.specs.Says.{replySays, isStaged}
 
 -- `opened`
 abbrev pub wordOpened : List ℕ
@@ -65,23 +58,4 @@ crcsText c = wordBar ++ crcText (c .hold) ++ crcText (c .«in_force») ++ crcTex
 
 -- what the call replies
 abbrev pub runText : RunReply → List ℕ
-runText (run.Opened a) = saidText wordOpened (saidOpened a)
-runText (run.Fed a) = saidText wordFed (saidFed a)
-runText (run.Finished a) = saidText wordFed (saidFinished a)
-runText (run.Staged a) = saidText wordStaged (saidStaged a)
-runText (run.Withdrawn a) = saidText wordStaged (saidWithdrawn a)
-
--- what Feed found, as it says it
-abbrev pub foundBy : Found → Option Report
-foundBy feeding.More = none
-foundBy (feeding.Block b) = some (reportOf b)
-
--- the same, told apart by what is said and not by the call: a working definition, cited by inner functions alone
-abbrev pub textOf : Says → List ℕ
-textOf (says.Opened v) = saidText wordOpened (version v)
-textOf (says.Staged v) = saidText wordStaged (version v)
-textOf (says.Withdrawn b) = saidText wordStaged (waited b)
-textOf (says.Fed t f) = saidText wordFed (took t (foundBy f))
-textOf (says.Block b) = saidText wordFed (found (reportOf b))
-textOf (says.End c) = saidText wordFed (ended c)
-textOf (says.Refused r) = saidText wordFed (refused (numberFor r))
+runText r = saidText (cond (isStaged r) wordStaged wordOpened) (replySays r)

@@ -4,15 +4,15 @@ ghost use lib.ListN.{length, take};
 ghost use mathlib.Core.Path.{_≡_};
 ghost use mathlib.Core.List.{_++_};
 ghost use Rattle.refusal.specs.Numbers.{numberFor};
-ghost use Rattle.runs.specs.Said.{reportOf};
+ghost use Rattle.reader.specs.Said.{reportOf};
 ghost use Rattle.text.specs.Lines.{decimal, spaced, blockWords, blockLine, countsText, endWords, endLine};
 ghost use Rattle.text.specs.Replies.{refusedText, phaseFor, stateText, crcText};
 ghost use Rattle.text.specs.Samples.{Samples};
+use reader::Block;
 use reader::Counts;
 use reader::Phase;
 use reader::State;
 use refusal::Refusal;
-use runs::Block;
 
 // The lister's longest line: the word `block`, four numbers with a space before each, and the line's end.
 pub const ROOM: usize = 90;

@@ -11,8 +11,8 @@ use borrow.Author.Needs.{needs}
 use Rattle.show.proofs.print.Statement.{statement}
 use Rattle.show.proofs.print.Tie as tie
 
-enum-known-said : tie.Need-enum-known-said
-enum-known-said c = search needs
+enum-known-reply : tie.Need-enum-known-reply
+enum-known-reply c = search needs
 
 slice-aggregate-told : tie.Need-slice-aggregate-told
 slice-aggregate-told c = search needs
@@ -23,8 +23,8 @@ cast-told c = search needs
 told-requires : tie.Need-told-requires
 told-requires c κs = search needs
 
-enum-known-said-2 : tie.Need-enum-known-said-2
-enum-known-said-2 c = search needs
+enum-known-reply-2 : tie.Need-enum-known-reply-2
+enum-known-reply-2 c = search needs
 
 slice-aggregate-told-2 : tie.Need-slice-aggregate-told-2
 slice-aggregate-told-2 c = search needs
@@ -35,8 +35,8 @@ cast-told-2 c = search needs
 told-requires-2 : tie.Need-told-requires-2
 told-requires-2 c κs = search needs
 
-enum-known-said-3 : tie.Need-enum-known-said-3
-enum-known-said-3 c = search needs
+enum-known-reply-3 : tie.Need-enum-known-reply-3
+enum-known-reply-3 c = search needs
 
 slice-aggregate-told-3 : tie.Need-slice-aggregate-told-3
 slice-aggregate-told-3 c = search needs
@@ -47,26 +47,32 @@ one-for-requires c κs = search needs
 told-requires-3 : tie.Need-told-requires-3
 told-requires-3 c κs = search needs
 
-enum-known-said-4 : tie.Need-enum-known-said-4
-enum-known-said-4 c = search needs
+enum-known-reply-4 : tie.Need-enum-known-reply-4
+enum-known-reply-4 c = search needs
+
+more-words-requires : tie.Need-more-words-requires
+more-words-requires c κs = search needs
+
+enum-known-reply-5 : tie.Need-enum-known-reply-5
+enum-known-reply-5 c = search needs
 
 fed-words-requires : tie.Need-fed-words-requires
 fed-words-requires c κs = search needs
 
-enum-known-said-5 : tie.Need-enum-known-said-5
-enum-known-said-5 c = search needs
+enum-known-reply-6 : tie.Need-enum-known-reply-6
+enum-known-reply-6 c = search needs
 
 block-words-requires : tie.Need-block-words-requires
 block-words-requires c κs = search needs
 
-enum-known-said-6 : tie.Need-enum-known-said-6
-enum-known-said-6 c = search needs
+enum-known-reply-7 : tie.Need-enum-known-reply-7
+enum-known-reply-7 c = search needs
 
 end-words-requires : tie.Need-end-words-requires
 end-words-requires c κs = search needs
 
-enum-known-said-7 : tie.Need-enum-known-said-7
-enum-known-said-7 c = search needs
+enum-known-reply-8 : tie.Need-enum-known-reply-8
+enum-known-reply-8 c = search needs
 
 refused-requires : tie.Need-refused-requires
 refused-requires c κs = search needs
@@ -74,62 +80,75 @@ refused-requires c κs = search needs
 returns : tie.Need-returns
 returns c =
     let b = c .before .before .before .before .before .before in
-    (omega (arith, c .told .ensures .0, b .pre), rw (c .before .before .before .before .said .given .1) (c .told .ensures .1))
+    (omega (arith, c .told .ensures .0, b .pre), rw (c .before .before .before .before .reply .given .1) (c .told .ensures .1))
 
 returns-2 : tie.Need-returns-2
 returns-2 c =
     let b = c .before .before .before .before .before .before in
-    (omega (arith, c .told2 .ensures .0, b .pre), rw (c .before .before .before .before .said2 .given .1) (c .told2 .ensures .1))
+    (omega (arith, c .told2 .ensures .0, b .pre), rw (c .before .before .before .before .reply2 .given .1) (c .told2 .ensures .1))
 
 returns-3 : tie.Need-returns-3
 returns-3 c =
     let b = c .before .before .before .before .before .before .before in
     let e = ap (λ (m : ℕ). take (b .args .at) (b .args .out .now) ++ (wordWithdrawn ++ spaced m)) (c .before .one-for .ensures) in
-    (omega (arith, c .told3 .ensures .0, b .pre), rw (c .before .before .before .before .before .said3 .given .1) (c .told3 .ensures .1 ∙ e))
+    let k = c .before .before .before .before .before .reply3 in
+    (omega (arith, c .told3 .ensures .0, b .pre), rw (k .given .1) (c .told3 .ensures .1 ∙ e))
 
 returns-4 : tie.Need-returns-4
 returns-4 c =
     let b = c .before .before .before .before .before in
-    (omega (arith, c .fed-words .ensures .0, b .pre), rw (c .before .before .before .said4 .given .1) (c .fed-words .ensures .1))
+    let k = c .before .before .before .reply4 in
+    (omega (arith, c .more-words .ensures .0, b .pre), rw (k .given .1) (c .more-words .ensures .1))
 
 returns-5 : tie.Need-returns-5
 returns-5 c =
     let b = c .before .before .before .before .before in
-    (omega (arith, c .block-words .ensures .0, b .pre), rw (c .before .before .before .said5 .given .1) (c .block-words .ensures .1))
+    let k = c .before .before .before .reply5 in
+    (omega (arith, c .fed-words .ensures .0, b .pre), rw (k .given .1) (c .fed-words .ensures .1))
 
 returns-6 : tie.Need-returns-6
 returns-6 c =
     let b = c .before .before .before .before .before in
-    (omega (arith, c .end-words .ensures .0, b .pre), rw (c .before .before .before .said6 .given .1) (c .end-words .ensures .1))
+    let k = c .before .before .before .reply6 in
+    (omega (arith, c .block-words .ensures .0, b .pre), rw (k .given .1) (c .block-words .ensures .1))
 
 returns-7 : tie.Need-returns-7
 returns-7 c =
     let b = c .before .before .before .before .before in
-    (omega (arith, c .refused .ensures .0, b .pre), rw (c .before .before .before .said7 .given .1) (c .refused .ensures .1))
+    let k = c .before .before .before .reply7 in
+    (omega (arith, c .end-words .ensures .0, b .pre), rw (k .given .1) (c .end-words .ensures .1))
+
+returns-8 : tie.Need-returns-8
+returns-8 c =
+    let b = c .before .before .before .before .before in
+    let k = c .before .before .before .reply8 in
+    (omega (arith, c .refused .ensures .0, b .pre), rw (k .given .1) (c .refused .ensures .1))
 
 pub print-spec : {M : Type 1} → statement M
 print-spec =
     tie.close
     (tie.spec
-    enum-known-said
+    enum-known-reply
     slice-aggregate-told
     cast-told
     told-requires
-    enum-known-said-2
+    enum-known-reply-2
     slice-aggregate-told-2
     cast-told-2
     told-requires-2
-    enum-known-said-3
+    enum-known-reply-3
     slice-aggregate-told-3
     one-for-requires
     told-requires-3
-    enum-known-said-4
+    enum-known-reply-4
+    more-words-requires
+    enum-known-reply-5
     fed-words-requires
-    enum-known-said-5
+    enum-known-reply-6
     block-words-requires
-    enum-known-said-6
+    enum-known-reply-7
     end-words-requires
-    enum-known-said-7
+    enum-known-reply-8
     refused-requires
     returns
     returns-2
@@ -137,4 +156,5 @@ print-spec =
     returns-4
     returns-5
     returns-6
-    returns-7)
+    returns-7
+    returns-8)

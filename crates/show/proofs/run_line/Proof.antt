@@ -1,8 +1,6 @@
 -- `show::run_line` meets its contract: the reply, the state, the CRCs.
 -- Assumes nothing.
-use mathlib.Core.Path.{ap, _∙_}
-use mathlib.Core.List.{List, _++_}
-use Prim.Native.Nat.{ℕ}
+use mathlib.Core.List.{_++_}
 use native.Mathlib.Omega.{arith}
 use lib.ListN.{take}
 use Rattle.text.proofs.Joins.{joined}
@@ -11,9 +9,6 @@ use Rattle.show.specs.Lines.{runText, crcsText}
 use borrow.Author.Needs.{needs}
 use Rattle.show.proofs.run_line.Statement.{statement}
 use Rattle.show.proofs.run_line.Tie as tie
-
-said-in-requires : tie.Need-said-in-requires
-said-in-requires c κs = search needs
 
 print-requires : tie.Need-print-requires
 print-requires c κs = search needs
@@ -26,16 +21,15 @@ crcs-requires c κs = search needs
 
 returns : tie.Need-returns
 returns c =
-    let b = c .before .before .before .before .before .before .before in
+    let b = c .before .before .before .before .before .before in
     let a = b .args in
     let x = take (a .at) (a .out .now) in
     let w = c .before .before .before .before .print .ensures in
-    let e = ap (λ (l : List ℕ). x ++ l) (c .before .before .before .before .before .said-in .ensures) in
     let n = c .before .before .state-of .ensures in
     let y = runText (a .reply) in (
       omega (arith, c .crcs .ensures .0, n .0, w .0, b .pre),
-      joined x (y ++ stateText (a .state)) (crcsText (a .c)) (joined x y (stateText (a .state)) (w .1 ∙ e) (n .1)) (c .crcs .ensures .1),
+      joined x (y ++ stateText (a .state)) (crcsText (a .c)) (joined x y (stateText (a .state)) (w .1) (n .1)) (c .crcs .ensures .1),
     )
 
 pub run-line-spec : {M : Type 1} → statement M
-run-line-spec = tie.close (tie.spec said-in-requires print-requires state-of-requires crcs-requires returns)
+run-line-spec = tie.close (tie.spec print-requires state-of-requires crcs-requires returns)

@@ -2,7 +2,7 @@
 -- Assumes nothing.
 use native.Mathlib.Omega.{arith}
 use lib.ListN.{take}
-use Rattle.runs.specs.Said.{reportOf}
+use Rattle.reader.specs.Said.{reportOf}
 use Rattle.text.specs.Lines.{blockWords, newline}
 use Rattle.text.proofs.Joins.{joined}
 use borrow.Author.Needs.{needs}
