@@ -28,6 +28,7 @@ isStaged (run.Found b) = false
 isStaged (run.End c) = false
 isStaged (run.Refused r) = false
 
+-- whether a call answered a version at all
 abbrev pub isVersion : Said → Bool
 isVersion (refused n) = false
 isVersion (version v) = true

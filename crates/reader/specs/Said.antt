@@ -1,5 +1,5 @@
--- What a call answers, in document 01's words and numbers. How each answer of the code is read stands beside its call; no two
--- answers of one call read the same.
+-- What a call answers, in document 01's words and numbers. How a block's report is read stands here, and how each answer of the
+-- code is read beside its call; no two answers of one call read the same.
 -- Assumes nothing.
 use Prim.Native.Nat.{ℕ}
 use mathlib.Core.Bool.{Bool}

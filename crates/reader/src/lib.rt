@@ -1,5 +1,5 @@
-// A reader's state, what refusal 1 asks of it, and whether a call is refused. The calls are those of `tables`, `runs` and
-// `records`.
+// A reader's state, what is reported of a block, what refusal 1 asks of the state, and whether a call is refused. The calls are
+// those of `tables`, `runs` and `records`.
 ghost use mathlib.Core.Path.{_≡_};
 ghost use mathlib.Core.Option.{none};
 ghost use Rattle.reader.specs.State.{noCounts, newState, sound};

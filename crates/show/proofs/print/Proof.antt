@@ -1,4 +1,4 @@
--- `show::print` meets its contract: one text for each thing that is said.
+-- `show::print` meets its contract: one text for each reply.
 -- Assumes nothing.
 use mathlib.Core.Path.{ap, _∙_}
 use mathlib.Core.List.{_++_}
