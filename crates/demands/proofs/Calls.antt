@@ -8,10 +8,10 @@ use mathlib.Core.List.{List, [], _++_, append-nil, append-assoc}
 use mathlib.Core.Option.{Option, none, some}
 use lib.ListN.{length, take, drop, length-append}
 use lib.Seq.{length-take-le, drop-append-le, drop-drop}
-use Rattle.scan.specs.Settle.{settle, judgedLast}
+use Rattle.scan.specs.Settle.{settle}
 use Rattle.scan.specs.Feed.{Feeding, feedLit, stop, size}
 use Rattle.framing.specs.ReadRun.{Block, readRun}
-use Rattle.frame.specs.Judge.{judged}
+use Rattle.frame.specs.Judge.{judged, judgedLast}
 use Rattle.scan.proofs.Stable.{judging, last-fits}
 use Rattle.scan.proofs.Settling.{settle-rest, settle-front}
 use Rattle.scan.proofs.Calls as calls

@@ -4,8 +4,8 @@ use mathlib.Core.Path.{_≡_, refl}
 use Rattle.crc.specs.Crc.{crcOf, crcFrom, crcByte, crcBits8, crcBit}
 use Rattle.wire.specs.Little.{littleAt}
 use Rattle.frame.specs.Frame.{syncAt, allowed, endsWithin, crcRight, frameAt, wholeFrame}
-use Rattle.frame.specs.Judge.{judged}
-use Rattle.scan.specs.Settle.{settle, judgedLast}
+use Rattle.frame.specs.Judge.{judged, judgedLast}
+use Rattle.scan.specs.Settle.{settle}
 use Rattle.scan.specs.Feed.{feedBy}
 use Rattle.scan.specs.Passed.{countAll}
 use Rattle.feed.specs.Hold.{restOf}

@@ -9,9 +9,9 @@ use mathlib.Core.Logic.{_⊎_, inl, inr}
 use mathlib.Core.Option.{Option, none, some}
 use lib.ListN.{length, length-drop}
 use borrow.Author.Tests.{le-leb}
-use Rattle.scan.specs.Settle.{settle, judgedLast}
+use Rattle.scan.specs.Settle.{settle}
 use Rattle.scan.specs.Feed.{feedLit, stop, size}
-use Rattle.frame.specs.Judge.{judged}
+use Rattle.frame.specs.Judge.{judged, judgedLast}
 use Rattle.scan.proofs.Settling.{settle-rest}
 use Rattle.scan.proofs.Calls.{Took, fed-took}
 use Rattle.frame.proofs.Tests.{lt?}

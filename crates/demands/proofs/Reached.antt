@@ -6,10 +6,10 @@ use mathlib.Core.Path.{_≡_, ap, subst, subst⁻¹}
 use mathlib.Core.Bool.{true}
 use mathlib.Core.List.{List, [], _∷_, _++_}
 use lib.ListN.{length, take, drop, length-append}
-use Rattle.scan.specs.Settle.{settle, judgedLast}
+use Rattle.scan.specs.Settle.{settle}
 use Rattle.scan.specs.Feed.{Feeding, feedLit}
 use Rattle.feed.proofs.Bounds.{append-bytes, take-bytes, drop-bytes}
-use Rattle.frame.specs.Judge.{judged}
+use Rattle.frame.specs.Judge.{judged, judgedLast}
 use Rattle.scan.proofs.Settling.{settle-rest}
 use Rattle.scan.proofs.Calls.{fed-holds}
 use Rattle.feed.specs.Hold.{restOf, holdOf}

@@ -6,7 +6,8 @@ use mathlib.Core.Bool.{true, _&&_}
 use mathlib.Core.List.{List, [], _∷_, _++_, append-nil, append-assoc}
 use mathlib.Core.Option.{Option, none, some}
 use lib.ListN.{length, drop, length-append}
-use Rattle.scan.specs.Settle.{settle, judgedLast}
+use Rattle.frame.specs.Judge.{judgedLast}
+use Rattle.scan.specs.Settle.{settle}
 use Rattle.scan.specs.Feed.{Feeding, stop, size}
 use Rattle.framing.specs.ReadRun.{Block, Reading, readRun}
 use Rattle.framing.proofs.Reading.{both, read-end, last-empty}

@@ -10,11 +10,11 @@ use mathlib.Core.Option.{Option, none, some}
 use lib.ListN.{length, drop}
 use lib.Dec.{ltb}
 use borrow.Author.Tests.{le-leb}
-use Rattle.scan.specs.Settle.{settle, judgedLast}
+use Rattle.scan.specs.Settle.{settle}
 use Rattle.scan.specs.Feed.{Feeding, feedLit, stop, size}
 use Rattle.frame.proofs.Tests.{both-true}
 use Rattle.feed.proofs.Bounds.{take-bytes, drop-bytes, fed-held}
-use Rattle.frame.specs.Judge.{judged}
+use Rattle.frame.specs.Judge.{judged, judgedLast}
 use Rattle.scan.proofs.Stable.{judging}
 use Rattle.scan.proofs.Calls.{call, settle-sum}
 use Rattle.feed.specs.Hold.{restOf}

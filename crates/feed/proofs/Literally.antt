@@ -7,9 +7,9 @@ use native.Mathlib.Nat.{zero-add}
 use native.Mathlib.Omega.{arith}
 use lib.ListN.{length, take, drop, length-drop}
 use lib.Seq.{length-take-le, take-all, take-at, take-append-add, drop-append-le, paste}
-use Rattle.frame.specs.Judge.{judged}
+use Rattle.frame.specs.Judge.{judged, judgedLast}
 use Rattle.frame.proofs.Tests.{lt?}
-use Rattle.scan.specs.Settle.{Settled, settle, judgedLast}
+use Rattle.scan.specs.Settle.{Settled, settle}
 use Rattle.scan.specs.Feed.{Feeding, feedLit, stop, size}
 use Rattle.scan.specs.Passed.{foundOf}
 use Rattle.scan.specs.declared.Found.{Found}

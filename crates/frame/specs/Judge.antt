@@ -1,4 +1,5 @@
--- What stands at a place, as far as the bytes from there on show (document 01, 'Reading a run').
+-- What stands at a place, as far as the bytes from there on show, while the run is fed and when it is finished (document 01,
+-- 'Reading a run').
 -- Assumes nothing.
 use Prim.Native.Nat.{ℕ}
 use mathlib.Core.List.{List}
@@ -6,7 +7,7 @@ use mathlib.Core.Bool.{not, cond}
 use lib.ListN.{length, getD}
 use lib.Dec.{ltb, eqb}
 use Rattle.frame.specs.Frame.{lengthAt, allowed, crcRight}
-use Rattle.frame.specs.declared.Reason.the-variants.{NoSync, LengthNotAllowed, CrcWrong}
+use Rattle.frame.specs.declared.Reason.the-variants.{NoSync, LengthNotAllowed, CrcWrong, FewLeft, PastEnd}
 use Rattle.frame.specs.declared.Verdict.{Verdict}
 use Rattle.frame.specs.declared.Verdict.the-variants.{NoFrame, Frame, Undecided}
 
@@ -22,3 +23,13 @@ judged v =
     (cond (not (allowed (lengthAt v 0))) (NoFrame LengthNotAllowed)
     (cond (ltb (length v) (lengthAt v 0)) Undecided
     (cond (crcRight v 0) (Frame (lengthAt v 0)) (NoFrame (CrcWrong (lengthAt v 0))))))))))
+
+-- "When the run is finished, a header whose length passes the end is no frame": then every place is decided. A last byte alone
+-- is no sync pair
+abbrev pub lastBy : Verdict → List ℕ → Verdict
+lastBy (NoFrame r) v = NoFrame r
+lastBy (Frame n) v = Frame n
+lastBy Undecided v = NoFrame (cond (ltb (length v) 2) NoSync (cond (ltb (length v) 8) FewLeft PastEnd))
+
+unfoldable pub judgedLast : List ℕ → Verdict
+judgedLast v = lastBy (judged v) v

@@ -7,7 +7,7 @@ ghost use lib.ListN.{length, getD, take, drop};
 ghost use Rattle.crc.specs.Crc.{crcOf};
 ghost use Rattle.wire.specs.Little.{littleAt};
 ghost use Rattle.frame.specs.Frame.{allowed, frameAt, lengthAt, wholeFrame};
-ghost use Rattle.frame.specs.Judge.{judged};
+ghost use Rattle.frame.specs.Judge.{judged, judgedLast};
 
 // Why no frame stands at a place.
 pub enum Reason {
@@ -114,6 +114,25 @@ pub fn judge(a: &[u8], b: &[u8]) -> Verdict
         Verdict::Frame(n)
     } else {
         Verdict::NoFrame(Reason::CrcWrong(n))
+    }
+}
+
+// What stands at the front of the run's last bytes.
+pub fn judge_last(s: &[u8]) -> Verdict
+    ensures { λ r. ⌜ r ≡ judgedLast (now (s .entry)) ⌝ }
+{
+    let v = judge(s, b"");
+    match v {
+        Verdict::Undecided => {
+            if s.len() < 2 {
+                Verdict::NoFrame(Reason::NoSync)
+            } else if s.len() < 8 {
+                Verdict::NoFrame(Reason::FewLeft)
+            } else {
+                Verdict::NoFrame(Reason::PastEnd)
+            }
+        }
+        _ => v,
     }
 }
 

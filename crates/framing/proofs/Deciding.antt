@@ -9,7 +9,7 @@ use lib.ListN.{length, getD, List·getD-eq-default}
 use lib.Dec.{ltb, eqb}
 use borrow.Author.Tests.{eq-eqb, ne-eqb, eqb-true, ltb-true, ltb-false, lt-ltb, le-ltb}
 use Rattle.frame.specs.Frame.{syncAt, lengthAt}
-use Rattle.frame.specs.Judge.{judged}
+use Rattle.frame.specs.Judge.{judged, lastBy, judgedLast}
 use Rattle.frame.specs.declared.Reason.{Reason}
 use Rattle.frame.specs.declared.Reason.the-variants.{NoSync, LengthNotAllowed, CrcWrong, FewLeft, PastEnd}
 use Rattle.frame.specs.declared.Verdict.{Verdict}
@@ -17,8 +17,8 @@ use Rattle.frame.specs.declared.Verdict.the-variants.{NoFrame, Frame, Undecided
 use Rattle.frame.proofs.Tests.{bool?, lt?, both-left, both-right, both-true, never}
 use Rattle.frame.proofs.Cases.{short, part}
 use Rattle.frame.proofs.View.{Head, View, waits-head, waits-body, at-sync0, at-sync1, at-length, at-bad, at-good, view}
-use Rattle.scan.specs.Settle.{lastBy, judgedLast}
-use Rattle.scan.proofs.Stable.{judging, last-ends, last-decides, frame-last, last-frame}
+use Rattle.scan.proofs.Stable.{judging, last-decides, frame-last, last-frame}
+use Rattle.frame.proofs.Last.{last-ends}
 use Rattle.framing.specs.Theorems.{Decided, first-wrong, second-wrong, length-wrong, all-there, DecidedExactly, Few, Past, LastRight}
 
 -- ---- while the run is fed

@@ -12,13 +12,13 @@ use native.Mathlib.Omega.{arith}
 use lib.ListN.{length, take, drop, getD, length-append}
 use lib.Seq.{drop-append-le, take-append-le, append-snoc, drop-drop, drop-length, drop-cons}
 use Rattle.frame.specs.Frame.{lengthAt, frameAt}
-use Rattle.frame.specs.Judge.{judged}
+use Rattle.frame.specs.Judge.{judged, judgedLast}
 use Rattle.frame.specs.declared.Reason.{Reason}
 use Rattle.frame.specs.declared.Verdict.{Verdict}
 use Rattle.frame.specs.declared.Verdict.the-variants.{NoFrame, Frame, Undecided}
 use Rattle.frame.proofs.Tests.{bool?}
 use Rattle.frame.proofs.Standing.{front-judged, judged-front}
-use Rattle.scan.specs.Settle.{Settled, settleBy, settle, judgedLast}
+use Rattle.scan.specs.Settle.{Settled, settleBy, settle}
 use Rattle.scan.specs.Feed.{Feeding, unlessBlock, feedBy, feedLit, size}
 use Rattle.scan.proofs.Judging.{There}
 use Rattle.scan.proofs.Stable.{judging, frame-last, last-frame, last-decides}

@@ -7,10 +7,9 @@ use mathlib.Core.Bool.{true, false}
 use Prim.Native.Nat.{ℕ, _+_, _≤_, _<_, min}
 use lib.ListN.{length, getD, take, drop}
 use Rattle.frame.specs.Frame.{syncAt, lengthAt, allowed, frameAt}
-use Rattle.frame.specs.Judge.{judged}
+use Rattle.frame.specs.Judge.{judged, judgedLast}
 use Rattle.frame.specs.declared.Reason.the-variants.{NoSync, FewLeft, PastEnd}
 use Rattle.frame.specs.declared.Verdict.the-variants.{NoFrame, Frame, Undecided}
-use Rattle.scan.specs.Settle.{judgedLast}
 use Rattle.scan.specs.Feed.{feedLit}
 use Rattle.framing.specs.ReadRun.{Reading, nothingRead, blockThen, skipThen, blockAt, readRun}
 

@@ -10,9 +10,9 @@ use lib.Seq.{getD-take}
 use Rattle.wire.specs.Little.{littleAt}
 use Rattle.wire.proofs.Laws.{agree}
 use Rattle.frame.specs.Frame.{idAt, numberOf, revisionOf}
-use Rattle.frame.specs.Judge.{judged}
+use Rattle.frame.specs.Judge.{judged, judgedLast}
 use Rattle.frame.specs.declared.Verdict.{Verdict}
-use Rattle.scan.specs.Settle.{settle, judgedLast}
+use Rattle.scan.specs.Settle.{settle}
 use Rattle.scan.specs.Feed.{Feeding, feedLit, stop, size}
 use Rattle.scan.proofs.Judging.{There, Fits}
 use Rattle.scan.proofs.Stable.{judging, last-fits}

@@ -5,7 +5,8 @@ use mathlib.Core.List.{List}
 use mathlib.Core.Option.{Option, none, some}
 use lib.ListN.{length, take}
 use Rattle.frame.specs.Frame.{idAt, numberOf, revisionOf}
-use Rattle.scan.specs.Settle.{settle, judgedLast}
+use Rattle.frame.specs.Judge.{judgedLast}
+use Rattle.scan.specs.Settle.{settle}
 use Rattle.scan.specs.Feed.{Feeding, feedLit, stop, size}
 use Rattle.feed.specs.Hold.{restOf, holdOf}
 use Rattle.reader.specs.State.{limit}

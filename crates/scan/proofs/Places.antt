@@ -8,8 +8,8 @@ use native.Mathlib.Numerals.{add-one}
 use native.Mathlib.Omega.{arith}
 use lib.ListN.{length, drop, getD, length-drop, length-append, replicate, drop-of-length-le, List·getD-append}
 use lib.Seq.{drop-cons}
-use Rattle.frame.specs.Judge.{judged}
-use Rattle.scan.specs.Settle.{Settled, stopAt, settleBy, settle, lastBy, judgedLast}
+use Rattle.frame.specs.Judge.{judged, lastBy, judgedLast}
+use Rattle.scan.specs.Settle.{Settled, stopAt, settleBy, settle}
 use Rattle.scan.specs.Feed.{size}
 use Rattle.scan.specs.Passed.{count, countAll}
 use Rattle.scan.specs.Scan.{behind, raised, marks, partBy, partOf, NoStart}

@@ -12,14 +12,10 @@ use Rattle.crc.specs.Crc.{crcOf}
 use Rattle.wire.specs.Little.{littleAt}
 use Rattle.wire.proofs.Laws as little
 use Rattle.frame.specs.Frame.{lengthAt, allowed, crcRight}
-use Rattle.frame.specs.Judge.{judged}
-use Rattle.scan.specs.Settle.{lastBy, judgedLast}
+use Rattle.frame.specs.Judge.{judged, lastBy, judgedLast}
 use Rattle.frame.specs.declared.Reason.the-variants.{NoSync, CrcWrong, FewLeft, PastEnd}
 use Rattle.frame.specs.declared.Verdict.{Verdict}
 use Rattle.frame.specs.declared.Verdict.the-variants.{NoFrame, Frame, Undecided}
-use types.Run.{OneOf, miss}
-use denote.Enum.Declared.{tagOf}
-use Rattle.frame.proofs.Verdict.{the-type}
 use Rattle.frame.proofs.Tests.{bool?, lt?}
 use Rattle.frame.proofs.Cases.{empty, sync0, sync1, bad-length, part, good, bad}
 use Rattle.frame.proofs.View.{Head, allows, View, waits-head, waits-body, at-sync0, at-sync1, at-length, at-bad, at-good, view}
@@ -157,22 +153,6 @@ last-frame v n e = last-frame-by v (judged v) n e
 pub frame-last : (v : List ℕ) (n : ℕ) → judged v ≡ Frame n → judgedLast v ≡ Frame n
 unfolding judgedLast
 frame-last v n e = ap (λ (x : Verdict). lastBy x v) e
-
--- what is decided already stays, and the rest is told by how many bytes there are
-pub last-ends : (v : List ℕ) {a b : Bool} → judged v ≡ Undecided → ltb (length v) 2 ≡ a → ltb (length v) 8 ≡ b
-    → judgedLast v ≡ NoFrame (cond a NoSync (cond b FewLeft PastEnd))
-unfolding judgedLast
-last-ends v u e f =
-    ap (λ (x : Verdict). lastBy x v) u ∙ ap₂ (λ (x y : Bool). NoFrame (cond x NoSync (cond y FewLeft PastEnd))) e f
-
-abbrev decided : List ℕ
-decided = 0 ∷ 1 ∷ []
-
-pub last-same : (v : List ℕ) (x : Verdict) → OneOf decided (tagOf the-type x) → judged v ≡ x → judgedLast v ≡ x
-unfolding judgedLast
-last-same v (NoFrame r) h e = ap (λ (x : Verdict). lastBy x v) e
-last-same v (Frame n) h e = ap (λ (x : Verdict). lastBy x v) e
-last-same v Undecided h e = absurd (miss decided 2 tt h)
 
 -- every place is decided
 last-decides-by : (v : List ℕ) (x : Verdict) → lastBy x v ≡ Undecided → ⊥

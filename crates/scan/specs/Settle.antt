@@ -3,13 +3,8 @@
 -- Assumes nothing.
 use Prim.Native.Nat.{ℕ}
 use mathlib.Core.List.{List, [], _∷_}
-use mathlib.Core.Bool.{cond}
 use mathlib.Core.Option.{Option, none, some}
-use lib.ListN.{length}
-use lib.Dec.{ltb}
-use Rattle.frame.specs.Judge.{judged}
 use Rattle.frame.specs.declared.Reason.{Reason}
-use Rattle.frame.specs.declared.Reason.the-variants.{NoSync, FewLeft, PastEnd}
 use Rattle.frame.specs.declared.Verdict.{Verdict}
 use Rattle.frame.specs.declared.Verdict.the-variants.{NoFrame, Frame, Undecided}
 
@@ -33,15 +28,3 @@ settleBy Undecided v next = stopAt none v
 unfoldable pub settle : (List ℕ → Verdict) → List ℕ → Settled
 settle judge [] = stopAt none []
 settle judge (b ∷ bs) = settleBy (judge (b ∷ bs)) (b ∷ bs) (settle judge bs)
-
--- ---- the judge of the run's last bytes; while the run is fed it is `judged`
-
--- "When the run is finished, a header whose length passes the end is no frame": then every place is decided. A last byte alone
--- is no sync pair
-abbrev pub lastBy : Verdict → List ℕ → Verdict
-lastBy (NoFrame r) v = NoFrame r
-lastBy (Frame n) v = Frame n
-lastBy Undecided v = NoFrame (cond (ltb (length v) 2) NoSync (cond (ltb (length v) 8) FewLeft PastEnd))
-
-unfoldable pub judgedLast : List ℕ → Verdict
-judgedLast v = lastBy (judged v) v

@@ -3,8 +3,8 @@ ghost use mathlib.Core.Path.{_≡_};
 ghost use mathlib.Core.Bool.{false};
 ghost use Prim.Native.Nat.{max, _+_, _≤_, _<_};
 ghost use lib.ListN.{length, replicate};
-ghost use Rattle.frame.specs.Judge.{judged};
-ghost use Rattle.scan.specs.Settle.{settle, judgedLast};
+ghost use Rattle.frame.specs.Judge.{judged, judgedLast};
+ghost use Rattle.scan.specs.Settle.{settle};
 ghost use Rattle.scan.specs.Feed.{feedLit, stop};
 ghost use Rattle.frame.specs.declared.Reason.the-variants.{NoSync};
 ghost use Rattle.scan.specs.Passed.{nothingPassed, count, countAll, foundOf};
@@ -195,25 +195,6 @@ pub fn scan(held: &[u8], piece: &[u8]) -> Found
     }
 }
 
-// What stands at the front of the run's last bytes.
-fn judge_last(s: &[u8]) -> Verdict
-    ensures { λ r. ⌜ r ≡ judgedLast (now (s .entry)) ⌝ }
-{
-    let v = frame::judge(s, b"");
-    match v {
-        Verdict::Undecided => {
-            if s.len() < 2 {
-                Verdict::NoFrame(Reason::NoSync)
-            } else if s.len() < 8 {
-                Verdict::NoFrame(Reason::FewLeft)
-            } else {
-                Verdict::NoFrame(Reason::PastEnd)
-            }
-        }
-        _ => v,
-    }
-}
-
 // What the run's last bytes come to: none had to be taken.
 fn ended(passed: Passed, block: usize) -> Found
     ensures { λ r. ⌜ r ≡ record { taken = 0; passed = passed; block = block } ⌝ }
@@ -237,7 +218,7 @@ pub fn last(held: &[u8]) -> Found
         if p == held.len() {
             return ended(passed, 0);
         }
-        let v = judge_last(&held[p..]);
+        let v = frame::judge_last(&held[p..]);
         match v {
             Verdict::Frame(n) => {
                 return ended(passed, n);

@@ -4,7 +4,8 @@ use mathlib.Core.Path.{_≡_}
 use Prim.Native.Nat.{_-_, _≤_}
 use native.Mathlib.Omega.{arith}
 use lib.ListN.{length}
-use Rattle.scan.specs.Settle.{settle, judgedLast}
+use Rattle.frame.specs.Judge.{judgedLast}
+use Rattle.scan.specs.Settle.{settle}
 use Rattle.scan.specs.Feed.{stop}
 use Rattle.scan.specs.Passed.{foundOf}
 use Rattle.feed.specs.Hold.{restOf}

@@ -7,7 +7,7 @@ use native.Mathlib.Omega.{arith}
 use lib.ListN.{length, drop, length-drop}
 use lib.Seq.{take-all}
 use borrow.Author.Needs.{needs}
-use Rattle.scan.specs.Settle.{judgedLast}
+use Rattle.frame.specs.Judge.{judgedLast}
 use Rattle.scan.specs.Passed.{nothingPassed}
 use Rattle.scan.specs.declared.Passed.{Passed}
 use Rattle.frame.specs.declared.Reason.the-variants.{NoSync}

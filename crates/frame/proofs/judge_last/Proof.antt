@@ -1,4 +1,4 @@
--- `scan::judge_last` meets its contract: what is decided already stays, and the rest is told by how many bytes there are.
+-- `frame::judge_last` meets its contract: what is decided already stays, and the rest is told by how many bytes there are.
 -- Assumes nothing.
 use mathlib.Core.Path.{_≡_, refl, sym, ap, _∙_}
 use mathlib.Core.List.{List, append-nil}
@@ -7,11 +7,11 @@ use native.Mathlib.Omega.{arith}
 use lib.ListN.{length}
 use borrow.Author.Needs.{needs}
 use borrow.Author.Tests.{lt-ltb, le-ltb}
 use Rattle.frame.specs.Judge.{judged}
 use Rattle.frame.specs.declared.Verdict.{Verdict}
-use Rattle.scan.proofs.Stable.{last-ends, last-same}
-use Rattle.scan.proofs.judge_last.Statement.{statement}
-use Rattle.scan.proofs.judge_last.Tie as tie
+use Rattle.frame.proofs.Last.{last-ends, last-same}
+use Rattle.frame.proofs.judge_last.Statement.{statement}
+use Rattle.frame.proofs.judge_last.Tie as tie
 
 abbrev run : tie.After-judge → List ℕ
 run j = j .before .before .before .args .s .now
