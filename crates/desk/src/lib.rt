@@ -142,6 +142,6 @@ pub fn written(buffer: &mut [u8], offset: usize, bytes: &[u8]) -> bool {
     if buffer.len() - offset < n {
         return false;
     }
-    feed::copy_in(buffer, offset, bytes, 0, n);
+    copy::copy_in(buffer, offset, bytes, 0, n);
     true
 }

@@ -22,27 +22,13 @@ pub struct Fed {
     pub standing: usize,
 }
 
-// k bytes of `s` from b on go to the place `at`.
-pub fn copy_in(hold: &mut [u8], at: usize, s: &[u8], b: usize, k: usize)
-    requires { ⌜ (at + k ≤ length (now hold)) × (b + k ≤ length (now s)) ⌝ }
-    ensures { λ _. ⌜ now (hold .exit) ≡ paste (now (hold .entry)) at (drop b (now (s .entry))) k ⌝ }
-{
-    let mut j: usize = 0;
-    while j < k {
-        let to = at + j;
-        let from = b + j;
-        hold[to] = s[from];
-        j += 1;
-    }
-}
-
 // k bytes from `from` on go to `to`, by way of a buffer: so both copies are of parts that do not overlap, and wide.
 fn move_some(hold: &mut [u8], from: usize, to: usize, buf: &mut [u8; 1024], k: usize)
     requires { ⌜ (from + k ≤ length (now hold)) × (to + k ≤ length (now hold)) × (k ≤ 1024) ⌝ }
     ensures { λ _. ⌜ now (hold .exit) ≡ paste (now (hold .entry)) to (drop from (now (hold .entry))) k ⌝ }
 {
-    copy_in(buf, 0, hold, from, k);
-    copy_in(hold, to, buf, 0, k);
+    copy::copy_in(buf, 0, hold, from, k);
+    copy::copy_in(hold, to, buf, 0, k);
 }
 
 // k bytes from `from` on move to the front.
@@ -76,9 +62,9 @@ fn keep(hold: &mut [u8], standing: usize, n: usize, piece: &[u8], p: usize, m: u
     if p < n {
         let k = n - p;
         move_down(hold, standing + p, k);
-        copy_in(hold, k, piece, 0, m - n);
+        copy::copy_in(hold, k, piece, 0, m - n);
     } else {
-        copy_in(hold, 0, piece, p - n, m - p);
+        copy::copy_in(hold, 0, piece, p - n, m - p);
     }
 }
 

@@ -118,8 +118,8 @@ fn put_line(out: &mut [u8; 8192], at: usize, line: Line) -> usize
 {
     match line {
         Line::Nothing => at,
-        Line::Block(b) => text::block_line(out, at, b),
-        Line::End(c) => text::end_line(out, at, c),
+        Line::Block(b) => phrases::block_line(out, at, b),
+        Line::End(c) => phrases::end_line(out, at, c),
     }
 }
 
@@ -139,7 +139,7 @@ fn list_line(called: Called, out: &mut [u8; 8192], filled: usize) -> Listing
             more,
         };
     }
-    let room = console::make_room(out, filled, text::ROOM);
+    let room = console::make_room(out, filled, phrases::ROOM);
     if !room.written {
         return Listing {
             state,

@@ -7,7 +7,7 @@ use Rattle.reader.specs.declared.State.{State}
 use Rattle.desk.specs.declared.Crcs.{Crcs}
 use Rattle.play.specs.declared.Turn.{Turn}
 use Rattle.play.specs.declared.Turn.the-variants.{Quiet, Bad, Ran, Asked}
-use Rattle.text.specs.Replies.{stateText}
+use Rattle.phrases.specs.Replies.{stateText}
 use Rattle.show.specs.Lines.{runText, crcsText}
 use Rattle.wording.specs.Lines.{askText, wordNoCrcs}
 

@@ -5,7 +5,7 @@ ghost use mathlib.Core.List.{_++_};
 ghost use mathlib.Core.Option.{none, some};
 ghost use lib.ListN.{take};
 ghost use Rattle.reader.specs.Said.{reportOf, took};
-ghost use Rattle.text.specs.Replies.{stateText};
+ghost use Rattle.phrases.specs.Replies.{stateText};
 ghost use Rattle.show.specs.Lines.{oneFor, wordFed, saidText, runText, crcsText};
 use desk::Crcs;
 use desk::RunReply;
@@ -39,7 +39,7 @@ fn fed_words(out: &mut [u8; 8192], at: usize, n: usize, b: Block) -> usize
 {
     let count = text::told(out, at, b"fed", n as u64);
     let gap = text::put(out, count, b" ");
-    text::block_words(out, gap, b)
+    phrases::block_words(out, gap, b)
 }
 
 fn print(out: &mut [u8; 8192], at: usize, reply: RunReply) -> usize
@@ -53,9 +53,9 @@ fn print(out: &mut [u8; 8192], at: usize, reply: RunReply) -> usize
         RunReply::Withdrawn(one) => text::told(out, at, b"withdrawn", one_for(one)),
         RunReply::More(taken) => more_words(out, at, taken),
         RunReply::Fed(taken, b) => fed_words(out, at, taken, b),
-        RunReply::Found(b) => text::block_words(out, at, b),
-        RunReply::End(c) => text::end_words(out, at, c),
-        RunReply::Refused(why) => text::refused(out, at, why),
+        RunReply::Found(b) => phrases::block_words(out, at, b),
+        RunReply::End(c) => phrases::end_words(out, at, c),
+        RunReply::Refused(why) => phrases::refused(out, at, why),
     }
 }
 
@@ -79,6 +79,6 @@ pub fn run_line(out: &mut [u8; 8192], at: usize, reply: RunReply, state: State, 
     ensures { λ r. ⌜ take r (now (out .exit)) ≡ take at (now (out .entry)) ++ (runText reply ++ stateText state ++ crcsText c) ⌝ }
 {
     let said = print(out, at, reply);
-    let numbers = text::state_of(out, said, state);
+    let numbers = phrases::state_of(out, said, state);
     crcs(out, numbers, c)
 }

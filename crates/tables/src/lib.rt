@@ -57,7 +57,7 @@ pub fn open(s: State, in_force: &mut [u8], waiting: &[u8]) -> OpenAnswer
             let w = s.waiting;
             let n = s.in_force;
             if 0 < w {
-                feed::copy_in(in_force, 0, waiting, 0, w);
+                copy::copy_in(in_force, 0, waiting, 0, w);
                 return OpenAnswer {
                     answer: Opened::Version(v),
                     state: opening::open_state(w),
@@ -96,7 +96,7 @@ pub fn stage(s: State, waiting: &mut [u8], t: &[u8]) -> StageAnswer
         },
         Staged::Version(v) => {
             let n = t.len();
-            feed::copy_in(waiting, 0, t, 0, n);
+            copy::copy_in(waiting, 0, t, 0, n);
             let run = s.run;
             StageAnswer {
                 answer: Staged::Version(v),

@@ -8,7 +8,7 @@ use native.Mathlib.Omega.{arith}
 use lib.Dec.{ltb}
 use borrow.Author.Tests.{ltb-true, ltb-false}
 use Rattle.io.specs.Digits.{Fewest}
-use Rattle.text.specs.Lines.{places}
+use Rattle.text.specs.Numbers.{places}
 
 ten-more : (k : ℕ) → 10 ^ suc k ≡ 10 * 10 ^ k
 ten-more k = pow-succ' 10 k

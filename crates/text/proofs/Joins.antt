@@ -7,7 +7,7 @@ use native.Mathlib.Omega.{arith}
 use lib.ListN.{length, take, drop}
 use lib.Seq.{paste, take-paste, take-all}
 use Rattle.io.specs.Digits.{digits, Fewest}
-use Rattle.text.specs.Lines.{decimal, fourHex}
+use Rattle.text.specs.Numbers.{decimal, fourHex}
 use Rattle.text.proofs.Decimals.{places-is, four-are}
 
 pub copied : (d e w : List ℕ) (at k : ℕ) → e ≡ paste d at (drop 0 w) k → at ≤ length d → k ≤ length w → take (at + k) e ≡ take at d ++ take k w

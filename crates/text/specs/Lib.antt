@@ -1,3 +1,1 @@
-pub mod Lines
-pub mod Replies
-pub mod Samples
+pub mod Numbers

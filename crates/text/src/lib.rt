@@ -1,21 +1,10 @@
-// Text: words, numbers, the lister's lines and what all of replay's lines have, collected in a buffer for standard output.
+// Words and numbers put into a buffer for standard output, each behind what stands there.
 ghost use Prim.Native.Nat.{_+_, _≤_};
 ghost use lib.ListN.{length, take};
+ghost use lib.IntN.{natAbs};
 ghost use mathlib.Core.Path.{_≡_};
 ghost use mathlib.Core.List.{_++_};
-ghost use Rattle.refusal.specs.Numbers.{numberFor};
-ghost use Rattle.reader.specs.Said.{reportOf};
-ghost use Rattle.text.specs.Lines.{decimal, spaced, blockWords, blockLine, countsText, endWords, endLine};
-ghost use Rattle.text.specs.Replies.{refusedText, phaseFor, stateText, crcText};
-ghost use Rattle.text.specs.Samples.{Samples};
-use reader::Block;
-use reader::Counts;
-use reader::Phase;
-use reader::State;
-use refusal::Refusal;
-
-// The lister's longest line: the word `block`, four numbers with a space before each, and the line's end.
-pub const ROOM: usize = 90;
+ghost use Rattle.text.specs.Numbers.{decimal, spaced, integerText, crcText};
 
 // A word goes to the place `at`; answers the place behind it.
 pub fn put(out: &mut [u8; 8192], at: usize, word: &[u8]) -> usize
@@ -24,7 +13,7 @@ pub fn put(out: &mut [u8; 8192], at: usize, word: &[u8]) -> usize
     ensures { λ r. ⌜ take r (now (out .exit)) ≡ take at (now (out .entry)) ++ now (word .entry) ⌝ }
 {
     let n = word.len();
-    feed::copy_in(out, at, word, 0, n);
+    copy::copy_in(out, at, word, 0, n);
     at + n
 }
 
@@ -34,7 +23,7 @@ fn put_digits(out: &mut [u8; 8192], at: usize, digits: &[u8; 20], k: usize) -> u
     ensures { λ r. ⌜ r ≤ at + 20 ⌝ }
     ensures { λ r. ⌜ take r (now (out .exit)) ≡ take at (now (out .entry)) ++ take k (now (digits .entry)) ⌝ }
 {
-    feed::copy_in(out, at, digits, 0, k);
+    copy::copy_in(out, at, digits, 0, k);
     at + k
 }
 
@@ -81,95 +70,26 @@ pub fn crc(out: &mut [u8; 8192], at: usize, n: u16) -> usize
     put(out, gap, &digits[..k])
 }
 
-// A refusal, by its number.
-pub fn refused(out: &mut [u8; 8192], at: usize, why: Refusal) -> usize
-    requires { ⌜ at + 28 ≤ 8192 ⌝ }
-    ensures { λ r. ⌜ r ≤ at + 28 ⌝ }
-    ensures { λ r. ⌜ take r (now (out .exit)) ≡ take at (now (out .entry)) ++ refusedText (numberFor why) ⌝ }
+// How far a number lies from zero.
+fn magnitude(z: i64) -> u64
+    ensures { λ r. ⌜ r ≡ natAbs z ⌝ }
 {
-    told(out, at, b"refused", refusal::number(why) as u64)
-}
-
-// What is said of a block, with no line's end.
-pub fn block_words(out: &mut [u8; 8192], at: usize, b: Block) -> usize
-    requires { ⌜ at + 89 ≤ 8192 ⌝ }
-    ensures { λ r. ⌜ r ≤ at + 89 ⌝ }
-    ensures { λ r. ⌜ take r (now (out .exit)) ≡ take at (now (out .entry)) ++ blockWords (reportOf b) ⌝ }
-{
-    let word = put(out, at, b"block");
-    let place = number(out, word, b.place as u64);
-    let name = number(out, place, b.number as u64);
-    let revision = number(out, name, b.revision as u64);
-    number(out, revision, b.length as u64)
-}
-
-pub fn block_line(out: &mut [u8; 8192], at: usize, b: Block) -> usize
-    requires { ⌜ at + 90 ≤ 8192 ⌝ }
-    ensures { λ r. ⌜ r ≤ at + 90 ⌝ }
-    ensures { λ r. ⌜ take r (now (out .exit)) ≡ take at (now (out .entry)) ++ blockLine (reportOf b) ⌝ }
-{
-    let words = block_words(out, at, b);
-    put(out, words, b"\n")
-}
-
-// The counts of a run: bytes, blocks, skipped bytes.
-pub fn counts(out: &mut [u8; 8192], at: usize, c: Counts) -> usize
-    requires { ⌜ at + 63 ≤ 8192 ⌝ }
-    ensures { λ r. ⌜ r ≤ at + 63 ⌝ }
-    ensures { λ r. ⌜ take r (now (out .exit)) ≡ take at (now (out .entry)) ++ countsText c ⌝ }
-{
-    let taken = number(out, at, c.taken as u64);
-    let blocks = number(out, taken, c.blocks as u64);
-    number(out, blocks, c.skipped as u64)
-}
-
-// What is said of a run's end, with no line's end.
-pub fn end_words(out: &mut [u8; 8192], at: usize, c: Counts) -> usize
-    requires { ⌜ at + 66 ≤ 8192 ⌝ }
-    ensures { λ r. ⌜ r ≤ at + 66 ⌝ }
-    ensures { λ r. ⌜ take r (now (out .exit)) ≡ take at (now (out .entry)) ++ endWords c ⌝ }
-{
-    let word = put(out, at, b"end");
-    counts(out, word, c)
-}
-
-pub fn end_line(out: &mut [u8; 8192], at: usize, c: Counts) -> usize
-    requires { ⌜ at + 67 ≤ 8192 ⌝ }
-    ensures { λ r. ⌜ r ≤ at + 67 ⌝ }
-    ensures { λ r. ⌜ take r (now (out .exit)) ≡ take at (now (out .entry)) ++ endLine c ⌝ }
-{
-    let words = end_words(out, at, c);
-    put(out, words, b"\n")
-}
-
-fn number_for(p: Phase) -> u64
-    ensures { λ r. ⌜ r ≡ phaseFor p ⌝ }
-{
-    match p {
-        Phase::Closed => 0,
-        Phase::Feeding => 1,
-        Phase::Finishing => 2,
+    if z < 0 {
+        return (-1 - z) as u64 + 1;
     }
+    z as u64
 }
 
-// The state's eight numbers, behind a bar.
-pub fn state_of(out: &mut [u8; 8192], at: usize, s: State) -> usize
-    requires { ⌜ at + 170 ≤ 8192 ⌝ }
-    ensures { λ r. ⌜ r ≤ at + 170 ⌝ }
-    ensures { λ r. ⌜ take r (now (out .exit)) ≡ take at (now (out .entry)) ++ stateText s ⌝ }
+// A space and a number with a sign.
+pub fn integer(out: &mut [u8; 8192], at: usize, z: i64) -> usize
+    requires { ⌜ at + 22 ≤ 8192 ⌝ }
+    ensures { λ r. ⌜ r ≤ at + 22 ⌝ }
+    ensures { λ r. ⌜ take r (now (out .exit)) ≡ take at (now (out .entry)) ++ integerText z ⌝ }
 {
-    let run = s.run;
-    let phase = run.phase;
-    let sums = run.counts;
-    let bar = told(out, at, b" |", number_for(phase));
-    let force = number(out, bar, s.in_force as u64);
-    let waiting = number(out, force, s.waiting as u64);
-    let held = number(out, waiting, run.held as u64);
-    let standing = number(out, held, run.standing as u64);
-    counts(out, standing, sums)
+    let n = magnitude(z);
+    if z < 0 {
+        let minus = put(out, at, b" -");
+        return decimal_digits(out, minus, n);
+    }
+    number(out, at, n)
 }
-
-// The lines of document 01's sample are these.
-pub fn samples_hold()
-    ensures { λ _. ⌜ Samples ⌝ }
-{}

@@ -1,10 +1,9 @@
 -- What a field answers, byte by byte: "`unsigned N`; `signed Z`", and so on.
 -- Assumes nothing.
-use Prim.Native.Nat.{ℕ, suc}
+use Prim.Native.Nat.{ℕ}
 use mathlib.Core.List.{List, [], _∷_, _++_}
-use lib.IntN.{ℤ, pos, negsuc}
-use Rattle.text.specs.Lines.{decimal, spaced}
-use Rattle.text.specs.Replies.{refusedText}
+use Rattle.text.specs.Numbers.{spaced, integerText}
+use Rattle.phrases.specs.Replies.{refusedText}
 use Rattle.value.specs.Said as field
 
 -- `unsigned`
@@ -30,15 +29,6 @@ wordDoNotUse = 100 ∷ 111 ∷ 45 ∷ 110 ∷ 111 ∷ 116 ∷ 45 ∷ 117 ∷ 115
 -- `not-in-this-revision`
 abbrev pub wordNotInRevision : List ℕ
 wordNotInRevision = 110 ∷ 111 ∷ 116 ∷ 45 ∷ 105 ∷ 110 ∷ 45 ∷ 116 ∷ 104 ∷ 105 ∷ 115 ∷ 45 ∷ 114 ∷ 101 ∷ 118 ∷ 105 ∷ 115 ∷ 105 ∷ 111 ∷ 110 ∷ []
-
--- `-`, a space before it
-abbrev pub wordMinus : List ℕ
-wordMinus = 32 ∷ 45 ∷ []
-
--- "negative ones with a leading `-`"
-abbrev pub integerText : ℤ → List ℕ
-integerText (pos n) = spaced n
-integerText (negsuc n) = wordMinus ++ decimal (suc n)
 
 -- what a field says: "`single BITS`; `double BITS` (bits in decimal)"
 abbrev pub fieldText : field.Said → List ℕ

@@ -4,13 +4,12 @@ ghost use mathlib.Core.Path.{_≡_};
 ghost use mathlib.Core.List.{_++_};
 ghost use mathlib.Core.Bool.{not};
 ghost use lib.Dec.{T};
-ghost use lib.IntN.{natAbs};
 ghost use lib.Ieee.{binary32, isNan, toBits};
 ghost use lib.ListN.{take};
 ghost use Rattle.record.specs.Answer.{valueSays};
 ghost use Rattle.desk.specs.Plain.{noNan, plainly};
-ghost use Rattle.text.specs.Replies.{stateText};
-ghost use Rattle.wording.specs.Values.{integerText, fieldText};
+ghost use Rattle.phrases.specs.Replies.{stateText};
+ghost use Rattle.wording.specs.Values.{fieldText};
 ghost use Rattle.wording.specs.Lines.{bytesText, askText, wordNoCrcs};
 use desk::AskReply;
 use desk::Bytes;
@@ -18,36 +17,13 @@ use reader::State;
 use record::Answer;
 use value::Value;
 
-fn magnitude(z: i64) -> u64
-    ensures { λ r. ⌜ r ≡ natAbs z ⌝ }
-{
-    if z < 0 {
-        return (-1 - z) as u64 + 1;
-    }
-    z as u64
-}
-
-// A space and a number with a sign.
-fn integer(out: &mut [u8; 8192], at: usize, z: i64) -> usize
-    requires { ⌜ at + 22 ≤ 8192 ⌝ }
-    ensures { λ r. ⌜ r ≤ at + 22 ⌝ }
-    ensures { λ r. ⌜ take r (now (out .exit)) ≡ take at (now (out .entry)) ++ integerText z ⌝ }
-{
-    let n = magnitude(z);
-    if z < 0 {
-        let minus = text::put(out, at, b" -");
-        return text::decimal_digits(out, minus, n);
-    }
-    text::number(out, at, n)
-}
-
 fn signed(out: &mut [u8; 8192], at: usize, z: i64) -> usize
     requires { ⌜ at + 120 ≤ 8192 ⌝ }
     ensures { λ r. ⌜ r ≤ at + 120 ⌝ }
     ensures { λ r. ⌜ take r (now (out .exit)) ≡ take at (now (out .entry)) ++ fieldText (valueSays (Value.Signed z)) ⌝ }
 {
     let word = text::put(out, at, b"signed");
-    integer(out, word, z)
+    text::integer(out, word, z)
 }
 
 fn single_bits(x: f32) -> u32
@@ -96,10 +72,10 @@ fn ask_reply(out: &mut [u8; 8192], at: usize, reply: AskReply) -> usize
     match reply {
         AskReply::Field(a) => match a {
             Answer::Field(v) => field_value(out, at, v),
-            Answer::Refused(why) => text::refused(out, at, why),
+            Answer::Refused(why) => phrases::refused(out, at, why),
         },
         AskReply::Bytes(b) => bytes(out, at, b),
-        AskReply::Refused(why) => text::refused(out, at, why),
+        AskReply::Refused(why) => phrases::refused(out, at, why),
     }
 }
 
@@ -111,6 +87,6 @@ pub fn ask_line(out: &mut [u8; 8192], at: usize, reply: AskReply, state: State) 
     ensures { λ r. ⌜ take r (now (out .exit)) ≡ take at (now (out .entry)) ++ (askText reply ++ stateText state ++ wordNoCrcs) ⌝ }
 {
     let said = ask_reply(out, at, reply);
-    let numbers = text::state_of(out, said, state);
+    let numbers = phrases::state_of(out, said, state);
     text::put(out, numbers, b" | - - -\n")
 }

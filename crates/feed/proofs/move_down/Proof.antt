@@ -7,7 +7,8 @@ use native.Mathlib.Omega.{arith}
 use lib.ListN.{length, drop, length-drop}
 use lib.Seq.{paste, drop-drop}
 use borrow.Author.Needs.{needs}
-use Rattle.feed.proofs.Pasting.{paste-long, paste-self, paste-behind, paste-on}
+use Rattle.copy.proofs.Pasting.{paste-long}
+use Rattle.feed.proofs.Pasting.{paste-self, paste-behind, paste-on}
 use Rattle.feed.proofs.move_down.Statement.{statement}
 use Rattle.feed.proofs.move_down.Tie as tie
 

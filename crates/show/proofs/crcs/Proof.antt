@@ -4,8 +4,9 @@ use mathlib.Core.List.{_++_}
 use native.Mathlib.Omega.{arith}
 use lib.ListN.{take}
 use Rattle.text.proofs.Joins.{joined}
-use Rattle.text.specs.Lines.{newline}
-use Rattle.text.specs.Replies.{wordBar, crcText}
+use Rattle.phrases.specs.Lines.{newline}
+use Rattle.text.specs.Numbers.{crcText}
+use Rattle.phrases.specs.Replies.{wordBar}
 use borrow.Author.Needs.{needs}
 use Rattle.show.proofs.crcs.Statement.{statement}
 use Rattle.show.proofs.crcs.Tie as tie

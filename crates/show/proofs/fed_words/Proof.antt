@@ -4,7 +4,7 @@ use mathlib.Core.List.{_++_}
 use native.Mathlib.Omega.{arith}
 use lib.ListN.{take}
 use Rattle.text.proofs.Joins.{joined}
-use Rattle.text.specs.Lines.{blockWords}
+use Rattle.phrases.specs.Lines.{blockWords}
 use Rattle.reader.specs.Said.{reportOf}
 use Rattle.show.specs.Lines.{wordGap, fedText}
 use borrow.Author.Needs.{needs}

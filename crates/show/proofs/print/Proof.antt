@@ -5,7 +5,7 @@ use mathlib.Core.List.{_++_}
 use Prim.Native.Nat.{ℕ}
 use native.Mathlib.Omega.{arith}
 use lib.ListN.{take}
-use Rattle.text.specs.Lines.{spaced}
+use Rattle.text.specs.Numbers.{spaced}
 use Rattle.show.specs.Lines.{wordWithdrawn}
 use borrow.Author.Needs.{needs}
 use Rattle.show.proofs.print.Statement.{statement}

@@ -4,7 +4,7 @@ use mathlib.Core.List.{_++_}
 use native.Mathlib.Omega.{arith}
 use lib.ListN.{take}
 use Rattle.text.proofs.Joins.{joined}
-use Rattle.text.specs.Replies.{stateText}
+use Rattle.phrases.specs.Replies.{stateText}
 use Rattle.show.specs.Lines.{runText, crcsText}
 use borrow.Author.Needs.{needs}
 use Rattle.show.proofs.run_line.Statement.{statement}

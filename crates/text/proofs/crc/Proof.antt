@@ -5,7 +5,7 @@ use mathlib.Core.List.{List, [], _∷_, _++_}
 use Prim.Native.Nat.{ℕ, _<_}
 use native.Mathlib.Omega.{arith}
 use lib.ListN.{take}
-use Rattle.text.specs.Lines.{fourHex}
+use Rattle.text.specs.Numbers.{fourHex}
 use Rattle.text.proofs.Decimals.{four-are}
 use Rattle.text.proofs.Joins.{joined, hex-is}
 use borrow.Author.Needs.{needs}

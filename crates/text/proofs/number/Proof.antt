@@ -3,7 +3,7 @@
 use mathlib.Core.List.{[], _∷_}
 use native.Mathlib.Omega.{arith}
 use lib.ListN.{take}
-use Rattle.text.specs.Lines.{decimal}
+use Rattle.text.specs.Numbers.{decimal}
 use Rattle.text.proofs.Joins.{joined}
 use borrow.Author.Needs.{needs}
 use Rattle.text.proofs.number.Statement.{statement}

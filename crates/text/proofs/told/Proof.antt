@@ -3,7 +3,7 @@
 use native.Mathlib.Omega.{arith}
 use lib.ListN.{take}
 use Rattle.text.proofs.Joins.{joined}
-use Rattle.text.specs.Lines.{spaced}
+use Rattle.text.specs.Numbers.{spaced}
 use borrow.Author.Needs.{needs}
 use Rattle.text.proofs.told.Statement.{statement}
 use Rattle.text.proofs.told.Tie as tie

@@ -11,8 +11,8 @@ use mir.Syntax.{w64}
 use mir.ValLaws.{toZ-ofZ}
 use Rattle.value.specs.declared.Value.{Value}
 use Rattle.desk.specs.Plain.{noNan}
-use Rattle.wording.specs.Values.{wordSingle, wordSigned, integerText}
-use Rattle.text.specs.Lines.{spaced}
+use Rattle.wording.specs.Values.{wordSingle, wordSigned}
+use Rattle.text.specs.Numbers.{spaced, integerText}
 use borrow.Author.Needs.{needs}
 use Rattle.wording.proofs.field_value.Statement.{statement}
 use Rattle.wording.proofs.field_value.Tie as tie

@@ -5,7 +5,8 @@ use mathlib.Core.List.{_++_}
 use native.Mathlib.Omega.{arith}
 use lib.ListN.{take}
 use Rattle.text.proofs.Joins.{joined}
-use Rattle.wording.specs.Values.{wordSigned, integerText}
+use Rattle.text.specs.Numbers.{integerText}
+use Rattle.wording.specs.Values.{wordSigned}
 use lib.IntN.{ℤ}
 use mir.Syntax.{w64}
 use mir.ValLaws.{toZ-ofZ}
