@@ -1,7 +1,7 @@
-// A script's lines: each is read as a call. Its first word says which, and the words behind it are read as that call asks.
+// A script's lines: each is read as a call. Its first word says which, and the words behind it are read as that call asks. Words are
+// matched by their keys (`words::keys_hold`).
 ghost use Prim.Native.Nat.{_≤_};
 ghost use lib.ListN.{length};
-ghost use Rattle.script.specs.Keys.{KeysHold};
 use words::Decimal;
 use words::Decoded;
 
@@ -108,11 +108,6 @@ fn word_at(line: &[u8], from: usize) -> Word
         ends: told.0 & is_last,
     }
 }
-
-// The numbers that words are matched by are their keys.
-pub fn keys_hold()
-    ensures { λ _. ⌜ KeysHold ⌝ }
-{}
 
 fn buffer_of(key: u64) -> Buffer {
     match key {

@@ -1,2 +1,3 @@
 pub mod Theorems
 pub mod Words
+pub mod Keys

@@ -4,6 +4,7 @@ ghost use mathlib.Core.Path.{_≡_};
 ghost use lib.ListN.{length, take, drop};
 ghost use Rattle.io.specs.Counts.{Counts};
 ghost use Rattle.words.specs.Words.{upTo, keyOf, numberSays, addDigit, numberIn, hexDigit, bytesSay, bytesFrom, bytesIn};
+ghost use Rattle.words.specs.Keys.{KeysHold};
 ghost use Rattle.words.specs.Theorems.{ToldApart};
 
 // Where the word at the front of a text ends: at its first space, or with it.
@@ -50,6 +51,11 @@ pub fn key(word: &[u8]) -> u64
 // No two words have the same key, and the words that have one are those of one to eight bytes, none of them zero.
 pub fn told_apart()
     ensures { λ _. ⌜ ToldApart ⌝ }
+{}
+
+// The keys of a script's words are the numbers that `script` matches.
+pub fn keys_hold()
+    ensures { λ _. ⌜ KeysHold ⌝ }
 {}
 
 pub enum Decimal {

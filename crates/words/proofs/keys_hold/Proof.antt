@@ -1,10 +1,10 @@
--- `script::keys_hold`: antt computes each key.
+-- `words::keys_hold`: antt computes each key.
 -- Assumes nothing.
 use mathlib.Core.Path.{refl}
 use Rattle.words.specs.Words.{keyFrom, keyOf}
-use Rattle.script.specs.Keys.{lettersOf}
-use Rattle.script.proofs.keys_hold.Statement.{statement}
-use Rattle.script.proofs.keys_hold.Tie as tie
+use Rattle.words.specs.Keys.{lettersOf}
+use Rattle.words.proofs.keys_hold.Statement.{statement}
+use Rattle.words.proofs.keys_hold.Tie as tie
 
 returns : tie.Need-returns
 unfolding keyFrom keyOf lettersOf

@@ -1,4 +1,4 @@
--- The words that a line is told by, each with the number that the code matches, which is its key. No other word has that key:
+-- The words that a script's line is told by, each with its key, the number that `script` matches. No other word has that key:
 -- `words::told_apart`.
 -- Assumes nothing.
 use Prim.Native.Nat.{ℕ}
