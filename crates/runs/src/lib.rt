@@ -136,7 +136,7 @@ fn finish_on(s: State, hold: &mut [u8]) -> FinishAnswer
 pub fn finish(s: State, hold: &mut [u8]) -> FinishAnswer
     ensures { λ r. ⌜ outcome (saidFinished (r .answer)) (r .state) (now (hold .exit)) ≡ finishOf s (now (hold .entry)) ⌝ }
 {
-    let c = refusals::of_finish(s, hold);
+    let c = refusals::of_finish(s, hold.len());
     match c {
         Check::Refused(why) => FinishAnswer {
             answer: Finished::Refused(why),
@@ -150,7 +150,7 @@ pub fn finish(s: State, hold: &mut [u8]) -> FinishAnswer
 pub fn bytes(s: State, hold: &[u8]) -> &[u8]
     ensures { λ r. ⌜ now r ≡ bytesOf s (now (hold .entry)) ⌝ }
 {
-    let c = refusals::of_bytes(s, hold);
+    let c = refusals::of_bytes(s, hold.len());
     let run = s.run;
     let n = run.standing;
     match c {
@@ -163,5 +163,5 @@ pub fn bytes(s: State, hold: &[u8]) -> &[u8]
 pub fn bytes_refused(s: State, hold: &[u8]) -> Check
     ensures { λ r. ⌜ refusalOf r ≡ bytesRefusal s (now (hold .entry)) ⌝ }
 {
-    refusals::of_bytes(s, hold)
+    refusals::of_bytes(s, hold.len())
 }

@@ -1,7 +1,8 @@
 // The refusals of Feed, Finish and Bytes, in document 01's order, each tested once.
 ghost use mathlib.Core.Path.{_≡_};
 ghost use mathlib.Core.Bool.{_&&_};
-ghost use Prim.Native.Nat.{_≤_};
+ghost use mathlib.Core.List.{List};
+ghost use Prim.Native.Nat.{ℕ, _≤_};
 ghost use lib.ListN.{length};
 ghost use lib.Dec.{leb};
 ghost use Rattle.feed.specs.Hold.{restOf};
@@ -65,11 +66,11 @@ pub fn of_feed(s: State, hold: &[u8], piece: &[u8]) -> Check
     }
 }
 
-// Finish: 1, 2.
-pub fn of_finish(s: State, hold: &[u8]) -> Check
-    ensures { λ r. ⌜ refusalOf r ≡ finishRefusal s (now (hold .entry)) ⌝ }
+// Finish, with a hold of so many bytes: 1, 2.
+pub fn of_finish(s: State, hold: usize) -> Check
+    ensures { λ r. ⌜ ((v : List ℕ) → length v ≡ hold → refusalOf r ≡ finishRefusal s v) ⌝ }
 {
-    if !may_call(s, hold.len()) {
+    if !may_call(s, hold) {
         return Check::Refused(Refusal::BadBuffer);
     }
     let run = s.run;
@@ -80,11 +81,11 @@ pub fn of_finish(s: State, hold: &[u8]) -> Check
     Check::Passed
 }
 
-// Bytes: 1.
-pub fn of_bytes(s: State, hold: &[u8]) -> Check
-    ensures { λ r. ⌜ refusalOf r ≡ bytesRefusal s (now (hold .entry)) ⌝ }
+// Bytes, with a hold of so many bytes: 1.
+pub fn of_bytes(s: State, hold: usize) -> Check
+    ensures { λ r. ⌜ ((v : List ℕ) → length v ≡ hold → refusalOf r ≡ bytesRefusal s v) ⌝ }
 {
-    if may_call(s, hold.len()) {
+    if may_call(s, hold) {
         Check::Passed
     } else {
         Check::Refused(Refusal::BadBuffer)

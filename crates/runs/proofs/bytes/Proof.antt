@@ -1,6 +1,6 @@
 -- `runs::bytes` meets its contract: the standing block's bytes, or none.
 -- Assumes nothing.
-use mathlib.Core.Path.{_≡_, sym, ap, _∙_}
+use mathlib.Core.Path.{_≡_, refl, sym, ap, _∙_}
 use mathlib.Core.Option.{Option, none}
 use Prim.Native.Nat.{ℕ}
 use native.Mathlib.Omega.{arith}
@@ -28,7 +28,7 @@ enum-told-2 : tie.Need-enum-told-2
 enum-told-2 c = search needs
 
 free : (e : tie.After-enum-told2) → bytesRefusal (e .before .before .before .before .before .args .s) (e .before .before .before .before .before .args .hold .now) ≡ none
-free e = sym (e .before .before .before .of-bytes .ensures) ∙ ap refusalOf (e .enum-told2 .given .1)
+free e = sym (e .before .before .before .of-bytes .ensures _ refl) ∙ ap refusalOf (e .enum-told2 .given .1)
 
 slice-aggregate-result-2 : tie.Need-slice-aggregate-result-2
 unfolding bytesRefusal
@@ -44,7 +44,7 @@ returns c =
     let e = c .before in
     let w = e .before .before .before in
     let a = w .before .before .args in
-    sym (ap (λ (o : Option ℕ). partUnless o (take (a .s .run .standing) (a .hold .now))) (sym (w .of-bytes .ensures) ∙ ap refusalOf (e .enum-told .given .1)))
+    sym (ap (λ (o : Option ℕ). partUnless o (take (a .s .run .standing) (a .hold .now))) (sym (w .of-bytes .ensures _ refl) ∙ ap refusalOf (e .enum-told .given .1)))
 
 returns-2 : tie.Need-returns-2
 unfolding bytesOf

@@ -1,6 +1,6 @@
 -- `runs::finish` meets its contract: refused, or done.
 -- Assumes nothing.
-use mathlib.Core.Path.{sym, ap, _∙_}
+use mathlib.Core.Path.{refl, sym, ap, _∙_}
 use Rattle.refusal.specs.Numbers.{numberFor}
 use Rattle.reader.specs.Said.{refusalOf}
 use Rattle.runs.specs.Refusals.{finishRefusal}
@@ -20,7 +20,7 @@ enum-told : tie.Need-enum-told
 enum-told c = search needs
 
 finish-on-requires : tie.Need-finish-on-requires
-finish-on-requires c κs = let w = c .before .before .before in sym (w .of-finish .ensures) ∙ ap refusalOf (c .before .enum-told .given .1)
+finish-on-requires c κs = let w = c .before .before .before in sym (w .of-finish .ensures _ refl) ∙ ap refusalOf (c .before .enum-told .given .1)
 
 same-length : tie.Need-same-length
 same-length c = search needs
@@ -29,12 +29,9 @@ returns : tie.Need-returns
 unfolding finishOf
 returns c =
     let w = c .before .before .before in
-    let a = w .before .before .before .args in
+    let a = w .before .before .args in
     is-refused (a .s) (a .hold .now) (finishingBy (finishingOf (a .s) (a .hold .now)) (a .s) (a .hold .now)) (finishRefusal (a .s) (a .hold .now)) (numberFor (c .before .c .given .0 .0))
-    (sym (w .of-finish .ensures) ∙ ap refusalOf (c .before .c .given .1))
-
-same-length-2 : tie.Need-same-length-2
-same-length-2 c = search needs
+    (sym (w .of-finish .ensures _ refl) ∙ ap refusalOf (c .before .c .given .1))
 
 returns-2 : tie.Need-returns-2
 unfolding finishOf
@@ -42,10 +39,10 @@ returns-2 c =
     let d = c .before .before in
     let e = d .before .before in
     let w = e .before .before in
-    let a = w .before .before .before .args in
+    let a = w .before .before .args in
     d .finish-on .ensures
     ∙ is-done (a .s) (a .hold .now) (finishingBy (finishingOf (a .s) (a .hold .now)) (a .s) (a .hold .now)) (finishRefusal (a .s) (a .hold .now))
-    (sym (w .of-finish .ensures) ∙ ap refusalOf (e .enum-told .given .1))
+    (sym (w .of-finish .ensures _ refl) ∙ ap refusalOf (e .enum-told .given .1))
 
 pub finish-spec : {M : Type 1} → statement M
 finish-spec =
@@ -55,7 +52,6 @@ finish-spec =
     enum-known-c
     enum-told
     finish-on-requires
-    same-length
     returns
-    same-length-2
+    same-length
     returns-2)
