@@ -87,7 +87,7 @@ fn feed_on(s: State, hold: &mut [u8], piece: &[u8]) -> FeedAnswer
 pub fn feed(s: State, hold: &mut [u8], piece: &[u8]) -> FeedAnswer
     ensures { λ r. ⌜ outcome (saidFed (r .answer)) (r .state) (now (hold .exit)) ≡ feedOf s (now (hold .entry)) (now (piece .entry)) ⌝ }
 {
-    let c = refusals::of_feed(s, hold, piece);
+    let c = refusals::of_feed(s, hold, piece.len());
     match c {
         Check::Refused(why) => FeedAnswer {
             answer: Fed::Refused(why),

@@ -42,9 +42,9 @@ fn may_call(s: State, hold: usize) -> bool
     reader::is_sound(s) & (65536 <= hold)
 }
 
-// Feed: 1, 2, 3.
-pub fn of_feed(s: State, hold: &[u8], piece: &[u8]) -> Check
-    ensures { λ r. ⌜ refusalOf r ≡ feedRefusal s (now (hold .entry)) (now (piece .entry)) ⌝ }
+// Feed, with a piece of so many bytes: 1, 2, 3.
+pub fn of_feed(s: State, hold: &[u8], piece: usize) -> Check
+    ensures { λ r. ⌜ ((v : List ℕ) → length v ≡ piece → refusalOf r ≡ feedRefusal s (now (hold .entry)) v) ⌝ }
 {
     if !may_call(s, hold.len()) {
         return Check::Refused(Refusal::BadBuffer);
@@ -54,7 +54,7 @@ pub fn of_feed(s: State, hold: &[u8], piece: &[u8]) -> Check
     if !is_feeding(phase) {
         return Check::Refused(Refusal::OutOfTurn);
     }
-    if (run.counts.taken < 4294967295) | (piece.len() == 0) {
+    if (run.counts.taken < 4294967295) | (piece == 0) {
         return Check::Passed;
     }
     let held = run.held;

@@ -1,6 +1,6 @@
 -- `runs::feed` meets its contract: refused, or done.
 -- Assumes nothing.
-use mathlib.Core.Path.{sym, ap, _∙_}
+use mathlib.Core.Path.{refl, sym, ap, _∙_}
 use Rattle.refusal.specs.Numbers.{numberFor}
 use Rattle.reader.specs.Said.{refusalOf}
 use Rattle.runs.specs.Refusals.{feedRefusal}
@@ -20,7 +20,7 @@ enum-told : tie.Need-enum-told
 enum-told c = search needs
 
 feed-on-requires : tie.Need-feed-on-requires
-feed-on-requires c κs = let w = c .before .before .before in sym (w .of-feed .ensures) ∙ ap refusalOf (c .before .enum-told .given .1)
+feed-on-requires c κs = let w = c .before .before .before in sym (w .of-feed .ensures _ refl) ∙ ap refusalOf (c .before .enum-told .given .1)
 
 same-length : tie.Need-same-length
 same-length c = search needs
@@ -31,7 +31,7 @@ returns c =
     let w = c .before .before .before in
     let a = w .before .before .before .before .args in
     is-refused (a .s) (a .hold .now) (feedingBy (feedingOf (a .s) (a .hold .now) (a .piece .now)) (a .s) (a .hold .now)) (feedRefusal (a .s) (a .hold .now) (a .piece .now)) (numberFor (c .before .c .given .0 .0))
-    (sym (w .of-feed .ensures) ∙ ap refusalOf (c .before .c .given .1))
+    (sym (w .of-feed .ensures _ refl) ∙ ap refusalOf (c .before .c .given .1))
 
 same-length-2 : tie.Need-same-length-2
 same-length-2 c = search needs
@@ -45,7 +45,7 @@ returns-2 c =
     let a = w .before .before .before .before .args in
     d .feed-on .ensures
     ∙ is-done (a .s) (a .hold .now) (feedingBy (feedingOf (a .s) (a .hold .now) (a .piece .now)) (a .s) (a .hold .now)) (feedRefusal (a .s) (a .hold .now) (a .piece .now))
-    (sym (w .of-feed .ensures) ∙ ap refusalOf (e .enum-told .given .1))
+    (sym (w .of-feed .ensures _ refl) ∙ ap refusalOf (e .enum-told .given .1))
 
 pub feed-spec : {M : Type 1} → statement M
 feed-spec =

@@ -24,10 +24,10 @@ use Rattle.runs.proofs.refusals.of_feed.Tie as tie
 may-call-requires : tie.Need-may-call-requires
 may-call-requires c κs = search needs
 
-long : (c : tie.Else1) → (sound (c .before .before .before .before .args .s) && longHold (c .before .before .before .before .args .hold .now)) ≡ true
+long : (c : tie.Else1) → (sound (c .before .before .before .args .s) && longHold (c .before .before .before .args .hold .now)) ≡ true
 long c = sym (c .before .may-call .ensures) ∙ not-false _ (c .if1 .left)
 
-fed : (c : tie.Else2) → isFeeding (c .before .before .before .before .before .before .before .args .s .run .phase) ≡ true
+fed : (c : tie.Else2) → isFeeding (c .before .before .before .before .before .before .args .s .run .phase) ≡ true
 fed c = sym (c .before .is-feeding .ensures) ∙ not-false _ (c .if2 .left)
 
 -- where a run may take more, or no more is given, the held bytes are not looked at
@@ -58,16 +58,20 @@ safe s hold = sound s && longHold hold
 abbrev may : State → Bool
 may s = ltb (s .run .counts .taken) limit
 
-abbrev empty : List ℕ → Bool
-empty piece = eqb (length piece) 0
+-- a piece of so many bytes is empty, and so is what has its length
+abbrev empty : ℕ → Bool
+empty n = eqb n 0
+
+also : (a x : Bool) (v : List ℕ) (n : ℕ) {y : Bool} → length v ≡ n → (a || (empty n || x)) ≡ y → (a || (empty (length v) || x)) ≡ y
+also a x v n e f = ap (λ (m : ℕ). a || (empty m || x)) e ∙ f
 
 abbrev gives : State → List ℕ → Bool
 gives s hold = isSome (settle judged (restOf hold (s .run .held) (s .run .standing)) .standing)
 
 returns : tie.Need-returns
 unfolding feedRefusal
-returns c =
-    let a = c .before .before .before .before .args in
+returns c v same =
+    let a = c .before .before .before .args in
     at-1 (safe (a .s) (a .hold .now)) _ (sym (c .before .may-call .ensures) ∙ not-true _ (c .if1 .taken))
 
 is-feeding-requires : tie.Need-is-feeding-requires
@@ -75,41 +79,41 @@ is-feeding-requires c κs = search needs
 
 returns-2 : tie.Need-returns-2
 unfolding feedRefusal
-returns-2 c =
+returns-2 c v same =
     let e = c .before .before .before in
-    let a = e .before .before .before .before .args in
+    let a = e .before .before .before .args in
     at-2 (safe (a .s) (a .hold .now)) (isFeeding (a .s .run .phase)) _ (long e) (sym (c .before .is-feeding .ensures) ∙ not-true _ (c .if2 .taken))
 
 returns-3 : tie.Need-returns-3
 unfolding feedRefusal
-returns-3 c =
+returns-3 c v same =
     let e = c .before .before in
-    let a = e .before .before .before .before .before .before .before .args in
+    let a = e .before .before .before .before .before .before .args in
     at-3 (safe (a .s) (a .hold .now)) (isFeeding (a .s .run .phase)) _ true (long (e .before .before .before)) (fed e)
-    (open-or (may (a .s)) (empty (a .piece .now)) (gives (a .s) (a .hold .now)) (c .if3 .taken))
+    (also (may (a .s)) (gives (a .s) (a .hold .now)) v (a .piece) same (open-or (may (a .s)) (empty (a .piece)) (gives (a .s) (a .hold .now)) (c .if3 .taken)))
 
 gives-block-requires : tie.Need-gives-block-requires
 gives-block-requires c κs =
     let e = c .before .before in
-    let a = e .before .before .before .before .before .before .before .args in
+    let a = e .before .before .before .before .before .before .args in
     let f = with-hold (a .s) (a .hold .now) (long (e .before .before .before)) in
     (f .0 .front, omega (arith, f .0 .held, f .1))
 
 returns-4 : tie.Need-returns-4
 unfolding feedRefusal
-returns-4 c =
+returns-4 c v same =
     let e = c .before .before .before .before in
-    let a = e .before .before .before .before .before .before .before .args in
+    let a = e .before .before .before .before .before .before .args in
     at-3 (safe (a .s) (a .hold .now)) (isFeeding (a .s .run .phase)) _ true (long (e .before .before .before)) (fed e)
-    (full-or (may (a .s)) (empty (a .piece .now)) (gives (a .s) (a .hold .now)) (c .before .before .if3 .left) ∙ sym (c .before .gives-block .ensures) ∙ c .if4 .taken)
+    (also (may (a .s)) (gives (a .s) (a .hold .now)) v (a .piece) same (full-or (may (a .s)) (empty (a .piece)) (gives (a .s) (a .hold .now)) (c .before .before .if3 .left) ∙ sym (c .before .gives-block .ensures) ∙ c .if4 .taken))
 
 returns-5 : tie.Need-returns-5
 unfolding feedRefusal
-returns-5 c =
+returns-5 c v same =
     let e = c .before .before .before .before in
-    let a = e .before .before .before .before .before .before .before .args in
+    let a = e .before .before .before .before .before .before .args in
     at-3 (safe (a .s) (a .hold .now)) (isFeeding (a .s .run .phase)) _ false (long (e .before .before .before)) (fed e)
-    (full-or (may (a .s)) (empty (a .piece .now)) (gives (a .s) (a .hold .now)) (c .before .before .if3 .left) ∙ sym (c .before .gives-block .ensures) ∙ c .if4 .left)
+    (also (may (a .s)) (gives (a .s) (a .hold .now)) v (a .piece) same (full-or (may (a .s)) (empty (a .piece)) (gives (a .s) (a .hold .now)) (c .before .before .if3 .left) ∙ sym (c .before .gives-block .ensures) ∙ c .if4 .left))
 
 pub of-feed-spec : {M : Type 1} → statement M
 of-feed-spec =
