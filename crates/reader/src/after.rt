@@ -1,8 +1,11 @@
-// After a call: the run and its counts. Here alone what a call did is added to the counts.
+// After a call: the run, its counts, and what is reported of a block. Here alone what a call did is added to the counts.
 ghost use mathlib.Core.Path.{_≡_};
 ghost use Prim.Native.Nat.{_+_, _≤_};
 ghost use Rattle.reader.specs.Counting.{withRun};
-ghost use Rattle.reader.specs.Code.{oneBy, countedBy, runBy};
+ghost use lib.ListN.{length};
+ghost use Rattle.reader.specs.Said.{reportOf};
+ghost use Rattle.reader.specs.Code.{oneBy, countedBy, runBy, phaseBy, reportAt};
+use crate::Block;
 use crate::Counts;
 use crate::Phase;
 use crate::Run;
@@ -50,5 +53,30 @@ pub fn with_run(s: State, r: Run) -> State
         run: r,
         in_force: s.in_force,
         waiting: s.waiting,
+    }
+}
+
+// Finish leaves a block of so many bytes, or 0 for none and the run's end.
+pub fn phase_after(standing: usize) -> Phase
+    ensures { λ r. ⌜ r ≡ phaseBy standing ⌝ }
+{
+    if standing == 0 {
+        Phase::Closed
+    } else {
+        Phase::Finishing
+    }
+}
+
+// The block of n bytes that stands at the front of the hold, at the place p.
+pub fn block_at(hold: &[u8], p: usize, n: usize) -> Block
+    requires { ⌜ 6 ≤ length (now hold) ⌝ }
+    ensures { λ r. ⌜ reportOf r ≡ reportAt (now (hold .entry)) p n ⌝ }
+{
+    let id = wire::u2(hold, 4);
+    Block {
+        place: p,
+        number: wire::number(id),
+        revision: wire::revision(id),
+        length: n,
     }
 }

@@ -1,7 +1,9 @@
 // A reader's state, what is reported of a block, what refusal 1 asks of the state, and whether a call is refused. The calls are
 // those of `tables`, `runs` and `records`.
 ghost use mathlib.Core.Path.{_≡_};
+ghost use mathlib.Core.Bool.{_&&_};
 ghost use mathlib.Core.Option.{none};
+ghost use lib.Dec.{leb};
 ghost use Rattle.reader.specs.State.{noCounts, newState, sound};
 ghost use Rattle.reader.specs.Said.{refusalOf};
 ghost use Rattle.reader.specs.Refusals.{isClosed, need};
@@ -94,6 +96,13 @@ pub fn is_sound(s: State) -> bool
         & (c.taken <= 4294967295)
         & (c.blocks <= c.taken)
         & (c.skipped <= c.taken)
+}
+
+// 1: the state is sound, and a hold of so many bytes is long enough.
+pub fn may_call(s: State, hold: usize) -> bool
+    ensures { λ r. ⌜ r ≡ (sound s && leb 65536 hold) ⌝ }
+{
+    is_sound(s) & (65536 <= hold)
 }
 
 // 1 of a call that is lent nothing.

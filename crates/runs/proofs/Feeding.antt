@@ -22,11 +22,10 @@ use Rattle.scan.proofs.Calls.{call, fed-stopped, settle-sum}
 use Rattle.feed.specs.Hold.{numbersOf}
 use Rattle.feed.specs.declared.Fed.{Fed}
 use Rattle.reader.specs.Counting.{one}
-use Rattle.reader.specs.Code.{oneBy, runBy}
+use Rattle.reader.specs.Code.{oneBy, runBy, reportAt, phaseBy}
 use Rattle.reader.specs.declared.Phase.{Phase}
 use Rattle.reader.specs.declared.Run.{Run}
 use Rattle.runs.specs.Calls.{reported, runOn, phaseAfter}
-use Rattle.runs.specs.Code.{reportAt, phaseBy}
 
 -- ---- a standing block is there whole
 

@@ -1,4 +1,3 @@
 pub mod Said
 pub mod Refusals
 pub mod Calls
-pub mod Code

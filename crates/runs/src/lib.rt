@@ -1,14 +1,11 @@
 // A run that is open: Feed, Finish, and the bytes of the block just reported.
 ghost use mathlib.Core.Path.{_≡_};
 ghost use mathlib.Core.Option.{none};
-ghost use Prim.Native.Nat.{_≤_};
-ghost use lib.ListN.{length};
-ghost use Rattle.reader.specs.Said.{reportOf, refusalOf};
+ghost use Rattle.reader.specs.Said.{refusalOf};
 ghost use Rattle.reader.specs.Outcome.{outcome};
 ghost use Rattle.runs.specs.Said.{saidFed, saidFinished};
 ghost use Rattle.runs.specs.Refusals.{feedRefusal, finishRefusal, bytesRefusal};
 ghost use Rattle.runs.specs.Calls.{feedingOf, feedingBy, feedOf, finishingOf, finishingBy, finishOf, bytesOf};
-ghost use Rattle.runs.specs.Code.{reportAt, phaseBy};
 
 mod refusals; // refusals.rt: the refusals of each call, in their order
 
@@ -44,20 +41,6 @@ pub struct FinishAnswer {
     pub state: State,
 }
 
-// The block of n bytes that stands at the front of the hold, at the place p.
-fn block_at(hold: &[u8], p: usize, n: usize) -> Block
-    requires { ⌜ 6 ≤ length (now hold) ⌝ }
-    ensures { λ r. ⌜ reportOf r ≡ reportAt (now (hold .entry)) p n ⌝ }
-{
-    let id = wire::u2(hold, 4);
-    Block {
-        place: p,
-        number: wire::number(id),
-        revision: wire::revision(id),
-        length: n,
-    }
-}
-
 fn feed_on(s: State, hold: &mut [u8], piece: &[u8]) -> FeedAnswer
     requires { ⌜ feedRefusal s (now hold) (now piece) ≡ none ⌝ }
     ensures { λ r. ⌜ outcome (saidFed (r .answer)) (r .state) (now (hold .exit)) ≡ feedingBy (feedingOf s (now (hold .entry)) (now (piece .entry))) s (now (hold .entry)) ⌝ }
@@ -77,7 +60,7 @@ fn feed_on(s: State, hold: &mut [u8], piece: &[u8]) -> FeedAnswer
             state,
         };
     }
-    let block = block_at(hold, next.counts.taken - next.held, len);
+    let block = after::block_at(hold, next.counts.taken - next.held, len);
     FeedAnswer {
         answer: Fed::Block(taken, block),
         state,
@@ -97,17 +80,6 @@ pub fn feed(s: State, hold: &mut [u8], piece: &[u8]) -> FeedAnswer
     }
 }
 
-// Finish leaves a block of so many bytes, or 0 for none and the run's end.
-fn phase_after(standing: usize) -> Phase
-    ensures { λ r. ⌜ r ≡ phaseBy standing ⌝ }
-{
-    if standing == 0 {
-        Phase::Closed
-    } else {
-        Phase::Finishing
-    }
-}
-
 fn finish_on(s: State, hold: &mut [u8]) -> FinishAnswer
     requires { ⌜ finishRefusal s (now hold) ≡ none ⌝ }
     ensures { λ r. ⌜ outcome (saidFinished (r .answer)) (r .state) (now (hold .exit)) ≡ finishingBy (finishingOf s (now (hold .entry))) s (now (hold .entry)) ⌝ }
@@ -117,7 +89,7 @@ fn finish_on(s: State, hold: &mut [u8]) -> FinishAnswer
     let standing = run.standing;
     let f = feed::finish(hold, held, standing);
     let len = f.standing;
-    let next = after::went_on(run, phase_after(len), f);
+    let next = after::went_on(run, after::phase_after(len), f);
     let state = after::with_run(s, next);
     if len == 0 {
         let counts = next.counts;
@@ -126,7 +98,7 @@ fn finish_on(s: State, hold: &mut [u8]) -> FinishAnswer
             state,
         };
     }
-    let block = block_at(hold, next.counts.taken - next.held, len);
+    let block = after::block_at(hold, next.counts.taken - next.held, len);
     FinishAnswer {
         answer: Finished::Block(block),
         state,

@@ -1,14 +1,11 @@
 // The refusals of Feed, Finish and Bytes, in document 01's order, each tested once.
 ghost use mathlib.Core.Path.{_≡_};
-ghost use mathlib.Core.Bool.{_&&_};
 ghost use mathlib.Core.List.{List};
 ghost use Prim.Native.Nat.{ℕ, _≤_};
 ghost use lib.ListN.{length};
-ghost use lib.Dec.{leb};
 ghost use Rattle.feed.specs.Hold.{restOf};
 ghost use Rattle.frame.specs.Judge.{judged};
 ghost use Rattle.scan.specs.Settle.{settle};
-ghost use Rattle.reader.specs.State.{sound};
 ghost use Rattle.reader.specs.Said.{refusalOf};
 ghost use Rattle.runs.specs.Refusals.{isFeeding, isSome, feedRefusal, finishRefusal, bytesRefusal};
 use reader::Check;
@@ -35,18 +32,11 @@ fn gives_block(hold: &[u8], held: usize, standing: usize) -> bool
     0 < found.block
 }
 
-// 1: the state is sound, and a hold of so many bytes is long enough.
-fn may_call(s: State, hold: usize) -> bool
-    ensures { λ r. ⌜ r ≡ (sound s && leb 65536 hold) ⌝ }
-{
-    reader::is_sound(s) & (65536 <= hold)
-}
-
 // Feed, with a piece of so many bytes: 1, 2, 3.
 pub fn of_feed(s: State, hold: &[u8], piece: usize) -> Check
     ensures { λ r. ⌜ ((v : List ℕ) → length v ≡ piece → refusalOf r ≡ feedRefusal s (now (hold .entry)) v) ⌝ }
 {
-    if !may_call(s, hold.len()) {
+    if !reader::may_call(s, hold.len()) {
         return Check::Refused(Refusal::BadBuffer);
     }
     let run = s.run;
@@ -70,7 +60,7 @@ pub fn of_feed(s: State, hold: &[u8], piece: usize) -> Check
 pub fn of_finish(s: State, hold: usize) -> Check
     ensures { λ r. ⌜ ((v : List ℕ) → length v ≡ hold → refusalOf r ≡ finishRefusal s v) ⌝ }
 {
-    if !may_call(s, hold) {
+    if !reader::may_call(s, hold) {
         return Check::Refused(Refusal::BadBuffer);
     }
     let run = s.run;
@@ -85,7 +75,7 @@ pub fn of_finish(s: State, hold: usize) -> Check
 pub fn of_bytes(s: State, hold: usize) -> Check
     ensures { λ r. ⌜ ((v : List ℕ) → length v ≡ hold → refusalOf r ≡ bytesRefusal s v) ⌝ }
 {
-    if may_call(s, hold) {
+    if reader::may_call(s, hold) {
         Check::Passed
     } else {
         Check::Refused(Refusal::BadBuffer)

@@ -16,9 +16,8 @@ use Rattle.reader.specs.Said.{Report, took}
 use Rattle.reader.specs.Refusals.{longHold}
 use Rattle.runs.specs.Refusals.{feedRefusal}
 use Rattle.reader.specs.Counting.{withRun}
-use Rattle.reader.specs.Code.{runBy}
+use Rattle.reader.specs.Code.{runBy, reportAt}
 use Rattle.runs.specs.Calls.{reported, reportIf, front, runOn, feedingOf}
-use Rattle.runs.specs.Code.{reportAt}
 use Rattle.reader.specs.declared.Phase.the-variants as phase
 use Rattle.reader.specs.declared.Run.{Run}
 use Rattle.reader.proofs.Laws.{passes, Facts, with-hold}

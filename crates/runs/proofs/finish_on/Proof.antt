@@ -16,9 +16,8 @@ use Rattle.reader.specs.Said.{ended, found}
 use Rattle.reader.specs.Refusals.{longHold}
 use Rattle.runs.specs.Refusals.{finishRefusal}
 use Rattle.reader.specs.Counting.{withRun}
-use Rattle.reader.specs.Code.{runBy}
+use Rattle.reader.specs.Code.{runBy, reportAt, phaseBy}
 use Rattle.runs.specs.Calls.{reported, front, finishSaid, phaseAfter, runOn, finishingOf}
-use Rattle.runs.specs.Code.{reportAt, phaseBy}
 use Rattle.reader.specs.declared.Phase.{Phase}
 use Rattle.reader.specs.declared.Run.{Run}
 use Rattle.reader.proofs.Laws.{passes, Facts, with-hold}

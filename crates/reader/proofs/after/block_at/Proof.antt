@@ -1,11 +1,11 @@
--- `runs::block_at` meets its contract: the ID at byte 4, split.
+-- `reader::after::block_at` meets its contract: the ID at byte 4, split.
 -- Assumes nothing.
 use mathlib.Core.Path.{ap, ap₂, _∙_}
 use Prim.Native.Nat.{ℕ}
 use Rattle.frame.specs.Frame.{numberOf, revisionOf}
 use borrow.Author.Needs.{needs}
-use Rattle.runs.proofs.block_at.Statement.{statement}
-use Rattle.runs.proofs.block_at.Tie as tie
+use Rattle.reader.proofs.after.block_at.Statement.{statement}
+use Rattle.reader.proofs.after.block_at.Tie as tie
 
 u2-requires : tie.Need-u2-requires
 u2-requires c κs = search needs

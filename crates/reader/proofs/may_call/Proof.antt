@@ -1,11 +1,11 @@
--- `runs::refusals::may_call` meets its contract.
+-- `reader::may_call` meets its contract.
 -- Assumes nothing.
 use mathlib.Core.Path.{ap}
 use mathlib.Core.Bool.{Bool, _&&_}
 use lib.Dec.{leb}
 use borrow.Author.Needs.{needs}
-use Rattle.runs.proofs.refusals.may_call.Statement.{statement}
-use Rattle.runs.proofs.refusals.may_call.Tie as tie
+use Rattle.reader.proofs.may_call.Statement.{statement}
+use Rattle.reader.proofs.may_call.Tie as tie
 
 is-sound-requires : tie.Need-is-sound-requires
 is-sound-requires c κs = search needs

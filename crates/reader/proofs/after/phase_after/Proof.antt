@@ -1,11 +1,11 @@
--- `runs::phase_after` meets its contract.
+-- `reader::after::phase_after` meets its contract.
 -- Assumes nothing.
 use mathlib.Core.Path.{_≡_, refl, sym, ap}
 use Prim.Native.Nat.{ℕ, zero, suc}
 use Rattle.reader.specs.declared.Phase.the-variants.{Finishing}
-use Rattle.runs.specs.Code.{phaseBy}
-use Rattle.runs.proofs.phase_after.Statement.{statement}
-use Rattle.runs.proofs.phase_after.Tie as tie
+use Rattle.reader.specs.Code.{phaseBy}
+use Rattle.reader.proofs.after.phase_after.Statement.{statement}
+use Rattle.reader.proofs.after.phase_after.Tie as tie
 
 stands : (n : ℕ) → (n ≡ 0 → ⊥) → Finishing ≡ phaseBy n
 stands zero f = absurd (f refl)
