@@ -21,7 +21,8 @@ use Rattle.tables.specs.declared.Withdrawn.{Withdrawn}
 use Rattle.tables.specs.declared.Withdrawn.the-variants as withdrawn
 use Rattle.tables.specs.Said.{saidOpened, saidStaged, saidWithdrawn}
 use Rattle.runs.specs.Said.{saidFed, saidFinished}
-use Rattle.cform.specs.State.{phaseNumber, phaseOf, inPhaseIfAny, stateOf, stateC}
+use Rattle.reader.specs.State.{phaseNumber}
+use Rattle.cform.specs.State.{phaseOf, inPhaseIfAny, stateOf, stateC}
 use Rattle.cform.specs.Answer.{answerC, fieldC}
 use Rattle.cform.specs.Theorems.{answerBack, fieldBack, NothingLost}
 use Rattle.cform.specs.declared.CState.{CState}

@@ -9,15 +9,9 @@ use Rattle.reader.specs.declared.Phase.{Phase}
 use Rattle.reader.specs.declared.Phase.the-variants.{Closed, Feeding, Finishing}
 use Rattle.reader.specs.declared.Counts.{Counts}
 use Rattle.reader.specs.declared.State.{State}
-use Rattle.reader.specs.State.{sound}
+use Rattle.reader.specs.State.{phaseNumber, sound}
 use Rattle.cform.specs.declared.CCounts.{CCounts}
 use Rattle.cform.specs.declared.CState.{CState}
-
--- the phases' numbers: 0 closed, 1 feeding, 2 after the first Finish
-abbrev pub phaseNumber : Phase → ℕ
-phaseNumber Closed = 0
-phaseNumber Feeding = 1
-phaseNumber Finishing = 2
 
 -- the phase of a number: any other is none
 unfoldable pub phaseOf : ℕ → Option Phase

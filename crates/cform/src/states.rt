@@ -1,6 +1,6 @@
 // States as C has them, from the reader's and back.
 ghost use mathlib.Core.Path.{_≡_};
-ghost use Rattle.cform.specs.State.{phaseNumber, inPhase, stateOf, Reads, stateC};
+ghost use Rattle.cform.specs.State.{inPhase, stateOf, Reads, stateC};
 use crate::CCounts;
 use crate::CState;
 use reader::Counts;
@@ -58,23 +58,13 @@ pub fn state_of(s: CState) -> State
     }
 }
 
-fn phase_number(p: Phase) -> usize
-    ensures { λ r. ⌜ r ≡ phaseNumber p ⌝ }
-{
-    match p {
-        Phase::Closed => 0,
-        Phase::Feeding => 1,
-        Phase::Finishing => 2,
-    }
-}
-
 pub fn state_c(s: State) -> CState
     ensures { λ r. ⌜ r ≡ stateC s ⌝ }
 {
     let run = s.run;
     let phase = run.phase;
     CState {
-        phase: phase_number(phase),
+        phase: reader::phase_number(phase),
         held: run.held,
         standing: run.standing,
         counts: CCounts {

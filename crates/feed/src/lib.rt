@@ -42,16 +42,10 @@ fn move_down(hold: &mut [u8], from: usize, k: usize)
     let mut buf = [0u8; 1024];
     let mut moved: usize = 0;
     while moved < k {
-        let n = lesser(k - moved, 1024);
+        let n = frame::lesser(k - moved, 1024);
         move_some(hold, from + moved, moved, &mut buf, n);
         moved += n;
     }
-}
-
-fn lesser(a: usize, b: usize) -> usize
-    ensures { λ r. ⌜ r ≡ min a b ⌝ }
-{
-    if a < b { a } else { b }
 }
 
 // The bytes p .. m of the run go to the front of the hold. The run: the n bytes behind the standing block, then the piece.
@@ -76,7 +70,7 @@ pub fn feed(hold: &mut [u8], held: usize, standing: usize, piece: &[u8], room: u
     ensures { λ r. ⌜ Good r (min room (length (now (piece .entry)))) ⌝ }
 {
     let n = held - standing;
-    let t = lesser(room, piece.len());
+    let t = frame::lesser(room, piece.len());
     let found = scan::scan(&hold[standing..held], &piece[..t]);
     let passed = found.passed;
     let p = passed.skipped;

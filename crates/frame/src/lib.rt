@@ -31,7 +31,8 @@ pub enum Verdict {
     Undecided,
 }
 
-fn lesser(a: usize, b: usize) -> usize
+// The lesser of two lengths.
+pub fn lesser(a: usize, b: usize) -> usize
     ensures { λ r. ⌜ r ≡ min a b ⌝ }
 {
     if a < b { a } else { b }

@@ -6,11 +6,10 @@ ghost use mathlib.Core.List.{_++_};
 ghost use Rattle.refusal.specs.Numbers.{numberFor};
 ghost use Rattle.reader.specs.Said.{reportOf};
 ghost use Rattle.phrases.specs.Lines.{blockWords, blockLine, countsText, endWords, endLine};
-ghost use Rattle.phrases.specs.Replies.{refusedText, phaseFor, stateText};
+ghost use Rattle.phrases.specs.Replies.{refusedText, stateText};
 ghost use Rattle.phrases.specs.Samples.{Samples};
 use reader::Block;
 use reader::Counts;
-use reader::Phase;
 use reader::State;
 use refusal::Refusal;
 
@@ -78,16 +77,6 @@ pub fn end_line(out: &mut [u8; 8192], at: usize, c: Counts) -> usize
     text::put(out, words, b"\n")
 }
 
-fn number_for(p: Phase) -> u64
-    ensures { λ r. ⌜ r ≡ phaseFor p ⌝ }
-{
-    match p {
-        Phase::Closed => 0,
-        Phase::Feeding => 1,
-        Phase::Finishing => 2,
-    }
-}
-
 // The state's eight numbers, behind a bar.
 pub fn state_of(out: &mut [u8; 8192], at: usize, s: State) -> usize
     requires { ⌜ at + 170 ≤ 8192 ⌝ }
@@ -97,7 +86,7 @@ pub fn state_of(out: &mut [u8; 8192], at: usize, s: State) -> usize
     let run = s.run;
     let phase = run.phase;
     let sums = run.counts;
-    let bar = text::told(out, at, b" |", number_for(phase));
+    let bar = text::told(out, at, b" |", reader::phase_number(phase) as u64);
     let force = text::number(out, bar, s.in_force as u64);
     let waiting = text::number(out, force, s.waiting as u64);
     let held = text::number(out, waiting, run.held as u64);

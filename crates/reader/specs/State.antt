@@ -1,12 +1,19 @@
--- The state: a new reader's, and what refusal 1 asks of any (document 01, 'Calls and their answers').
+-- The state: its phase by number, a new reader's, and what refusal 1 asks of any (document 01, 'Calls and their answers').
 -- Assumes nothing.
 use Prim.Native.Nat.{ℕ}
 use mathlib.Core.Bool.{Bool, _&&_}
 use lib.Dec.{leb}
-use Rattle.reader.specs.declared.Phase.the-variants.{Closed}
+use Rattle.reader.specs.declared.Phase.{Phase}
+use Rattle.reader.specs.declared.Phase.the-variants.{Closed, Feeding, Finishing}
 use Rattle.reader.specs.declared.Counts.{Counts}
 use Rattle.reader.specs.declared.Run.{Run}
 use Rattle.reader.specs.declared.State.{State}
+
+-- the phases' numbers, in C and in replay's lines: 0 closed, 1 feeding, 2 after the first Finish
+abbrev pub phaseNumber : Phase → ℕ
+phaseNumber Closed = 0
+phaseNumber Feeding = 1
+phaseNumber Finishing = 2
 
 -- "the run has 4,294,967,295 bytes"
 abbrev pub limit : ℕ

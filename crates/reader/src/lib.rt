@@ -4,7 +4,7 @@ ghost use mathlib.Core.Path.{_≡_};
 ghost use mathlib.Core.Bool.{_&&_};
 ghost use mathlib.Core.Option.{none};
 ghost use lib.Dec.{leb};
-ghost use Rattle.reader.specs.State.{noCounts, newState, sound};
+ghost use Rattle.reader.specs.State.{phaseNumber, noCounts, newState, sound};
 ghost use Rattle.reader.specs.Said.{refusalOf};
 ghost use Rattle.reader.specs.Refusals.{isClosed, need};
 ghost use Rattle.reader.specs.Outcome.{RefusalKeeps};
@@ -113,6 +113,17 @@ pub fn of_state(s: State) -> Check
         Check::Passed
     } else {
         Check::Refused(Refusal::BadBuffer)
+    }
+}
+
+// A phase by its number.
+pub fn phase_number(p: Phase) -> usize
+    ensures { λ r. ⌜ r ≡ phaseNumber p ⌝ }
+{
+    match p {
+        Phase::Closed => 0,
+        Phase::Feeding => 1,
+        Phase::Finishing => 2,
     }
 }
 

@@ -8,7 +8,8 @@ use lib.ListN.{take}
 use Rattle.text.proofs.Joins.{joined}
 use Rattle.text.specs.Numbers.{spaced}
 use Rattle.phrases.specs.Lines.{countsText}
-use Rattle.phrases.specs.Replies.{wordBar, phaseFor}
+use Rattle.reader.specs.State.{phaseNumber}
+use Rattle.phrases.specs.Replies.{wordBar}
 use borrow.Author.Needs.{needs}
 use Rattle.phrases.proofs.state_of.Statement.{statement}
 use Rattle.phrases.proofs.state_of.Tie as tie
@@ -16,8 +17,8 @@ use Rattle.phrases.proofs.state_of.Tie as tie
 slice-aggregate-told : tie.Need-slice-aggregate-told
 slice-aggregate-told c = search needs
 
-number-for-requires : tie.Need-number-for-requires
-number-for-requires c κs = search needs
+phase-number-requires : tie.Need-phase-number-requires
+phase-number-requires c κs = search needs
 
 told-requires : tie.Need-told-requires
 told-requires c κs = search needs
@@ -48,8 +49,8 @@ returns c =
     let n3 = c .before .before .before .before .number3 .ensures in
     let n4 = c .before .before .number4 .ensures in
     let x = take (a .at) (a .out .now) in
-    let p = c .before .before .before .before .before .before .before .before .before .before .before .number-for .ensures in
-    let bar = wordBar ++ spaced (phaseFor (s .run .phase)) in
+    let p = c .before .before .before .before .before .before .before .before .before .before .before .phase-number .ensures in
+    let bar = wordBar ++ spaced (phaseNumber (s .run .phase)) in
     let force = bar ++ spaced (s .«in_force») in
     let waiting = force ++ spaced (s .waiting) in
     let held = waiting ++ spaced (s .run .held) in
@@ -64,7 +65,7 @@ state-of-spec =
     tie.close
     (tie.spec
     slice-aggregate-told
-    number-for-requires
+    phase-number-requires
     told-requires
     number-requires
     number-requires-2
