@@ -1,12 +1,11 @@
-// What stands at a place of a run, which lies in two slices: the held bytes, then the piece.
+// What stands at a place of a run, which lies in two slices, the held bytes and then the piece; at the run's end in one.
 ghost use mathlib.Core.Path.{_≡_};
-ghost use mathlib.Core.Bool.{true};
 ghost use mathlib.Core.List.{_++_};
 ghost use Prim.Native.Nat.{min, _+_, _≤_, _<_};
 ghost use lib.ListN.{length, getD, take, drop};
 ghost use Rattle.crc.specs.Crc.{crcOf};
 ghost use Rattle.wire.specs.Little.{littleAt};
-ghost use Rattle.frame.specs.Frame.{allowed, frameAt, lengthAt, wholeFrame};
+ghost use Rattle.frame.specs.Frame.{allowed, wholeFrame};
 ghost use Rattle.frame.specs.Judge.{judged, judgedLast};
 
 // Why no frame stands at a place.

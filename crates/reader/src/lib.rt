@@ -1,5 +1,5 @@
-// A reader's state, what is reported of a block, what refusal 1 asks of the state, and whether a call is refused. The calls are
-// those of `tables`, `runs` and `records`.
+// A reader's state, what is reported of a block, what refusal 1 asks of the state and of a hold, and whether a call is refused. The
+// calls are those of `tables`, `runs` and `records`.
 ghost use mathlib.Core.Path.{_≡_};
 ghost use mathlib.Core.Bool.{_&&_};
 ghost use mathlib.Core.Option.{none};
@@ -9,7 +9,7 @@ ghost use Rattle.reader.specs.Said.{refusalOf};
 ghost use Rattle.reader.specs.Refusals.{isClosed, need};
 ghost use Rattle.reader.specs.Outcome.{RefusalKeeps};
 
-pub mod after; // after.rt: a run and its counts after a call
+pub mod after; // after.rt: after a call, the run, its counts and what is reported of a block
 
 use refusal::Refusal;
 

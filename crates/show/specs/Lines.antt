@@ -4,9 +4,8 @@ use Prim.Native.Nat.{ℕ}
 use mathlib.Core.Bool.{Bool, true, false, cond}
 use mathlib.Core.List.{List, [], _∷_, _++_}
 use mathlib.Core.Option.{none, some}
-use Rattle.text.specs.Numbers.{spaced}
+use Rattle.text.specs.Numbers.{spaced, crcText}
 use Rattle.phrases.specs.Lines.{newline, blockWords, endWords}
-use Rattle.text.specs.Numbers.{crcText}
 use Rattle.phrases.specs.Replies.{refusedText, wordBar}
 use Rattle.reader.specs.Said.{Said, refused, version, took, found, ended, waited}
 use Rattle.desk.specs.declared.Crcs.{Crcs}

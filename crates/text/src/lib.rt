@@ -28,7 +28,7 @@ fn put_digits(out: &mut [u8; 8192], at: usize, digits: &[u8; 20], k: usize) -> u
 }
 
 // A number in decimal.
-pub fn decimal_digits(out: &mut [u8; 8192], at: usize, n: u64) -> usize
+fn decimal_digits(out: &mut [u8; 8192], at: usize, n: u64) -> usize
     requires { ⌜ at + 20 ≤ 8192 ⌝ }
     ensures { λ r. ⌜ r ≤ at + 20 ⌝ }
     ensures { λ r. ⌜ take r (now (out .exit)) ≡ take at (now (out .entry)) ++ decimal n ⌝ }

@@ -3,8 +3,7 @@
 -- Assumes nothing.
 use Prim.Native.Nat.{ℕ}
 use mathlib.Core.List.{List, [], _∷_, _++_}
-use Rattle.text.specs.Numbers.{spaced}
-use Rattle.text.specs.Numbers.{crcText}
+use Rattle.text.specs.Numbers.{spaced, crcText}
 use Rattle.phrases.specs.Replies.{refusedText}
 use Rattle.refusal.specs.Numbers.{numberFor}
 use Rattle.record.specs.Answer.{answerSays}

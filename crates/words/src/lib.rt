@@ -1,4 +1,4 @@
-// The words of a line: where one ends, its key, decimal numbers, bytes in hex.
+// The words of a line: where one ends, its key, decimal numbers, bytes in hex; and the keys of a script's words.
 ghost use Prim.Native.Nat.{_+_, _≤_, _<_};
 ghost use mathlib.Core.Path.{_≡_};
 ghost use lib.ListN.{length, take, drop};
@@ -53,7 +53,7 @@ pub fn told_apart()
     ensures { λ _. ⌜ ToldApart ⌝ }
 {}
 
-// The keys of a script's words are the numbers that `script` matches.
+// The keys of a script's words. `script` matches on these numbers, which no proof says.
 pub fn keys_hold()
     ensures { λ _. ⌜ KeysHold ⌝ }
 {}

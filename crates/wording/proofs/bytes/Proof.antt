@@ -4,8 +4,7 @@ use mathlib.Core.List.{_++_}
 use native.Mathlib.Omega.{arith}
 use lib.ListN.{take}
 use Rattle.text.proofs.Joins.{joined}
-use Rattle.text.specs.Numbers.{spaced}
-use Rattle.text.specs.Numbers.{crcText}
+use Rattle.text.specs.Numbers.{spaced, crcText}
 use Rattle.wording.specs.Lines.{wordPart}
 use borrow.Author.Needs.{needs}
 use Rattle.wording.proofs.bytes.Statement.{statement}

@@ -1,6 +1,6 @@
 -- `runs::refusals::of_bytes` meets its contract.
 -- Assumes nothing.
-use mathlib.Core.Path.{_≡_, sym, ap, _∙_}
+use mathlib.Core.Path.{sym, ap, _∙_}
 use mathlib.Core.Bool.{Bool, _&&_}
 use mathlib.Core.Option.{none}
 use Prim.Native.Nat.{ℕ}
