@@ -8,17 +8,17 @@ use native.Mathlib.Nat.{zero-add, add-zero, not-suc-le-zero}
 use native.Mathlib.Omega.{arith}
 use lib.Dec.{leb, eqb}
 use lib.ListN.{length}
-use borrow.Author.Tests.{leb-true, eqb-true}
+use borrow.Author.Tests.{leb-true, eqb-true, le-leb, eq-eqb}
 use Rattle.crc.specs.Crc.{crcOf}
 use Rattle.rows.specs.declared.Row.{Row}
 use Rattle.table.specs.Lists.{tabulate, every}
 use Rattle.table.specs.Rows.{Table}
 use Rattle.rows.specs.Places.{blockCount, fieldCount, rowAt}
 use Rattle.table.specs.Decode.{toBlocks, toFields, crcField, covered, closing₀, closing₁, rowsOf, blockOf, decode}
-use Rattle.table.specs.Rules.{sizeOk, partsOk, countOk, toBlocksOk, toFieldsOk, crcOk, fileOk, zeroOk, indexOk, counts, usedOk, formOk}
+use Rattle.table.specs.Rules.{sizeOk, partsOk, countOk, toBlocksOk, toFieldsOk, crcOk, closingOk, fileOk, zeroOk, indexOk, counts, usedOk, formOk}
 use Rattle.table.specs.Rules.{numberOk, risingOk, highestOk, blockOk, meaningOk, tableOk}
 use Rattle.table.specs.Lookup.{Stands}
-use Rattle.table.proofs.Bools.{both}
+use Rattle.table.proofs.Bools.{both, join}
 use Rattle.table.proofs.Lists.{every-at, every-map}
 
 pub record File (t : List ℕ) : Type 0 where
@@ -54,6 +54,15 @@ file t e =
       low = eqb-true _ _ (m .0);
       high = eqb-true _ _ (m .1);
     }
+
+-- the other way
+pub file-ok : (t : List ℕ) → File t → fileOk t ≡ true
+unfolding fileOk
+file-ok t f =
+    let size : sizeOk t ≡ true = join (le-leb _ _ (f .least)) (le-leb _ _ (f .most)) in
+    let closing : closingOk t ≡ true = join (eq-eqb _ _ (f .low)) (eq-eqb _ _ (f .high)) in
+    let counted = join (join size (eq-eqb _ _ (f .parts))) (le-leb _ _ (f .count)) in
+    join (join (join (join counted (eq-eqb _ _ (f .blocks))) (eq-eqb _ _ (f .fields))) (eq-eqb _ _ (f .crc))) closing
 
 pub record Meaning (tab : Table) : Type 0 where
   pub numbers : every numberOk (tab .rows) ≡ true
