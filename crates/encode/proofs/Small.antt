@@ -17,7 +17,7 @@ use Rattle.table.specs.Marks.{markFits}
 use Rattle.table.specs.Rows.{BlockRow, Table}
 use Rattle.table.specs.Rules.{numberOk, highestOk, offsetOk, apart, steady, firstOk, typeOk, markOk, fieldsOk, blockOk}
 use Rattle.encode.specs.Encode.{two, fieldBytes, fieldsPart, rowsPart, unsealed, encode}
-use Rattle.encode.specs.Fits.{fieldRows, offsetFits, blockFits}
+use Rattle.encode.specs.Fits.{fieldRows, countFits, offsetFits, blockFits}
 use Rattle.table.proofs.Bools.{both, join}
 use Rattle.table.proofs.Marks.{mark-none}
 use Rattle.table.proofs.Passed.{Meaning}
@@ -87,7 +87,7 @@ fields-part-small (b ∷ bs) h k f =
     let i = both body _ (g .0) in
     let j = both (every offsetOk (b .body)) _ (i .0) in
     let m = both (blockFits b) _ f in
-    let counts = ltb (length (b .body)) 256 && ltb (length (b .subs)) 256 in
+    let counts = countFits (b .body) && countFits (b .subs) in
     let n = both (counts && every offsetFits (b .body)) _ (m .0) in
     let o = both counts _ (n .0) in
     append (fieldBytes (b .body)) (fieldBytes (b .subs) ++ fieldsPart bs) (fields-small top l (b .body) (o .1) (j .1))
@@ -105,8 +105,8 @@ rows-part-small before (b ∷ bs) l n h f =
     let number : b .number ≤ 8191 = leb-true _ _ (a .0) in
     let highest : b .highest ≤ 7 = leb-true _ _ (c .0) in
     let d = both (blockFits b) _ f in
-    let bodies = ltb (length (b .body)) 256 in
-    let subs = ltb (length (b .subs)) 256 in
+    let bodies = countFits (b .body) in
+    let subs = countFits (b .subs) in
     let g = both (bodies && subs && every offsetFits (b .body)) _ (d .0) in
     let i = both (bodies && subs) _ (g .0) in
     let j = both bodies _ (i .0) in

@@ -18,13 +18,16 @@ fieldRows (b ∷ bs) = length (b .body) + length (b .subs) + fieldRows bs
 unfoldable pub fileSize : Table → ℕ
 fileSize tab = 4 * fieldRows (tab .rows) + 8 * length (tab .rows) + 12
 
+-- "body field count u1; .. sub-field count u1"
+abbrev pub countFits : List FieldRow → Bool
+countFits fs = ltb (length fs) 256
+
 -- "offset u1"
 abbrev pub offsetFits : FieldRow → Bool
 offsetFits f = ltb (f .offset) 256
 
--- "body field count u1; .. sub-field count u1"
 unfoldable pub blockFits : BlockRow → Bool
-blockFits b = ltb (length (b .body)) 256 && ltb (length (b .subs)) 256 && every offsetFits (b .body) && every offsetFits (b .subs)
+blockFits b = countFits (b .body) && countFits (b .subs) && every offsetFits (b .body) && every offsetFits (b .subs)
 
 -- "A file of T bytes, .. to 8,192"; "version u2; count R of block rows .., at least 1". All other numbers are within their bytes by the rules.
 unfoldable pub fits : Table → Bool
