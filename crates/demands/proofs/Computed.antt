@@ -14,7 +14,7 @@ use Rattle.rows.specs.Types.{sizeOf}
 use Rattle.table.specs.Marks.{markFits}
 use Rattle.rows.specs.Places.{fieldAt, rowFrom, rowAt}
 use Rattle.table.specs.Decode.{rowsOf, blockOf, decode}
-use Rattle.table.specs.Rules.{fileOk, risingOk, rowOk, counts, indexOk, rowsOk, fieldsOk, isPair, blockOk, tableOk}
+use Rattle.table.specs.Rules.{fileOk, indexOk, counts, formOk, risingOk, isPair, fieldsOk, blockOk, meaningOk, tableOk}
 use Rattle.table.specs.Lookup.{findRow}
 use Rattle.value.specs.Bits.{withSign, readAs, isDoNotUse, valueOf, fieldValue}
 use Rattle.block.specs.Block.{bodyFits, subsFit, seenRow, seen, seenSubRow, seenSub}
@@ -34,5 +34,5 @@ pub record Computed : Type 0 where
   pub told : replayed flight ≡ flight
 
 pub computed : Computed
-unfolding crcOf crcFrom crcByte crcBits8 crcBit littleAt syncAt allowed endsWithin crcRight frameAt wholeFrame judged judgedLast settle feedBy countAll restOf tabulate every chain neighbours first pick sizeOf markFits fieldAt rowFrom rowAt rowsOf blockOf decode fileOk risingOk rowOk counts indexOk rowsOk fieldsOk isPair blockOk tableOk findRow withSign readAs isDoNotUse valueOf fieldValue bodyFits subsFit seenRow seen seenSubRow seenSub fieldSaid bodyField subBytes subField subBlock subBlockRefusal stamp sound openRefusal feedRefusal finishRefusal bytesRefusal stageRefusal withdrawRefusal openOf feedingOf feedOf finishingOf finishOf bytesOf stageOf withdrawOf askRefusal bodyOf subOf subBytesOf subBytesRefusal stampOf step trace newWorld replayed
+unfolding crcOf crcFrom crcByte crcBits8 crcBit littleAt syncAt allowed endsWithin crcRight frameAt wholeFrame judged judgedLast settle feedBy countAll restOf tabulate every chain neighbours first pick sizeOf markFits fieldAt rowFrom rowAt rowsOf blockOf decode fileOk indexOk counts formOk risingOk isPair fieldsOk blockOk meaningOk tableOk findRow withSign readAs isDoNotUse valueOf fieldValue bodyFits subsFit seenRow seen seenSubRow seenSub fieldSaid bodyField subBytes subField subBlock subBlockRefusal stamp sound openRefusal feedRefusal finishRefusal bytesRefusal stageRefusal withdrawRefusal openOf feedingOf feedOf finishingOf finishOf bytesOf stageOf withdrawOf askRefusal bodyOf subOf subBytesOf subBytesRefusal stampOf step trace newWorld replayed
 computed = record { samples = refl; told = refl }

@@ -1,6 +1,6 @@
 -- A table that passes, part by part: its meaning gives its bytes back.
 -- Assumes nothing.
-use mathlib.Core.Bool.{true, _&&_}
+use mathlib.Core.Bool.{true}
 use mathlib.Core.List.{List, [], _∷_, _++_, map, append-assoc}
 use mathlib.Core.Path.{_≡_, sym, ap, ap₂, _∙_}
 use Prim.Native.Nat.{ℕ, zero, suc, _+_, _-_, _*_, _/_, _%_, _<_, _≤_}
@@ -15,7 +15,7 @@ use Rattle.table.specs.Lists.{tabulate, every}
 use Rattle.rows.specs.Places.{blockCount, blocksAt, fieldCount, fieldAt, rowFrom, rowAt}
 use Rattle.table.specs.Decode.{toFields, covered, rowsOf, blockOf, decode}
 use Rattle.encode.specs.Encode.{two, fieldBytes, fieldsPart, rowsPart, unsealed, encode}
-use Rattle.table.specs.Rules.{rowOk, numberOk, highestOk, counts, indexOk, tableOk}
+use Rattle.table.specs.Rules.{zeroOk, indexOk, counts, tableOk}
 use Rattle.encode.specs.Theorems.{Decodes}
 use Rattle.table.proofs.Bools.{both}
 use Rattle.table.proofs.Lists.{length-tab}
@@ -78,17 +78,17 @@ module _ (t : List ℕ) (bytes : (j : ℕ) → getD t j 0 < 256) where
       let two₆ = parts.part-two t (p + 6) (omega arith) in
       sym (rw (split, split₂, b, split₄, c, ← two-part p (omega arith), ← two-part (p + 4) (omega arith), two₂, two₆, a, d, z) (simp append-assoc))
 
-  rows-part : (before i k : ℕ) → indexOk before (tabulate (rowAt t) i k) ≡ true → every rowOk (tabulate (rowAt t) i k) ≡ true
+  rows-part : (before i k : ℕ) → indexOk before (tabulate (rowAt t) i k) ≡ true → every zeroOk (tabulate (rowAt t) i k) ≡ true
       → blocksAt t + 8 * (i + k) ≤ length t
       → rowsPart before (map (blockOf t) (tabulate (rowAt t) i k)) ≡ part t (blocksAt t + 8 * i) (8 * k)
-  unfolding rowsPart indexOk every tabulate blockOf rowAt rowOk
+  unfolding rowsPart indexOk every tabulate blockOf rowAt
   rows-part before i zero e g h = sym (parts.part-none t (blocksAt t + 8 * i))
   rows-part before i (suc k) e g h =
       let r = rowFrom t (blocksAt t + 8 * i) in
       let a = both (eqb (r .start) before) _ e in
       let s : r .start ≡ before = eqb-true _ _ (a .0) in
-      let b = both (rowOk r) _ g in
-      let z : r .zero ≡ 0 = eqb-true _ _ (both (numberOk r && highestOk r) _ (b .0) .1) in
+      let b = both (zeroOk r) _ g in
+      let z : r .zero ≡ 0 = eqb-true _ _ (b .0) in
       let n : 8 * suc k ≡ 8 + 8 * k = omega arith in
       let m : blocksAt t + 8 * (i + 1) ≡ blocksAt t + 8 * i + 8 = omega arith in
       let f = rows-part (before + (r .bodies + r .subs)) (i + 1) k (a .1) (b .1) (omega arith) in
@@ -112,7 +112,7 @@ module _ (t : List ℕ) (bytes : (j : ℕ) → getD t j 0 < 256) where
         let n : length t - 12 ≡ 4 * fieldCount t + 8 * blockCount t = omega arith in
         let u : counts (tabulate (rowAt t) 0 (blockCount t)) ≡ fieldCount t = all .used in
         let a = fields-part 0 (tabulate (rowAt t) 0 (blockCount t)) (all .index) (rw u (omega arith)) in
-        let b = rows-part 0 0 (blockCount t) (all .index) (all .each) (omega arith) in
+        let b = rows-part 0 0 (blockCount t) (all .index) (all .zeros) (omega arith) in
         let z : blocksAt t + 8 * 0 ≡ 0 + 4 * fieldCount t = omega arith in
         rw (a, b, u, n, z) (sym (parts.part-add t 0 (4 * fieldCount t) (8 * blockCount t)))
 

@@ -1,2 +1,10 @@
 pub mod Parts
 pub mod Bytes
+pub mod Reading
+pub mod Lengths
+pub mod Laid
+pub mod Back
+pub mod File
+pub mod Room
+pub mod Small
+pub mod Encoded

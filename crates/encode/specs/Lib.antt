@@ -1,3 +1,4 @@
 pub mod Encode
+pub mod Fits
 pub mod Theorems
 pub mod Limits

@@ -1,10 +1,15 @@
-// From a table's meaning to its bytes: theorems about tables that pass, and the rules at their limits. No code.
-ghost use Rattle.encode.specs.Theorems.{Decodes};
+// From a table's meaning to its bytes: theorems about tables there and back, and the rules at their limits. No code.
+ghost use Rattle.encode.specs.Theorems.{Decodes, Encodes};
 ghost use Rattle.encode.specs.Limits.{LimitsHold};
 
 // A table that passes decodes, and its meaning gives its bytes back.
 pub fn decodes()
     ensures { λ _. ⌜ Decodes ⌝ }
+{}
+
+// A table whose meaning is right and that fits encodes to a file that passes and decodes to it.
+pub fn encodes()
+    ensures { λ _. ⌜ Encodes ⌝ }
 {}
 
 // The rules hold on both sides of their limits.

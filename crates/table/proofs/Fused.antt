@@ -1,4 +1,4 @@
--- The one pass over the rows is the rules: `blockPass` is `blockOk`, and `rowPass` is `rowsOk` with `blockOk` of every block.
+-- The one pass over the rows is the rules: `blockPass` is `blockOk`, and `rowPass` the rules on block rows with `blockOk` of every block.
 -- Assumes nothing.
 use mathlib.Core.Bool.{Bool, true, false, _&&_, and-assoc, and-true}
 use mathlib.Core.List.{List, [], _∷_, map}
@@ -7,17 +7,17 @@ use Prim.Native.Nat.{ℕ, _+_, _≤_}
 use native.Mathlib.Nat.{zero-add, add-zero}
 use native.Mathlib.Numerals.{add-one}
 use native.Mathlib.Omega.{arith}
-use lib.Dec.{leb, eqb, leb·zero}
+use lib.Dec.{ltb, leb, eqb, leb·zero}
 use borrow.Author.Tests.{leb-true, eqb-true, le-leb}
 use Rattle.rows.specs.declared.FieldRow.{FieldRow}
 use Rattle.rows.specs.declared.Row.{Row}
 use Rattle.table.specs.Lists.{every, chain, neighbours}
 use Rattle.table.specs.Rows.{BlockRow, ends}
 use Rattle.table.specs.Decode.{blockOf}
-use Rattle.table.specs.Rules.{rowOk, below, risingOk, counts, indexOk, rowsOk, offsetOk, apart, steady, firstOk, typeOk, markOk, fieldsOk, blockOk}
-use Rattle.table.specs.Pass.{fieldStep, fieldPass, blockPass, rowStep, rowPass}
-use Rattle.table.proofs.Bools.{both, join, implied, zip5}
-use Rattle.table.proofs.Lists.{starts, chain-starts, neighbours-starts, starts-ext, every-map}
+use Rattle.table.specs.Rules.{zeroOk, indexOk, counts, usedOk, numberOk, risingOk, highestOk, offsetOk, apart, steady, firstOk, typeOk, markOk, fieldsOk, blockOk}
+use Rattle.table.specs.Code.{fieldStep, fieldPass, blockPass, rowStep, rowPass}
+use Rattle.table.proofs.Bools.{both, join, implied, zip5, zip7, sorted7}
+use Rattle.table.proofs.Lists.{starts, chain-starts, neighbours-starts, starts-ext, every-map, neighbours-map}
 
 -- Field rows.
 
@@ -92,15 +92,25 @@ block-is b = rw (body-is (b .highest) (b .body), subs-are (b .highest) (b .subs)
 abbrev atLeast : ℕ → Row → Bool
 atLeast least r = leb least (r .number)
 
-rising-next : (r : Row) (rs : List Row) → starts (atLeast (r .number + 1)) below rs ≡ chain below r rs
-rising-next r rs = starts-ext below (atLeast (r .number + 1)) (below r) (λ s. rw add-one) rs ∙ sym (chain-starts below r rs)
+abbrev numberRow : Row → Bool
+numberRow r = leb (r .number) 8191
+
+abbrev highestRow : Row → Bool
+highestRow r = leb (r .highest) 7
+
+abbrev belowRow : Row → Row → Bool
+belowRow r s = ltb (r .number) (s .number)
+
+rising-next : (r : Row) (rs : List Row) → starts (atLeast (r .number + 1)) belowRow rs ≡ chain belowRow r rs
+rising-next r rs = starts-ext belowRow (atLeast (r .number + 1)) (belowRow r) (λ s. rw add-one) rs ∙ sym (chain-starts belowRow r rs)
 
 module _ (t : List ℕ) where
   abbrev passes : Row → Bool
   passes r = blockPass (blockOf t r)
 
   row-fused : (least used fields : ℕ) (rs : List Row)
-      → rowPass t least used fields rs ≡ (every rowOk rs && starts (atLeast least) below rs && indexOk used rs && eqb (used + counts rs) fields && every passes rs)
+      → rowPass t least used fields rs
+      ≡ (every numberRow rs && every highestRow rs && every zeroOk rs && starts (atLeast least) belowRow rs && indexOk used rs && eqb (used + counts rs) fields && every passes rs)
   unfolding rowPass rowStep starts every indexOk counts
   row-fused least used fields [] = rw (add-zero used, and-true (eqb used fields))
   row-fused least used fields (r ∷ rs) =
@@ -109,8 +119,8 @@ module _ (t : List ℕ) where
       let fit : (eqb (used + more + counts rs) fields ≡ true → leb (used + more) fields ≡ true) =
       λ e. let q = eqb-true (used + more + counts rs) fields e in le-leb (used + more) fields (omega arith) in
       rw (row-fused (r .number + 1) (used + more) fields rs, rising-next r rs, n)
-      (zip5 (rowOk r) (every rowOk rs) (atLeast least r) (chain below r rs) (eqb (r .start) used) (indexOk (used + more) rs)
-      (leb (used + more) fields) (eqb (used + more + counts rs) fields) (passes r) (every passes rs)
+      (zip7 (numberRow r) (every numberRow rs) (highestRow r) (every highestRow rs) (zeroOk r) (every zeroOk rs) (atLeast least r) (chain belowRow r rs)
+      (eqb (r .start) used) (indexOk (used + more) rs) (leb (used + more) fields) (eqb (used + more + counts rs) fields) (passes r) (every passes rs)
       ∙ rw (implied (leb (used + more) fields) (eqb (used + more + counts rs) fields) fit))
 
   every-ext : (p q : Row → Bool) → ((r : Row) → p r ≡ q r) → (rs : List Row) → every p rs ≡ every q rs
@@ -118,10 +128,30 @@ module _ (t : List ℕ) where
   every-ext p q h [] = refl
   every-ext p q h (r ∷ rs) = rw (h r, every-ext p q h rs)
 
-  pub rows-are : (fields : ℕ) (rs : List Row) → (rowsOk fields rs && every blockOk (map (blockOf t) rs)) ≡ rowPass t 0 0 fields rs
-  unfolding rowsOk risingOk
-  rows-are fields rs =
-      sym (row-fused 0 0 fields rs
-      ∙ rw (zero-add (counts rs), ← neighbours-starts below (atLeast 0) (λ r. leb·zero (r .number)) rs)
-      (ap (λ (x : Bool). every rowOk rs && neighbours below rs && indexOk 0 rs && eqb (counts rs) fields && x)
-      (sym (every-map (blockOf t) blockOk rs ∙ every-ext (λ (r : Row). blockOk (blockOf t r)) passes (λ r. block-is (blockOf t r)) rs))))
+  -- the rules on decoded rows, as they say it of rows as they stand
+  module _ (rs : List Row) where
+    abbrev blocks : List BlockRow
+    blocks = map (blockOf t) rs
+
+    numbers-are : every numberOk blocks ≡ every numberRow rs
+    unfolding blockOf
+    numbers-are = every-map (blockOf t) numberOk rs
+
+    rising-is : risingOk blocks ≡ neighbours belowRow rs
+    unfolding risingOk blockOf
+    rising-is = neighbours-map (blockOf t) (λ (b c : BlockRow). ltb (b .number) (c .number)) rs
+
+    highest-are : every highestOk blocks ≡ every highestRow rs
+    unfolding blockOf
+    highest-are = every-map (blockOf t) highestOk rs
+
+    blocks-are : every blockOk blocks ≡ every passes rs
+    blocks-are = every-map (blockOf t) blockOk rs ∙ every-ext (λ (r : Row). blockOk (blockOf t r)) passes (λ r. block-is (blockOf t r)) rs
+
+    pub rows-are : (fields : ℕ)
+        → (every zeroOk rs && indexOk 0 rs && usedOk fields rs && (every numberOk blocks && risingOk blocks && every highestOk blocks && every blockOk blocks))
+        ≡ rowPass t 0 0 fields rs
+    rows-are fields =
+        rw (numbers-are, rising-is, highest-are, blocks-are)
+        (sym (row-fused 0 0 fields rs ∙ rw (zero-add (counts rs), ← neighbours-starts belowRow (atLeast 0) (λ r. leb·zero (r .number)) rs)
+        (sorted7 (every numberRow rs) (every highestRow rs) (every zeroOk rs) (neighbours belowRow rs) (indexOk 0 rs) (eqb (counts rs) fields) (every passes rs))))

@@ -1,12 +1,12 @@
 -- The file's rules as the code tests them, what the check tells, what `find` promises, and that a number has one row.
 -- Assumes nothing.
 use mathlib.Core.Bool.{Bool, true, false, _&&_}
-use mathlib.Core.List.{List, [], _∷_, map}
+use mathlib.Core.List.{List, [], _∷_}
 use mathlib.Core.Option.{none, some, Option·map}
 use mathlib.Core.Path.{_≡_, refl, sym, ap, _∙_}
 use Prim.Native.Nat.{ℕ, zero, suc, _+_, _*_, _<_, _≤_}
 use native.Mathlib.Omega.{arith}
-use lib.Dec.{leb, eqb}
+use lib.Dec.{ltb, leb, eqb}
 use lib.ListN.{length}
 use borrow.Author.Tests.{ltb-true, le-leb, lt-leb, ne-eqb}
 use Rattle.crc.specs.Crc.{crcOf}
@@ -16,8 +16,8 @@ use Rattle.table.specs.Lists.{chain, neighbours, first, pick}
 use Rattle.table.specs.Rows.{BlockRow}
 use Rattle.rows.specs.Places.{blockCount, fieldCount, rowAt}
 use Rattle.table.specs.Decode.{toBlocks, toFields, crcField, covered, rowsOf, blockOf, decode}
-use Rattle.table.specs.Rules.{sizeOk, countOk, toBlocksOk, toFieldsOk, crcOk, closingOk, fileOk, below, risingOk, tableOk}
-use Rattle.table.specs.Pass.{rowPass}
+use Rattle.table.specs.Rules.{sizeOk, countOk, toBlocksOk, toFieldsOk, crcOk, closingOk, fileOk, formOk, risingOk, meaningOk, tableOk}
+use Rattle.table.specs.Code.{rowPass}
 use Rattle.table.specs.Answer.{version, refused, checkOf}
 use Rattle.table.specs.Lookup.{hasNumber, findRow, Finding}
 use Rattle.table.specs.Theorems.{OneRow}
@@ -52,12 +52,12 @@ module _ (t : List ℕ) where
 -- what the check tells
 module _ (t : List ℕ) where
   pub told-file : fileOk t ≡ false → refused 4 ≡ checkOf t
-  unfolding checkOf tableOk
+  unfolding checkOf tableOk formOk
   told-file e = rw e
 
   table-by : fileOk t ≡ true → (a : Bool) → a ≡ rowPass t 0 0 (fieldCount t) (rowsOf t) → tableOk t ≡ a
-  unfolding tableOk decode
-  table-by e a b = rw e (rows-are t (fieldCount t) (rowsOf t) ∙ sym b)
+  unfolding tableOk formOk meaningOk decode
+  table-by e a b = rw e (rows-are t (rowsOf t) (fieldCount t) ∙ sym b)
 
   pub told-rows : fileOk t ≡ true → {a : Bool} → a ≡ rowPass t 0 0 (fieldCount t) (rowsOf t) → a ≡ false → refused 4 ≡ checkOf t
   unfolding checkOf
@@ -81,43 +81,44 @@ module _ (t : List ℕ) (n : ℕ) where
   found-nothing e = record { is = sym (find-is ∙ ap (Option·map (blockOf t)) e); stands = tt }
 
 -- a number has one row
-module _ (t : List ℕ) where
-  later : (x : Row) (rs : List Row) → chain below x rs ≡ true → (j : ℕ) (b : BlockRow) → pick (map (blockOf t) rs) j ≡ some b → x .number < b .number
-  unfolding chain pick blockOf
-  later x [] e j b p = let z : _≡_ {A = ℕ} 0 1 = cc in absurd (omega arith)
-  later x (y ∷ ys) e zero b p =
-      let l : x .number < y .number = ltb-true _ _ (both (below x y) _ e .0) in
-      let q : blockOf t y ≡ b = cc in
-      let m : y .number ≡ b .number = ap (λ (c : BlockRow). c .number) q in
-      omega arith
-  later x (y ∷ ys) e (suc j) b p =
-      let a = both (below x y) _ e in
-      let l : x .number < y .number = ltb-true _ _ (a .0) in
-      let m = later y ys (a .1) j b p in
-      omega arith
+abbrev below : BlockRow → BlockRow → Bool
+below b c = ltb (b .number) (c .number)
 
-  tail-rises : (x : Row) (rs : List Row) → chain below x rs ≡ true → neighbours below rs ≡ true
-  unfolding chain neighbours
-  tail-rises x [] e = refl
-  tail-rises x (y ∷ ys) e = both (below x y) _ e .1
+later : (x : BlockRow) (bs : List BlockRow) → chain below x bs ≡ true → (j : ℕ) (b : BlockRow) → pick bs j ≡ some b → x .number < b .number
+unfolding chain pick
+later x [] e j b p = let z : _≡_ {A = ℕ} 0 1 = cc in absurd (omega arith)
+later x (y ∷ ys) e zero b p =
+    let l : x .number < y .number = ltb-true _ _ (both (below x y) _ e .0) in
+    let q : y ≡ b = cc in
+    let m : y .number ≡ b .number = ap (λ (c : BlockRow). c .number) q in
+    omega arith
+later x (y ∷ ys) e (suc j) b p =
+    let a = both (below x y) _ e in
+    let l : x .number < y .number = ltb-true _ _ (a .0) in
+    let m = later y ys (a .1) j b p in
+    omega arith
 
-  one : (rs : List Row) → neighbours below rs ≡ true → (i j : ℕ) (a b : BlockRow) → pick (map (blockOf t) rs) i ≡ some a → pick (map (blockOf t) rs) j ≡ some b
-      → a .number ≡ b .number → i ≡ j
-  unfolding pick neighbours blockOf
-  one [] e i j a b p q s = let z : _≡_ {A = ℕ} 0 1 = cc in absurd (omega arith)
-  one (r ∷ rs) e zero zero a b p q s = refl
-  one (r ∷ rs) e zero (suc j) a b p q s =
-      let l = later r rs e j b q in
-      let m : blockOf t r ≡ a = cc in
-      let k : r .number ≡ a .number = ap (λ (c : BlockRow). c .number) m in
-      absurd (omega arith)
-  one (r ∷ rs) e (suc i) zero a b p q s =
-      let l = later r rs e i a p in
-      let m : blockOf t r ≡ b = cc in
-      let k : r .number ≡ b .number = ap (λ (c : BlockRow). c .number) m in
-      absurd (omega arith)
-  one (r ∷ rs) e (suc i) (suc j) a b p q s = ap suc (one rs (tail-rises r rs e) i j a b p q s)
+tail-rises : (x : BlockRow) (bs : List BlockRow) → chain below x bs ≡ true → neighbours below bs ≡ true
+unfolding chain neighbours
+tail-rises x [] e = refl
+tail-rises x (y ∷ ys) e = both (below x y) _ e .1
+
+one : (bs : List BlockRow) → neighbours below bs ≡ true → (i j : ℕ) (a b : BlockRow) → pick bs i ≡ some a → pick bs j ≡ some b → a .number ≡ b .number → i ≡ j
+unfolding pick neighbours
+one [] e i j a b p q s = let z : _≡_ {A = ℕ} 0 1 = cc in absurd (omega arith)
+one (x ∷ xs) e zero zero a b p q s = refl
+one (x ∷ xs) e zero (suc j) a b p q s =
+    let l = later x xs e j b q in
+    let m : x ≡ a = cc in
+    let k : x .number ≡ a .number = ap (λ (c : BlockRow). c .number) m in
+    absurd (omega arith)
+one (x ∷ xs) e (suc i) zero a b p q s =
+    let l = later x xs e i a p in
+    let m : x ≡ b = cc in
+    let k : x .number ≡ b .number = ap (λ (c : BlockRow). c .number) m in
+    absurd (omega arith)
+one (x ∷ xs) e (suc i) (suc j) a b p q s = ap suc (one xs (tail-rises x xs e) i j a b p q s)
 
 pub one-row : OneRow
-unfolding decode risingOk
-one-row t ok i j a b p q s = one t (rowsOf t) (passed t ok .rising) i j a b p q s
+unfolding risingOk
+one-row t ok i j a b p q s = one (decode t .rows) (passed t ok .meaning .rising) i j a b p q s

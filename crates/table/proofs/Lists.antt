@@ -71,6 +71,16 @@ module _ {A B : Type 0} (f : A → B) where
   every-map p [] = refl
   every-map p (x ∷ xs) = ap (λ (b : Bool). p (f x) && b) (every-map p xs)
 
+  chain-map : (p : B → B → Bool) (x : A) (xs : List A) → chain p (f x) (map f xs) ≡ chain (λ (y z : A). p (f y) (f z)) x xs
+  unfolding chain
+  chain-map p x [] = refl
+  chain-map p x (y ∷ ys) = ap (λ (b : Bool). p (f x) (f y) && b) (chain-map p y ys)
+
+  pub neighbours-map : (p : B → B → Bool) (xs : List A) → neighbours p (map f xs) ≡ neighbours (λ (y z : A). p (f y) (f z)) xs
+  unfolding neighbours
+  neighbours-map p [] = refl
+  neighbours-map p (x ∷ xs) = chain-map p x xs
+
   -- the first of a mapped list, where the test sees through the map
   pub first-map : (p : B → Bool) (xs : List A) → first p (map f xs) ≡ Option·map f (first (λ (x : A). p (f x)) xs)
   unfolding first

@@ -13,8 +13,8 @@ use Rattle.table.specs.Lists.{tabulate, first}
 use Rattle.table.specs.Rows.{ends}
 use Rattle.rows.specs.Places.{fieldAt, rowAt}
 use Rattle.table.specs.Decode.{blockOf}
-use Rattle.table.specs.Rules.{rowOk, numberOk, highestOk, isCount, isPair}
-use Rattle.table.specs.Pass.{fieldStep, fieldPass, blockPass, rowStep, rowPass}
+use Rattle.table.specs.Rules.{zeroOk, isCount, isPair}
+use Rattle.table.specs.Code.{fieldStep, fieldPass, blockPass, rowStep, rowPass}
 use Rattle.table.proofs.Bools.{both}
 use Rattle.table.proofs.Lists.{tab-none, tab-more, length-tab}
 
@@ -66,13 +66,15 @@ module _ (t : List ℕ) (r : Row) {x : Bool} (body : x ≡ fieldPass 14 0 (r .hi
 -- what a block row that passes its step says
 pub step-says : (least used fields : ℕ) (r : Row) → rowStep least used fields r ≡ true
     → (r .number ≤ 8191) × (r .start ≡ used) × (used + (r .bodies + r .subs) ≤ fields)
-unfolding rowStep rowOk
+unfolding rowStep
 step-says least used fields r e =
-    let a = both (rowOk r && leb least (r .number) && eqb (r .start) used) _ e in
-    let b = both (rowOk r && leb least (r .number)) _ (a .0) in
-    let c = both (rowOk r) _ (b .0) in
-    let d = both (numberOk r && highestOk r) _ (c .0) in
-    let f = both (numberOk r) _ (d .0) in
+    let number = leb (r .number) 8191 in
+    let highest = leb (r .highest) 7 in
+    let a = both (number && highest && zeroOk r && leb least (r .number) && eqb (r .start) used) _ e in
+    let b = both (number && highest && zeroOk r && leb least (r .number)) _ (a .0) in
+    let c = both (number && highest && zeroOk r) _ (b .0) in
+    let d = both (number && highest) _ (c .0) in
+    let f = both number _ (d .0) in
     (leb-true _ _ (f .0), eqb-true _ _ (b .1), leb-true _ _ (a .1))
 
 -- block rows

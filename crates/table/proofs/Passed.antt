@@ -1,4 +1,4 @@
--- What a file that passes says, and what a table that passes says: each rule by its name, and the places of its rows.
+-- What a file, a meaning and a table that pass say: each rule by its name, and the places of the rows.
 -- Assumes nothing.
 use mathlib.Core.Bool.{true, _&&_}
 use mathlib.Core.List.{List}
@@ -8,15 +8,17 @@ use native.Mathlib.Nat.{zero-add, add-zero, not-suc-le-zero}
 use native.Mathlib.Omega.{arith}
 use lib.Dec.{leb, eqb}
 use lib.ListN.{length}
-use borrow.Author.Tests.{leb-true, eqb-true}
+use borrow.Author.Tests.{leb-true, eqb-true, le-leb, eq-eqb}
 use Rattle.crc.specs.Crc.{crcOf}
 use Rattle.rows.specs.declared.Row.{Row}
 use Rattle.table.specs.Lists.{tabulate, every}
+use Rattle.table.specs.Rows.{Table}
 use Rattle.rows.specs.Places.{blockCount, fieldCount, rowAt}
 use Rattle.table.specs.Decode.{toBlocks, toFields, crcField, covered, closing₀, closing₁, rowsOf, blockOf, decode}
-use Rattle.table.specs.Rules.{sizeOk, partsOk, countOk, toBlocksOk, toFieldsOk, crcOk, fileOk, rowOk, risingOk, counts, indexOk, rowsOk, blockOk, tableOk}
+use Rattle.table.specs.Rules.{sizeOk, partsOk, countOk, toBlocksOk, toFieldsOk, crcOk, closingOk, fileOk, zeroOk, indexOk, counts, usedOk, formOk}
+use Rattle.table.specs.Rules.{numberOk, risingOk, highestOk, blockOk, meaningOk, tableOk}
 use Rattle.table.specs.Lookup.{Stands}
-use Rattle.table.proofs.Bools.{both}
+use Rattle.table.proofs.Bools.{both, join}
 use Rattle.table.proofs.Lists.{every-at, every-map}
 
 pub record File (t : List ℕ) : Type 0 where
@@ -53,24 +55,46 @@ file t e =
       high = eqb-true _ _ (m .1);
     }
 
+-- the other way
+pub file-ok : (t : List ℕ) → File t → fileOk t ≡ true
+unfolding fileOk
+file-ok t f =
+    let size : sizeOk t ≡ true = join (le-leb _ _ (f .least)) (le-leb _ _ (f .most)) in
+    let closing : closingOk t ≡ true = join (eq-eqb _ _ (f .low)) (eq-eqb _ _ (f .high)) in
+    let counted = join (join size (eq-eqb _ _ (f .parts))) (le-leb _ _ (f .count)) in
+    join (join (join (join counted (eq-eqb _ _ (f .blocks))) (eq-eqb _ _ (f .fields))) (eq-eqb _ _ (f .crc))) closing
+
+pub record Meaning (tab : Table) : Type 0 where
+  pub numbers : every numberOk (tab .rows) ≡ true
+  pub rising : risingOk (tab .rows) ≡ true
+  pub highest : every highestOk (tab .rows) ≡ true
+  pub blocks : every blockOk (tab .rows) ≡ true
+
+pub meaning : (tab : Table) → meaningOk tab ≡ true → Meaning tab
+unfolding meaningOk
+meaning tab e =
+    let bs = tab .rows in
+    let a = both (every numberOk bs && risingOk bs && every highestOk bs) _ e in
+    let b = both (every numberOk bs && risingOk bs) _ (a .0) in
+    let c = both (every numberOk bs) _ (b .0) in
+    record { numbers = c .0; rising = c .1; highest = b .1; blocks = a .1 }
+
 pub record Passed (t : List ℕ) : Type 0 where
   pub file : File t
-  pub each : every rowOk (rowsOf t) ≡ true
-  pub rising : risingOk (rowsOf t) ≡ true
+  pub zeros : every zeroOk (rowsOf t) ≡ true
   pub index : indexOk 0 (rowsOf t) ≡ true
   pub used : counts (rowsOf t) ≡ fieldCount t
-  pub blocks : every blockOk (decode t .rows) ≡ true
+  pub meaning : Meaning (decode t)
 
 pub passed : (t : List ℕ) → tableOk t ≡ true → Passed t
-unfolding tableOk rowsOk
+unfolding tableOk formOk
 passed t e =
     let rs = rowsOf t in
-    let a = both (fileOk t && rowsOk (fieldCount t) (rowsOf t)) _ e in
-    let b = both (fileOk t) _ (a .0) in
-    let c = both (every rowOk rs && risingOk rs && indexOk 0 rs) _ (b .1) in
-    let d = both (every rowOk rs && risingOk rs) _ (c .0) in
-    let f = both (every rowOk rs) _ (d .0) in
-    record { file = file t (b .0); each = f .0; rising = f .1; index = d .1; used = eqb-true _ _ (c .1); blocks = a .1 }
+    let a = both (fileOk t && every zeroOk rs && indexOk 0 rs && usedOk (fieldCount t) rs) _ e in
+    let b = both (fileOk t && every zeroOk rs && indexOk 0 rs) _ (a .0) in
+    let c = both (fileOk t && every zeroOk rs) _ (b .0) in
+    let d = both (fileOk t) _ (c .0) in
+    record { file = file t (d .0); zeros = d .1; index = c .1; used = eqb-true _ _ (b .1); meaning = meaning (decode t) (a .1) }
 
 -- a row's field rows are among the counted ones
 index-at : (f : ℕ → Row) (before i k j : ℕ) → indexOk before (tabulate f i k) ≡ true → j < k
@@ -99,7 +123,7 @@ module _ (t : List ℕ) (ok : tableOk t ≡ true) (i : ℕ) (h : i < blockCount 
   rules-at : blockOk (blockOf t (rowAt t i)) ≡ true
   unfolding rowsOf decode
   rules-at =
-      let b = passed t ok .blocks in
+      let b = passed t ok .meaning .blocks in
       let e : every (λ (r : Row). blockOk (blockOf t r)) (tabulate (rowAt t) 0 (blockCount t)) ≡ true =
       sym (every-map (blockOf t) blockOk (tabulate (rowAt t) 0 (blockCount t))) ∙ b in
       rw zero-add at (every-at (rowAt t) (λ (r : Row). blockOk (blockOf t r)) 0 (blockCount t) i e h)

@@ -5,5 +5,5 @@ pub mod Decode
 pub mod Rules
 pub mod Answer
 pub mod Lookup
-pub mod Pass
+pub mod Code
 pub mod Theorems

@@ -1,4 +1,4 @@
--- The rules of a table, each by itself, in the order of document 01's chapter 'The block table', and all of them: `tableOk`.
+-- The rules of a table, each by itself, in the order of document 01's chapter 'The block table': `formOk`, `meaningOk`, and all: `tableOk`.
 -- Assumes nothing.
 use mathlib.Core.Bool.{Bool, true, false, _&&_, _||_}
 use mathlib.Core.List.{List, [], _∷_}
@@ -10,11 +10,11 @@ use Rattle.rows.specs.declared.FieldRow.{FieldRow}
 use Rattle.rows.specs.declared.Row.{Row}
 use Rattle.table.specs.Lists.{every, neighbours}
 use Rattle.table.specs.Marks.{listed, markFits}
-use Rattle.table.specs.Rows.{BlockRow, ends}
+use Rattle.table.specs.Rows.{BlockRow, Table, ends}
 use Rattle.rows.specs.Places.{blockCount, fieldCount}
 use Rattle.table.specs.Decode.{toBlocks, toFields, crcField, covered, closing₀, closing₁, rowsOf, decode}
 
--- File and trailer.
+-- The form. File and trailer.
 
 -- "A file of T bytes, 20 to 8,192"
 abbrev pub sizeOk : List ℕ → Bool
@@ -49,46 +49,42 @@ fileOk t = sizeOk t && partsOk t && countOk t && toBlocksOk t && toFieldsOk t &&
 
 -- Block rows, as they stand.
 
--- "number u2, 0 to 8,191"
-abbrev pub numberOk : Row → Bool
-numberOk r = leb (r .number) 8191
-
--- "strictly rising"
-abbrev pub below : Row → Row → Bool
-below r s = ltb (r .number) (s .number)
-
-unfoldable pub risingOk : List Row → Bool
-risingOk rs = neighbours below rs
-
--- "highest revision u1, 0 to 7"
-abbrev pub highestOk : Row → Bool
-highestOk r = leb (r .highest) 7
-
 -- "a zero byte"
 abbrev pub zeroOk : Row → Bool
 zeroOk r = eqb (r .zero) 0
-
-unfoldable pub rowOk : Row → Bool
-rowOk r = numberOk r && highestOk r && zeroOk r
-
--- the counts of all these rows
-unfoldable pub counts : List Row → ℕ
-counts [] = 0
-counts (r ∷ rs) = r .bodies + r .subs + counts rs
 
 -- "The first index is the sum of all counts before it": so many before the first of these
 unfoldable pub indexOk : ℕ → List Row → Bool
 indexOk before [] = true
 indexOk before (r ∷ rs) = eqb (r .start) before && indexOk (before + (r .bodies + r .subs)) rs
 
+-- the counts of all these rows
+unfoldable pub counts : List Row → ℕ
+counts [] = 0
+counts (r ∷ rs) = r .bodies + r .subs + counts rs
+
 -- "all counts together use every field row"
 abbrev pub usedOk : ℕ → List Row → Bool
 usedOk fields rs = eqb (counts rs) fields
 
-unfoldable pub rowsOk : ℕ → List Row → Bool
-rowsOk fields rs = every rowOk rs && risingOk rs && indexOk 0 rs && usedOk fields rs
+unfoldable pub formOk : List ℕ → Bool
+formOk t = fileOk t && every zeroOk (rowsOf t) && indexOk 0 (rowsOf t) && usedOk (fieldCount t) (rowsOf t)
 
--- Field rows, decoded, block by block.
+-- The meaning: nothing in `meaningOk` knows of bytes. Block rows.
+
+-- "number u2, 0 to 8,191"
+abbrev pub numberOk : BlockRow → Bool
+numberOk b = leb (b .number) 8191
+
+-- "strictly rising"
+unfoldable pub risingOk : List BlockRow → Bool
+risingOk bs = neighbours (λ (b c : BlockRow). ltb (b .number) (c .number)) bs
+
+-- "highest revision u1, 0 to 7"
+abbrev pub highestOk : BlockRow → Bool
+highestOk b = leb (b .highest) 7
+
+-- Field rows, block by block.
 
 -- "Offsets in a body are at least 14"
 abbrev pub offsetOk : FieldRow → Bool
@@ -136,6 +132,9 @@ fieldsOk highest fs = neighbours apart fs && neighbours steady fs && every (firs
 unfoldable pub blockOk : BlockRow → Bool
 blockOk b = every offsetOk (b .body) && fieldsOk (b .highest) (b .body) && fieldsOk (b .highest) (b .subs) && pairOk b
 
+unfoldable pub meaningOk : Table → Bool
+meaningOk tab = every numberOk (tab .rows) && risingOk (tab .rows) && every highestOk (tab .rows) && every blockOk (tab .rows)
+
 -- All the rules.
 unfoldable pub tableOk : List ℕ → Bool
-tableOk t = fileOk t && rowsOk (fieldCount t) (rowsOf t) && every blockOk (decode t .rows)
+tableOk t = formOk t && meaningOk (decode t)

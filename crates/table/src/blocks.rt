@@ -5,7 +5,7 @@ ghost use Prim.Native.Nat.{_+_, _≤_, _<_};
 ghost use Rattle.rows.specs.Places.{fieldCount};
 ghost use Rattle.table.specs.Decode.{rowsOf, blockOf};
 ghost use Rattle.table.specs.Rules.{fileOk};
-ghost use Rattle.table.specs.Pass.{rowStep, blockPass, rowPass};
+ghost use Rattle.table.specs.Code.{rowStep, blockPass, rowPass};
 use crate::fields;
 use rows::Row;
 

@@ -5,7 +5,7 @@ ghost use Rattle.table.specs.Lists.{tabulate};
 ghost use Rattle.table.specs.Marks.{markFits};
 ghost use Rattle.rows.specs.Places.{fieldCount, fieldAt};
 ghost use Rattle.table.specs.Rules.{isCount, isPair};
-ghost use Rattle.table.specs.Pass.{fieldStep, fieldPass};
+ghost use Rattle.table.specs.Code.{fieldStep, fieldPass};
 use rows::FieldRow;
 
 // Whether a type may bear a mark.

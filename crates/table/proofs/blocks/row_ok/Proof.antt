@@ -2,8 +2,7 @@
 -- Assumes nothing.
 use mathlib.Core.Path.{refl}
 use borrow.Author.Needs.{needs}
-use Rattle.table.specs.Pass.{rowStep}
-use Rattle.table.specs.Rules.{rowOk}
+use Rattle.table.specs.Code.{rowStep}
 use Rattle.table.proofs.blocks.row_ok.Statement.{statement}
 use Rattle.table.proofs.blocks.row_ok.Tie as tie
 
@@ -14,7 +13,7 @@ add-result-2 : tie.Need-add-result-2
 add-result-2 c = search needs
 
 returns : tie.Need-returns
-unfolding rowStep rowOk
+unfolding rowStep
 returns c = refl
 
 pub row-ok-spec : {M : Type 1} → statement M

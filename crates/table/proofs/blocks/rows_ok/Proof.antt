@@ -9,7 +9,7 @@ use lib.ListN.{length}
 use borrow.Author.Needs.{needs}
 use borrow.Author.Tests.{not-true, not-false}
 use denote.Ref.{now}
-use Rattle.table.specs.Pass.{rowStep, rowPass}
+use Rattle.table.specs.Code.{rowStep, rowPass}
 use Rattle.rows.specs.Places.{fieldCount, rowAt}
 use Rattle.table.specs.Decode.{rowsOf}
 use Rattle.table.specs.Lists.{tabulate}

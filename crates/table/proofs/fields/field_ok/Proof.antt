@@ -1,7 +1,7 @@
 -- `table::fields::field_ok` meets its contract: its tests are `fieldStep` as it stands.
 -- Assumes nothing.
 use borrow.Author.Needs.{needs}
-use Rattle.table.specs.Pass.{fieldStep}
+use Rattle.table.specs.Code.{fieldStep}
 use Rattle.table.proofs.fields.field_ok.Statement.{statement}
 use Rattle.table.proofs.fields.field_ok.Tie as tie
 

@@ -6,7 +6,7 @@ use native.Mathlib.Nat.{add-zero, sub-zero}
 use native.Mathlib.Omega.{arith}
 use borrow.Author.Needs.{needs}
 use borrow.Author.Tests.{not-true, not-false}
-use Rattle.table.specs.Pass.{fieldPass}
+use Rattle.table.specs.Code.{fieldPass}
 use Rattle.rows.specs.Places.{fieldAt}
 use Rattle.table.specs.Lists.{tabulate}
 use Rattle.table.proofs.Loops.{fields-done, fields-stop, fields-go}

@@ -1,4 +1,4 @@
--- The rules on rows once more, as one pass takes them: the code's form. `proofs/Fused` shows that it is the rules; no public contract cites it.
+-- Working definitions: the rules on rows once more, as the code's one pass takes them. `proofs/Fused` shows that they are the rules.
 -- Assumes nothing.
 use mathlib.Core.Bool.{Bool, true, _&&_}
 use mathlib.Core.List.{List, [], _∷_}
@@ -8,7 +8,7 @@ use Rattle.rows.specs.declared.FieldRow.{FieldRow}
 use Rattle.rows.specs.declared.Row.{Row}
 use Rattle.table.specs.Rows.{BlockRow, ends}
 use Rattle.table.specs.Decode.{blockOf}
-use Rattle.table.specs.Rules.{rowOk, firstOk, typeOk, markOk, pairOk}
+use Rattle.table.specs.Rules.{zeroOk, firstOk, typeOk, markOk, pairOk}
 
 -- a field row, where the one before ends at `low` and has the first revision `rev`
 unfoldable pub fieldStep : ℕ → ℕ → ℕ → FieldRow → Bool
@@ -23,7 +23,8 @@ blockPass b = fieldPass 14 0 (b .highest) (b .body) && fieldPass 0 0 (b .highest
 
 -- a block row, where the least number allowed is `least` and `used` field rows of `fields` are before it
 unfoldable pub rowStep : ℕ → ℕ → ℕ → Row → Bool
-rowStep least used fields r = rowOk r && leb least (r .number) && eqb (r .start) used && leb (used + (r .bodies + r .subs)) fields
+rowStep least used fields r =
+    leb (r .number) 8191 && leb (r .highest) 7 && zeroOk r && leb least (r .number) && eqb (r .start) used && leb (used + (r .bodies + r .subs)) fields
 
 unfoldable pub rowPass : List ℕ → ℕ → ℕ → ℕ → List Row → Bool
 rowPass t least used fields [] = eqb used fields

@@ -1,0 +1,34 @@
+-- What the byte form has room for: a file within its size, and numbers within their bytes.
+-- Assumes nothing.
+use mathlib.Core.Bool.{Bool, _&&_}
+use mathlib.Core.List.{List, [], _∷_}
+use Prim.Native.Nat.{ℕ, _+_, _*_}
+use lib.Dec.{ltb, leb}
+use lib.ListN.{length}
+use Rattle.rows.specs.declared.FieldRow.{FieldRow}
+use Rattle.table.specs.Lists.{every}
+use Rattle.table.specs.Rows.{BlockRow, Table}
+
+-- the field rows of all these blocks
+unfoldable pub fieldRows : List BlockRow → ℕ
+fieldRows [] = 0
+fieldRows (b ∷ bs) = length (b .body) + length (b .subs) + fieldRows bs
+
+-- "field rows of 4 bytes, block rows of 8, then a trailer of 12"
+unfoldable pub fileSize : Table → ℕ
+fileSize tab = 4 * fieldRows (tab .rows) + 8 * length (tab .rows) + 12
+
+-- "body field count u1; .. sub-field count u1"
+abbrev pub countFits : List FieldRow → Bool
+countFits fs = ltb (length fs) 256
+
+-- "offset u1"
+abbrev pub offsetFits : FieldRow → Bool
+offsetFits f = ltb (f .offset) 256
+
+unfoldable pub blockFits : BlockRow → Bool
+blockFits b = countFits (b .body) && countFits (b .subs) && every offsetFits (b .body) && every offsetFits (b .subs)
+
+-- "A file of T bytes, .. to 8,192"; "version u2; count R of block rows .., at least 1". All other numbers are within their bytes by the rules.
+unfoldable pub fits : Table → Bool
+fits tab = leb (fileSize tab) 8192 && ltb (tab .version) 65536 && leb 1 (length (tab .rows)) && every blockFits (tab .rows)
