@@ -25,10 +25,10 @@ use Rattle.reader.specs.declared.Phase.{Phase}
 use Rattle.reader.specs.declared.Phase.the-variants as phase
 use Rattle.reader.proofs.Laws.{passes}
 use Rattle.runs.proofs.Feeding.{fed-whole, end-whole}
-use Rattle.demands.specs.World.{World, Call, feed, finish, Answer}
-use Rattle.demands.specs.Sequence.{tookOf, reportIn, inHold, taken, blocks}
+use Rattle.demands.specs.World.{World, Call, feed, finish, told, Step}
+use Rattle.demands.specs.Sequence.{tookOf, inHold}
 use Rattle.demands.specs.Demand2.{MayFollow}
-use Rattle.demands.proofs.Steps.{is, refusal, done, clash}
+use Rattle.demands.proofs.Steps.{refusal, done, clash}
 use Rattle.demands.proofs.Reached.{Good}
 use Rattle.demands.proofs.Going.{kept, place, going, within, kept-length, Fits, kept-after, place-after, in-hold, finish-report}
 
@@ -100,8 +100,8 @@ module _ (x : Phase) (w : World) (bs : List ℕ) (f : Feeding) (blk : List Block
 -- ---- Feed
 
 -- what it took and reported, with the result of the call
-abbrev pub Next : Call → List ℕ → List Block → Answer × World → Type 0
-Next c ts b x = Reads (ts ++ tookOf c (x .0)) (b ++ inHold (reportIn (x .0)) (x .1)) (x .1)
+abbrev pub Next : Call → List ℕ → List Block → Step → Type 0
+Next c ts b x = Reads (ts ++ tookOf c (x .answer)) (b ++ inHold (told (x .answer) .block) (x .world)) (x .world)
 
 pub feed-fits : (w : World) (piece : List ℕ) → Good w → Fits w (feedingOf (w .state) (w .hold) piece)
 unfolding feedingOf
@@ -117,7 +117,7 @@ reads-feed w piece g e r =
     let h = feed-fits w piece g in
     let n : f .taken ≡ length (take (f .taken) piece) = sym (length-take-le (f .taken) piece (omega (arith, calls.call judged (judging .fits) (kept w) piece room .taken))) in
     let fed : isFeeding (w .state .run .phase) ≡ true = passes (isFeeding (w .state .run .phase)) 2 _ (passes (sound (w .state) && longHold (w .hold)) 1 _ e .1) .0 in
-    go phase.Feeding w (take (f .taken) piece) f (inHold (reportIn (done (feed piece) w .0)) (done (feed piece) w .1)) g h n
+    go phase.Feeding w (take (f .taken) piece) f (inHold (told (done (feed piece) w .answer) .block) (done (feed piece) w .world)) g h n
     (in-hold phase.Feeding w f g h) (calls.fed-holds judged piece room (kept w))
     (λ zs y. follow-fed (w .state .run .phase) (take (f .taken) piece ++ zs) fed)
     (λ zs y. fed-answers piece room (place w) (kept w) zs)
@@ -148,15 +148,16 @@ finish-fits w g =
       sum = omega (arith, kept-length w g, calls.settle-sum judgedLast (kept w));
     }
 
-pub reads-finish : (w : World) {ts : List ℕ} {b : List Block} → Good w → refusal finish w ≡ none → Reads ts b w → Next finish ts b (done finish w)
+pub reads-finish : (w : World) {ts : List ℕ} {b : List Block} → Good w → refusal finish w ≡ none → Reads ts b w
+    → Reads (ts ++ []) (b ++ inHold (told (done finish w .answer) .block) (done finish w .world)) (done finish w .world)
 unfolding finishingOf
 reads-finish w g e r =
     let f = stop (settle judgedLast (kept w)) in
     let o = settle judgedLast (kept w) .standing in
     let x = phaseAfter (settle judgedLast (kept w) .standing) in
     let h = finish-fits w g in
-    go (phaseAfter (settle judgedLast (kept w) .standing)) w [] (stop (settle judgedLast (kept w))) (inHold (reportIn (done finish w .0)) (done finish w .1)) g h refl
-    (ap (λ (i : Option _). inHold i (done finish w .1)) (finish-report o (runOn x (w .state .run) f) (settle judgedLast (kept w) .rest)) ∙ in-hold x w f g h)
+    go (phaseAfter (settle judgedLast (kept w) .standing)) w [] (stop (settle judgedLast (kept w))) (inHold (told (done finish w .answer) .block) (done finish w .world)) g h refl
+    (ap (λ (i : Option _). inHold i (done finish w .world)) (finish-report o (runOn x (w .state .run) f) (settle judgedLast (kept w) .rest)) ∙ in-hold x w f g h)
     (settle-rest judgedLast (kept w) .is ∙ ap (drop (length (settle judgedLast (kept w) .passed))) (sym (append-nil (kept w))))
     (λ zs y. subst⁻¹ (MayFollow (w .state .run .phase)) (follow-finish o zs y) (follow-none (w .state .run .phase)))
     (λ zs y. finish-reads (place w) (kept w) zs (follow-finish o zs y))

@@ -14,12 +14,12 @@ use Rattle.table.specs.Decode.{decode}
 use Rattle.reader.specs.State.{limit}
 use Rattle.reader.specs.Said.{took}
 use Rattle.tables.specs.Calls.{nextTable}
+use Rattle.records.specs.Calls.{tableInForce}
 use Rattle.runs.specs.Calls.{feedingOf, front}
 use Rattle.reader.specs.declared.Phase.the-variants as phase
-use Rattle.demands.specs.World.{World, Call, feed, Answer, said, looked, step, end}
-use Rattle.demands.specs.Sequence.{opened, tookOf, taken}
-use Rattle.demands.specs.Demand2.{MoreDecided, ByTheTable, Demand2}
-use Rattle.demands.specs.Demand3.{LooksBy}
+use Rattle.demands.specs.World.{World, Look, Call, feed, look, said, Step, step, end}
+use Rattle.demands.specs.Sequence.{Within, opened, tookOf, taken}
+use Rattle.demands.specs.Demand2.{ReadsBy, placeNow, Demand2}
 use Rattle.demands.proofs.Steps.{How, isnt, is, how, done}
 use Rattle.demands.proofs.Reached.{Good, good-end}
 use Rattle.demands.proofs.Live.{live-end, stands}
@@ -30,29 +30,32 @@ use Rattle.demands.proofs.Calls.{feed-fits}
 use Rattle.demands.proofs.Reading.{reads-by, reads-within, first-ones}
 use Rattle.demands.proofs.Ending.{none-if, said-is}
 
-taken-append : (xs : List Call) (c : Call) (w : World) → taken (xs ++ c ∷ []) w ≡ taken xs w ++ tookOf c (step c (end xs w) .0)
+taken-append : (xs : List Call) (c : Call) (w : World) → taken (xs ++ c ∷ []) w ≡ taken xs w ++ tookOf c (step c (end xs w) .answer)
 unfolding taken end
-taken-append [] c w = append-nil (tookOf c (step c w .0))
+taken-append [] c w = append-nil (tookOf c (step c w .answer))
 taken-append (x ∷ xs) c w =
-    ap (λ (t : List ℕ). tookOf x (step x w .0) ++ t) (taken-append xs c (step x w .1))
-    ∙ sym (append-assoc (tookOf x (step x w .0)) (taken xs (step x w .1)) (tookOf c (step c (end xs (step x w .1)) .0)))
+    let v = step x w .world in
+    ap (λ (t : List ℕ). tookOf x (step x w .answer) ++ t) (taken-append xs c v)
+    ∙ sym (append-assoc (tookOf x (step x w .answer)) (taken xs v) (tookOf c (step c (end xs v) .answer)))
 
-end-one : (xs : List Call) (c : Call) (w : World) → end (xs ++ c ∷ []) w ≡ step c (end xs w) .1
+end-one : (xs : List Call) (c : Call) (w : World) → end (xs ++ c ∷ []) w ≡ step c (end xs w) .world
 unfolding end
 end-one xs c w = end-append xs (c ∷ []) w
 
 -- what More leaves held begins with an undecided place
-left-undecided : (w : World) (piece : List ℕ) (n : ℕ) → Good w → {r : Answer × World} → How (feed piece) w r → r .0 ≡ said (took n none) → judged (kept (r .1)) ≡ Undecided
+left-undecided : (w : World) (piece : List ℕ) (n : ℕ) → Good w → {r : Step} → How (feed piece) w r → r .answer ≡ said (took n none) → judged (kept (r .world)) ≡ Undecided
 unfolding feedingOf
 left-undecided w piece n g (isnt k e) f = let z : _≡_ {A = ℕ} 0 1 = cc in let x : ⊥ = omega arith in absurd x
 left-undecided w piece n g (is e) f =
     let room = limit - w .state .run .counts .taken in
     let F = feedLit (kept w) piece (limit - w .state .run .counts .taken) in
-    let q = none-if (F .standing) (F .taken) n (front (done (feed piece) w .1 .state .run)) (F .held) (said-is _ _ f) .0 in
+    let q = none-if (F .standing) (F .taken) n (front (done (feed piece) w .world .state .run)) (F .held) (said-is _ _ f) .0 in
     ap judged (kept-after phase.Feeding w F g (feed-fits w piece g) ∙ ap (λ (o : Option ℕ). drop (size o) (F .held)) q)
     ∙ more-decides-all (kept w) piece room q .1
 
-more-decided : MoreDecided
+more-decided : (w : World) (before mid : List Call) (piece : List ℕ) (n : ℕ) → Within w before mid
+    → step (feed piece) (end mid (opened w before)) .answer ≡ said (took n none)
+    → judged (drop (placeNow (end (mid ++ feed piece ∷ []) (opened w before))) (taken (mid ++ feed piece ∷ []) (opened w before))) ≡ Undecided
 more-decided w before mid piece n h e =
     let s = stands w before mid h in
     let u = end mid (opened w before) in
@@ -61,14 +64,14 @@ more-decided w before mid piece n h e =
     ap₂ (λ (x : World) (t : List ℕ). judged (drop (place x) t)) (end-one mid (feed piece) (opened w before)) (taken-append mid (feed piece) (opened w before))
     ∙ ap judged (sym (r .rest)) ∙ left-undecided u piece n g (how (feed piece) u) e
 
-by-the-table : ByTheTable
-unfolding step
+by-the-table : (w : World) (before mid : List Call) → Within w before mid → (l : Look)
+    → ReadsBy (decode (tableInForce (end mid (opened w before) .state) (end mid (opened w before) .force))) l (step (look l) (end mid (opened w before)) .answer)
 by-the-table w before mid h l =
     let s = stands w before mid h in
     let u = end mid (opened w before) in
     let t = nextTable (end before w .state) (end before w .force) (end before w .wait) in
     let r = read-end t mid (opened w before) (s .live) (h .noEnd) (found w before mid h) in
-    subst⁻¹ (λ (x : List ℕ). LooksBy (decode x) l (looked l u)) (r .is) (look-by t l u (good-end mid (opened w before) (h .fed) (s .good)) r)
+    subst⁻¹ (λ (x : List ℕ). ReadsBy (decode x) l (step (look l) u .answer)) (r .is) (look-by t l u (good-end mid (opened w before) (h .fed) (s .good)) r)
 
 pub demand-2 : Demand2
 demand-2 = record { first = first-ones; more = more-decided; records = by-the-table }

@@ -4,7 +4,7 @@ use Prim.Native.Nat.{ℕ, _≤_, _<_}
 use native.Mathlib.Omega.{arith}
 use mathlib.Core.Path.{_≡_, refl, ap}
 use mathlib.Core.Bool.{Bool, true, false, not, _&&_, _||_}
-use mathlib.Core.List.{List}
+use mathlib.Core.List.{List, [], _∷_}
 use mathlib.Core.Logic.{_⊎_, inl, inr, ⊎-elim}
 use mathlib.Core.Option.{Option, none, some}
 use lib.ListN.{length}
@@ -19,11 +19,11 @@ use Rattle.reader.specs.State.{limit, sound}
 use Rattle.reader.specs.Refusals.{need, isClosed, longHold, longStore, tableRefusal}
 use Rattle.runs.specs.Refusals.{isFeeding, isSome, feedRefusal, finishRefusal, bytesRefusal}
 use Rattle.tables.specs.Calls.{nextTable, openRefusal, stageRefusal, withdrawRefusal}
-use Rattle.records.specs.Calls.{tableInForce, askRefusal}
 use Rattle.reader.specs.declared.Phase.{Phase}
 use Rattle.reader.specs.declared.Phase.the-variants.{Closed, Feeding, Finishing}
 use Rattle.reader.specs.declared.State.{State}
-use Rattle.demands.specs.Exactly.{Order, nothing, first, Given, Exactly, BadState, ShortHold, ShortStore, Breaks, openOrder, feedOrder, finishOrder, bytesOrder, withdrawOrder, stageOrder, askOrder, ExactlyWhen}
+use Rattle.demands.specs.Refusals.{ShortHold, ShortStore, BadState, Full, Breaks, _when_, Order, Given, Exactly, order}
+use Rattle.demands.specs.World.{World, stage, withdraw, bytes, openRun, feed, finish, table, look}
 
 -- ---- a row of tests
 
@@ -32,18 +32,18 @@ pub record Tells (b : Bool) (P : Type 0) : Type 0 where
   pub fine : b ≡ true → P → ⊥
   pub holds : b ≡ false → P
 
-pub exactly-none : Exactly none nothing
+pub exactly-none : Exactly none []
 exactly-none = record { gives = λ n e. let z : _≡_ {A = ℕ} 0 1 = cc in omega arith; given = λ n g. absurd g }
 
-gives-by : (b : Bool) (m : ℕ) {P : Type 0} (o : Option ℕ) {r : Order} → Tells b P → Exactly o r → (n : ℕ) → need b m o ≡ some n → Given (first m P r) n
+gives-by : (b : Bool) (m : ℕ) {P : Type 0} (o : Option ℕ) {r : Order} → Tells b P → Exactly o r → (n : ℕ) → need b m o ≡ some n → Given (m when P ∷ r) n
 gives-by true m o t x n e = inr (t .fine refl, x .gives n e)
 gives-by false m o t x n e = let q : m ≡ n = cc in inl (q, t .holds refl)
 
-given-by : (b : Bool) (m : ℕ) {P : Type 0} (o : Option ℕ) {r : Order} → Tells b P → Exactly o r → (n : ℕ) → Given (first m P r) n → need b m o ≡ some n
+given-by : (b : Bool) (m : ℕ) {P : Type 0} (o : Option ℕ) {r : Order} → Tells b P → Exactly o r → (n : ℕ) → Given (m when P ∷ r) n → need b m o ≡ some n
 given-by true m o t x n g = ⊎-elim (λ q. absurd (t .fine refl (q .1))) (λ q. x .given n (q .1)) g
 given-by false m o t x n g = ⊎-elim (λ q. ap some (q .0)) (λ q. absurd (q .0 (t .holds refl))) g
 
-followed : {b : Bool} (m : ℕ) {P : Type 0} {o : Option ℕ} {r : Order} → Tells b P → Exactly o r → Exactly (need b m o) (first m P r)
+followed : {b : Bool} (m : ℕ) {P : Type 0} {o : Option ℕ} {r : Order} → Tells b P → Exactly o r → Exactly (need b m o) (m when P ∷ r)
 followed {b} m {P} {o} t x = record { gives = gives-by b m o t x; given = given-by b m o t x }
 
 -- ---- tests put together
@@ -59,6 +59,20 @@ both {a} {b} t u =
       holds = both-holds a b t u;
     }
 
+to-right : {P Q R : Type 0} → (P ⊎ Q) ⊎ R → P ⊎ (Q ⊎ R)
+to-right (inl (inl p)) = inl p
+to-right (inl (inr q)) = inr (inl q)
+to-right (inr r) = inr (inr r)
+
+to-left : {P Q R : Type 0} → P ⊎ (Q ⊎ R) → (P ⊎ Q) ⊎ R
+to-left (inl p) = inl (inl p)
+to-left (inr (inl q)) = inl (inr q)
+to-left (inr (inr r)) = inr r
+
+-- the tests stand in a row from the left, the conditions from the right
+regroup : {c : Bool} {P Q R : Type 0} → Tells c ((P ⊎ Q) ⊎ R) → Tells c (P ⊎ (Q ⊎ R))
+regroup u = record { fine = λ e g. u .fine e (to-left g); holds = λ e. to-right (u .holds e) }
+
 pub within : (m n : ℕ) → Tells (leb m n) (n < m)
 within m n = record { fine = λ e l. let g = leb-true m n e in omega arith; holds = λ e. leb-false m n e }
 
@@ -67,7 +81,13 @@ within m n = record { fine = λ e l. let g = leb-true m n e in omega arith; hold
 pub bad-state : (s : State) → Tells (sound s) (BadState s)
 unfolding sound
 bad-state s =
-    both
+    regroup
+    (regroup
+    (regroup
+    (regroup
+    (regroup
+    (regroup
+    (both
     (both
     (both
     (both
@@ -77,7 +97,7 @@ bad-state s =
     (within (s .waiting) 8192))
     (within (s .run .counts .taken) limit))
     (within (s .run .counts .blocks) (s .run .counts .taken)))
-    (within (s .run .counts .skipped) (s .run .counts .taken))
+    (within (s .run .counts .skipped) (s .run .counts .taken))))))))
 
 closed-tells : (p : Phase) → Tells (isClosed p) (p ≡ Closed → ⊥)
 closed-tells Closed = record { fine = λ e f. f refl; holds = λ e. never refl e }
@@ -139,54 +159,44 @@ hold-tells s hold = both (bad-state s) (within 65536 (length hold))
 pub store-tells : (s : State) (store : List ℕ) → Tells (sound s && longStore store) (BadState s ⊎ ShortStore store)
 store-tells s store = both (bad-state s) (within 8192 (length store))
 
-broken : (t : List ℕ) → Exactly (tableRefusal t) (first 4 (Breaks t) nothing)
+full : (s : State) (hold piece : List ℕ)
+    → Tells (ltb (s .run .counts .taken) limit || (eqb (length piece) 0 || isSome (settle judged (restOf hold (s .run .held) (s .run .standing)) .standing))) (Full s hold piece)
+full s hold piece =
+    let u = orelse (full-tells (s .run .counts .taken)) (orelse (empty-tells (length piece)) (gives-tells (settle judged (restOf hold (s .run .held) (s .run .standing)) .standing))) in
+    record {
+      fine = λ e f. u .fine e (f .all, (f .some-byte, f .no-block));
+      holds = λ e. let h = u .holds e in record { all = h .0; no-block = h .1 .1; some-byte = h .1 .0 };
+    }
+
+broken : (t : List ℕ) → Exactly (tableRefusal t) (4 when Breaks t ∷ [])
 broken t = followed 4 (table-tells t) exactly-none
 
-open-exact : (s : State) (force wait : List ℕ) → Exactly (openRefusal s force wait) (openOrder s force wait)
+pub open-exact : (w : World) → Exactly (openRefusal (w .state) (w .force) (w .wait)) (order openRun w)
 unfolding openRefusal
-open-exact s force wait =
-    followed 1 (both (store-tells s force) (within 8192 (length wait)))
+open-exact w =
+    let s = w .state in
+    followed 1 (regroup (both (store-tells s (w .force)) (within 8192 (length (w .wait)))))
     (followed 2 (closed-tells (s .run .phase))
-    (followed 5 (orelse (some-tells (s .waiting)) (some-tells (s .«in_force»))) (broken (nextTable s force wait))))
+    (followed 5 (orelse (some-tells (s .waiting)) (some-tells (s .«in_force»))) (broken (nextTable s (w .force) (w .wait)))))
 
-feed-exact : (s : State) (hold piece : List ℕ) → Exactly (feedRefusal s hold piece) (feedOrder s hold piece)
+pub feed-exact : (piece : List ℕ) (w : World) → Exactly (feedRefusal (w .state) (w .hold) piece) (order (feed piece) w)
 unfolding feedRefusal
-feed-exact s hold piece =
-    followed 1 (hold-tells s hold)
-    (followed 2 (feeding-tells (s .run .phase))
-    (followed 3
-    (orelse (full-tells (s .run .counts .taken)) (orelse (empty-tells (length piece)) (gives-tells (settle judged (restOf hold (s .run .held) (s .run .standing)) .standing))))
-    exactly-none))
+feed-exact piece w =
+    followed 1 (hold-tells (w .state) (w .hold))
+    (followed 2 (feeding-tells (w .state .run .phase)) (followed 3 (full (w .state) (w .hold) piece) exactly-none))
 
-finish-exact : (s : State) (hold : List ℕ) → Exactly (finishRefusal s hold) (finishOrder s hold)
+pub finish-exact : (w : World) → Exactly (finishRefusal (w .state) (w .hold)) (order finish w)
 unfolding finishRefusal
-finish-exact s hold = followed 1 (hold-tells s hold) (followed 2 (open-tells (s .run .phase)) exactly-none)
+finish-exact w = followed 1 (hold-tells (w .state) (w .hold)) (followed 2 (open-tells (w .state .run .phase)) exactly-none)
 
-bytes-exact : (s : State) (hold : List ℕ) → Exactly (bytesRefusal s hold) (bytesOrder s hold)
+pub bytes-exact : (w : World) → Exactly (bytesRefusal (w .state) (w .hold)) (order (look bytes) w)
 unfolding bytesRefusal
-bytes-exact s hold = followed 1 (hold-tells s hold) exactly-none
+bytes-exact w = followed 1 (hold-tells (w .state) (w .hold)) exactly-none
 
-withdraw-exact : (s : State) → Exactly (withdrawRefusal s) (withdrawOrder s)
+pub withdraw-exact : (w : World) → Exactly (withdrawRefusal (w .state)) (order (table withdraw) w)
 unfolding withdrawRefusal
-withdraw-exact s = followed 1 (bad-state s) exactly-none
+withdraw-exact w = followed 1 (bad-state (w .state)) exactly-none
 
-stage-exact : (s : State) (wait t : List ℕ) → Exactly (stageRefusal s wait t) (stageOrder s wait t)
+pub stage-exact : (t : List ℕ) (w : World) → Exactly (stageRefusal (w .state) (w .wait) t) (order (table (stage t)) w)
 unfolding stageRefusal
-stage-exact s wait t = followed 1 (store-tells s wait) (broken t)
-
-ask-exact : (s : State) (force : List ℕ) → Exactly (askRefusal s force) (askOrder s force)
-unfolding askRefusal
-ask-exact s force =
-    followed 1 (store-tells s force) (followed 5 (some-tells (s .«in_force»)) (broken (tableInForce s force)))
-
-pub exact : ExactlyWhen
-exact =
-    record {
-      opens = open-exact;
-      feeds = feed-exact;
-      finishes = finish-exact;
-      bytes = bytes-exact;
-      withdraws = withdraw-exact;
-      stages = stage-exact;
-      asks = ask-exact;
-    }
+stage-exact t w = followed 1 (store-tells (w .state) (w .wait)) (broken t)

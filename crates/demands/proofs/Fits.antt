@@ -18,7 +18,7 @@ use Rattle.table.specs.Rules.{tableOk}
 use Rattle.table.specs.Lookup.{hasNumber, findRow}
 use Rattle.table.proofs.Laws.{one-row}
 use Rattle.block.specs.Block.{endsBy, bodyFits, subsFit, subCount}
-use Rattle.demands.specs.Asked.{OneFrame, number, revision, L, N, SBLength, RowOf, OfRow, EndsPast, NotInTable, TooShort, SubsDoNotFit, NoField, NoSubBlock}
+use Rattle.demands.specs.Refusals.{OneFrame, number, revision, L, N, SBLength, RowOf, OfRow, EndsPast, NotInTable, TooShort, SubsDoNotFit, NoField, NoSubBlock}
 use Rattle.demands.proofs.Exact.{Tells, both, within, orelse, empty-tells}
 use Rattle.demands.proofs.Listed.{first-there, first-none, every-tells}
 

@@ -15,11 +15,12 @@ use Rattle.table.specs.Decode.{decode}
 use Rattle.tables.specs.Calls.{nextTable, opening}
 use Rattle.feed.specs.Hold.{over}
 use Rattle.records.specs.Calls.{tableInForce, askRefusal, bodyOf, subOf, subBytesOf, subBytesRefusal, stampOf}
-use Rattle.demands.specs.World.{World, TableCall, stage, withdraw, Look, bytes, body, sub, subBytes, tow, wnc, Call, openRun, feed, finish, table, look, Answer, leftForce, looked, step, end, trace}
-use Rattle.demands.specs.Sequence.{AllFed, NoEnd, Within, opened}
-use Rattle.demands.specs.Demand3.{LooksBy, ReadsBy, AllBy, OneTable}
-use Rattle.demands.proofs.Steps.{How, isnt, is, how, refusal, done}
-use Rattle.demands.proofs.Reached.{Good, good-sound, good-step}
+use Rattle.demands.specs.World.{World, TableCall, stage, withdraw, Look, bytes, body, sub, subBytes, tow, wnc, Call, openRun, feed, finish, table, look, Step, looked, step, end}
+use Rattle.demands.specs.Sequence.{NoEnd, Within, opened}
+use Rattle.demands.specs.Demand2.{ReadsBy}
+use Rattle.demands.specs.Demand3.{foundBy}
+use Rattle.demands.proofs.Steps.{How, isnt, is, how, refusal, leftForce, done}
+use Rattle.demands.proofs.Reached.{Good, good-sound, good-end}
 use Rattle.demands.proofs.Live.{Live, not-open, live-step, MayOpen, stands}
 
 -- ---- it is not touched
@@ -28,18 +29,18 @@ pub record SameForce (w u : World) : Type 0 where
   pub number : u .state .«in_force» ≡ w .state .«in_force»
   pub store : u .force ≡ w .force
 
-same-table : (t : TableCall) (w : World) → SameForce w (done (table t) w .1)
+same-table : (t : TableCall) (w : World) → SameForce w (done (table t) w .world)
 same-table (stage t) w = record { number = refl; store = refl }
 same-table withdraw w = record { number = refl; store = refl }
 
-same-done : (c : Call) (w : World) → Live w → refusal c w ≡ none → SameForce w (done c w .1)
+same-done : (c : Call) (w : World) → Live w → refusal c w ≡ none → SameForce w (done c w .world)
 same-done openRun w l e = not-open w l e
 same-done (feed piece) w l e = record { number = refl; store = refl }
 same-done finish w l e = record { number = refl; store = refl }
 same-done (table t) w l e = same-table t w
 same-done (look k) w l e = record { number = refl; store = refl }
 
-same-by : (c : Call) (w : World) → Live w → {r : Answer × World} → How c w r → SameForce w (r .1)
+same-by : (c : Call) (w : World) → Live w → {r : Step} → How c w r → SameForce w (r .world)
 same-by c w l (isnt n e) = record { number = refl; store = refl }
 same-by c w l (is e) = same-done c w l e
 
@@ -66,37 +67,25 @@ unfolding askRefusal
 no-refusal t w g r =
     rw (good-sound w g, le-leb 8192 (length (w .force)) (r .long), lt-ltb 0 (w .state .«in_force») (r .some), r .is, r .ok) refl
 
-pub look-by : (t : List ℕ) (l : Look) (w : World) → Good w → ReadBy t w → LooksBy (decode t) l (looked l w)
+looked-by : (t : List ℕ) (l : Look) (w : World) → Good w → ReadBy t w → ReadsBy (decode t) l (looked l w)
 unfolding bodyOf subOf subBytesOf subBytesRefusal stampOf
-look-by t bytes w g r = tt
-look-by t (body b i) w g r = rw (no-refusal t w g r, r .is) refl
-look-by t (sub b k j) w g r = rw (no-refusal t w g r, r .is) refl
-look-by t (subBytes b k) w g r = rw (no-refusal t w g r, r .is) refl
-look-by t (tow b) w g r = rw (good-sound w g) refl
-look-by t (wnc b) w g r = rw (good-sound w g) refl
+looked-by t bytes w g r = tt
+looked-by t (body b i) w g r = rw (no-refusal t w g r, r .is) refl
+looked-by t (sub b k j) w g r = rw (no-refusal t w g r, r .is) refl
+looked-by t (subBytes b k) w g r = rw (no-refusal t w g r, r .is) refl
+looked-by t (tow b) w g r = rw (good-sound w g) refl
+looked-by t (wnc b) w g r = rw (good-sound w g) refl
 
-reads-by : (t : List ℕ) (c : Call) (w : World) → Good w → ReadBy t w → ReadsBy (decode t) c (step c w .0)
+pub look-by : (t : List ℕ) (l : Look) (w : World) → Good w → ReadBy t w → ReadsBy (decode t) l (step (look l) w .answer)
 unfolding step
-reads-by t openRun w g r = tt
-reads-by t (feed piece) w g r = tt
-reads-by t finish w g r = tt
-reads-by t (table k) w g r = tt
-reads-by t (look l) w g r = look-by t l w g r
-
-all-by : (t : List ℕ) (cs : List Call) (w : World) → AllFed cs → Good w → Live w → NoEnd cs w → ReadBy t w → AllBy (decode t) (trace cs w)
-unfolding trace AllBy AllFed NoEnd
-all-by t [] w b g l n r = tt
-all-by t (c ∷ cs) w b g l n r = (
-  reads-by t c w g r,
-  all-by t cs (step c w .1) (b .1) (good-step c w (b .0) g) (live-step c w l (n .0)) (n .1) (kept-by t w (step c w .1) (same-by c w l (how c w)) r),
-)
+look-by t l w g r = looked-by t l w g r
 
 -- ---- the table that Open found comes into force
 
 pub length-over : (v h : List ℕ) → length v ≤ length h → length (over v h) ≡ length h
 length-over v h l = omega (arith, length-append v (drop (length v) h), length-drop (length v) h)
 
-found-by : (b : Bool) (w : World) → Good w → MayOpen w → ltb 0 (w .state .waiting) ≡ b → ReadBy (nextTable (w .state) (w .force) (w .wait)) (leftForce w (opening (w .state) (w .force) (w .wait)) .1)
+found-by : (b : Bool) (w : World) → Good w → MayOpen w → ltb 0 (w .state .waiting) ≡ b → ReadBy (nextTable (w .state) (w .force) (w .wait)) (leftForce w (opening (w .state) (w .force) (w .wait)) .world)
 found-by true w g m e =
     let s = w .state in
     let n = w .state .waiting in
@@ -128,10 +117,12 @@ found w before mid h =
 pub read-end : (t : List ℕ) (cs : List Call) (w : World) → Live w → NoEnd cs w → ReadBy t w → ReadBy t (end cs w)
 unfolding end NoEnd
 read-end t [] w l n r = r
-read-end t (c ∷ cs) w l n r = read-end t cs (step c w .1) (live-step c w l (n .0)) (n .1) (kept-by t w (step c w .1) (same-by c w l (how c w)) r)
+read-end t (c ∷ cs) w l n r = read-end t cs (step c w .world) (live-step c w l (n .0)) (n .1) (kept-by t w (step c w .world) (same-by c w l (how c w)) r)
 
-pub one-table : OneTable
-one-table w before mid h =
+-- at every moment of it a record is read by that table
+pub one-table : (w : World) (before mid : List Call) → Within w before mid → (l : Look) → ReadsBy (foundBy (end before w)) l (step (look l) (end mid (opened w before)) .answer)
+one-table w before mid h l =
     let s = stands w before mid h in
     let t = nextTable (end before w .state) (end before w .force) (end before w .wait) in
-    all-by t mid (opened w before) (h .fed) (s .good) (s .live) (h .noEnd) (found w before mid h)
+    look-by t l (end mid (opened w before)) (good-end mid (opened w before) (h .fed) (s .good))
+    (read-end t mid (opened w before) (s .live) (h .noEnd) (found w before mid h))

@@ -10,7 +10,7 @@ use borrow.Author.Tests.{leb-true, eqb-true, le-leb, eq-eqb}
 use Rattle.crc.specs.Crc.{crcOf}
 use Rattle.frame.specs.Frame.{syncAt, crcAt, lengthAt, allowed, endsWithin, crcRight, frameAt, wholeFrame}
 use Rattle.frame.proofs.Tests.{both-left, both-right, both-true, never}
-use Rattle.demands.specs.Asked.{FrameStands, OneFrame, NotOneFrame}
+use Rattle.demands.specs.Refusals.{FrameStands, OneFrame, NotOneFrame}
 use Rattle.demands.proofs.Exact.{Tells}
 
 stands : (w : List ℕ) (p : ℕ) → frameAt w p ≡ true → FrameStands w p

@@ -20,8 +20,8 @@ use Rattle.runs.specs.Calls.{reported, reportIf, front, runOn, finishSaid, byte
 use Rattle.reader.specs.declared.Phase.{Phase}
 use Rattle.reader.specs.declared.Run.{Run}
 use Rattle.runs.proofs.Feeding.{WholeIf}
-use Rattle.demands.specs.World.{World, bytes, look, step}
-use Rattle.demands.specs.Sequence.{blockOf, inHold, partOf, shown, reportSaid}
+use Rattle.demands.specs.World.{World, bytes, look, said, told, partOf, step}
+use Rattle.demands.specs.Sequence.{blockOf, inHold, shown}
 use Rattle.demands.proofs.Reached.{Good, good-sound}
 
 -- the held bytes without the block last reported, and the place where reading goes on
@@ -70,7 +70,7 @@ in-hold-by none p q v u hold a e l = refl
 in-hold-by (some n) p q v u hold a e l =
     ap (λ (b : List ℕ). blockOf (reported p n v) (take n b) ∷ []) a ∙ ap (λ (b : Block). b ∷ []) (reported-is p q n v hold e l)
 
-pub finish-report : (o : Option ℕ) (r : Run) (v : List ℕ) → reportSaid (finishSaid o r v) ≡ reportIf o (front r) v
+pub finish-report : (o : Option ℕ) (r : Run) (v : List ℕ) → told (said (finishSaid o r v)) .block ≡ reportIf o (front r) v
 finish-report none r v = refl
 finish-report (some n) r v = refl
 
@@ -82,7 +82,7 @@ module _ (x : Phase) (w : World) (f : Feeding) (g : Good w) (h : Fits w f) where
 
 -- ---- what Bytes shows
 
-pub bytes-told : (w : World) → Good w → 65536 ≤ length (w .hold) → partOf (step (look bytes) w .0) ≡ take (w .state .run .standing) (w .hold)
+pub bytes-told : (w : World) → Good w → 65536 ≤ length (w .hold) → partOf (step (look bytes) w .answer) ≡ take (w .state .run .standing) (w .hold)
 unfolding step bytesOf bytesRefusal
 bytes-told w g l = rw (good-sound w g, le-leb 65536 (length (w .hold)) l) refl
 

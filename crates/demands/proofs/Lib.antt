@@ -1,4 +1,3 @@
-pub mod Keeping
 pub mod Apart
 pub mod Exact
 pub mod Soundness
@@ -13,6 +12,7 @@ pub mod Calls
 pub mod Reading
 pub mod Ending
 pub mod Never
+pub mod Refusals
 pub mod Refusing
 pub mod Stream
 pub mod Deciding
@@ -21,7 +21,6 @@ pub mod Listed
 pub mod Numbers
 pub mod Fits
 pub mod Asked
-pub mod Told
 pub mod Single
-pub mod Computed
 pub mod Telling
+pub mod Corollaries

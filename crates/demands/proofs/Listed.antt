@@ -10,7 +10,7 @@ use mathlib.Core.Option.{none, some}
 use lib.ListN.{length}
 use Rattle.frame.proofs.Tests.{never}
 use Rattle.table.specs.Lists.{every, first, pick}
-use Rattle.demands.specs.Asked.{Among}
+use Rattle.demands.specs.Refusals.{Among}
 use Rattle.demands.proofs.Exact.{Tells, both}
 
 pub nothing-there : {A X : Type 0} {x : A} → none ≡ some x → X

@@ -1,25 +1,24 @@
 -- A run that stands open stays open until End; what it stands on.
 -- Assumes nothing.
 use Prim.Native.Nat.{ℕ}
-use native.Mathlib.Omega.{arith}
 use mathlib.Core.Path.{_≡_, refl, sym, ap, _∙_}
 use mathlib.Core.Bool.{true, false, _&&_, _||_}
 use mathlib.Core.List.{List, [], _∷_}
-use mathlib.Core.Option.{Option, none, some}
+use mathlib.Core.Option.{Option, none, some, IsSome}
 use lib.Dec.{ltb}
 use Rattle.table.specs.Rules.{tableOk}
 use Rattle.reader.specs.State.{sound}
-use Rattle.reader.specs.Said.{version}
 use Rattle.reader.specs.Refusals.{isClosed, longStore}
 use Rattle.tables.specs.Calls.{nextTable, openRefusal, opening}
 use Rattle.runs.specs.Calls.{finishingOf, finishingBy, finishSaid, phaseAfter}
 use Rattle.reader.specs.declared.Run.{Run}
 use Rattle.reader.proofs.Laws.{passes}
 use Rattle.tables.proofs.Accepted.{OpenPassed, open-passed}
-use Rattle.demands.specs.World.{World, TableCall, stage, withdraw, Call, openRun, feed, finish, table, look, Answer, said, leftForce, step, end}
-use Rattle.demands.specs.Sequence.{endSaid, isEnd, NoEnd, Within, opened}
-use Rattle.demands.proofs.Steps.{How, isnt, is, how, refusal, done, clash}
-use Rattle.demands.proofs.Reached.{Good, good-step, good-end, good-new}
+use Rattle.demands.specs.World.{World, TableCall, stage, withdraw, Call, openRun, feed, finish, table, look, said, told, Step, step, end}
+use Rattle.demands.specs.Sequence.{NoEnd, Within, opened}
+use Rattle.demands.proofs.Steps.{How, isnt, is, how, refusal, leftForce, done, clash}
+use Rattle.demands.proofs.Listed.{nothing-there}
+use Rattle.demands.proofs.Reached.{Good, no-bytes, good-step, good-end, good-new}
 
 abbrev pub Live : World → Type 0
 Live w = isClosed (w .state .run .phase) ≡ false
@@ -50,15 +49,15 @@ not-open w l e = clash (sym (may-open w e .closed) ∙ l)
 
 -- ---- it stays open
 
-live-finish : (o : Option ℕ) (v : List ℕ) (r : Run) → endSaid (finishSaid o r v) ≡ false → isClosed (phaseAfter o) ≡ false
-live-finish none v r e = e
+live-finish : (o : Option ℕ) (v : List ℕ) (r : Run) → told (said (finishSaid o r v)) .end ≡ none → isClosed (phaseAfter o) ≡ false
+live-finish none v r e = nothing-there (sym e)
 live-finish (some n) v r e = refl
 
-live-table : (t : TableCall) (w : World) → Live w → Live (done (table t) w .1)
+live-table : (t : TableCall) (w : World) → Live w → Live (done (table t) w .world)
 live-table (stage t) w l = l
 live-table withdraw w l = l
 
-live-done : (c : Call) (w : World) → Live w → refusal c w ≡ none → isEnd (done c w .0) ≡ false → Live (done c w .1)
+live-done : (c : Call) (w : World) → Live w → refusal c w ≡ none → told (done c w .answer) .end ≡ none → Live (done c w .world)
 live-done openRun w l e n = not-open w l e
 live-done (feed piece) w l e n = refl
 live-done finish w l e n =
@@ -67,27 +66,27 @@ live-done finish w l e n =
 live-done (table t) w l e n = live-table t w l
 live-done (look k) w l e n = l
 
-live-by : (c : Call) (w : World) → Live w → {r : Answer × World} → How c w r → isEnd (r .0) ≡ false → Live (r .1)
+live-by : (c : Call) (w : World) → Live w → {r : Step} → How c w r → told (r .answer) .end ≡ none → Live (r .world)
 live-by c w l (isnt k e) n = l
 live-by c w l (is e) n = live-done c w l e n
 
-pub live-step : (c : Call) (w : World) → Live w → isEnd (step c w .0) ≡ false → Live (step c w .1)
+pub live-step : (c : Call) (w : World) → Live w → told (step c w .answer) .end ≡ none → Live (step c w .world)
 live-step c w l n = live-by c w l (how c w) n
 
 pub live-end : (cs : List Call) (w : World) → Live w → NoEnd cs w → Live (end cs w)
 unfolding end NoEnd
 live-end [] w l n = l
-live-end (c ∷ cs) w l n = live-end cs (step c w .1) (live-step c w l (n .0)) (n .1)
+live-end (c ∷ cs) w l n = live-end cs (step c w .world) (live-step c w l (n .0)) (n .1)
 
 -- ---- an Open that answered a version
 
-pub record Opened (w : World) (r : Answer × World) : Type 0 where
+pub record Opened (w : World) (r : Step) : Type 0 where
   pub may : MayOpen w
-  pub is : r .1 ≡ leftForce w (opening (w .state) (w .force) (w .wait)) .1
+  pub is : r .world ≡ leftForce w (opening (w .state) (w .force) (w .wait)) .world
 
-opened-by : (w : World) {r : Answer × World} → How openRun w r → (v : ℕ) → r .0 ≡ said (version v) → Opened w r
-opened-by w (isnt k e) v f = let z : _≡_ {A = ℕ} 0 1 = cc in let x : ⊥ = omega arith in absurd x
-opened-by w (is e) v f = record { may = may-open w e; is = refl }
+opened-by : (w : World) {r : Step} → How openRun w r → IsSome (told (r .answer) .version) → Opened w r
+opened-by w (isnt k e) f = absurd f
+opened-by w (is e) f = record { may = may-open w e; is = refl }
 
 -- what a run within a sequence stands on
 pub record Stand (w : World) (before : List Call) : Type 0 where
@@ -99,10 +98,10 @@ pub record Stand (w : World) (before : List Call) : Type 0 where
 pub stands : (w : World) (before mid : List Call) → Within w before mid → Stand w before
 stands w before mid h =
     let g = good-end before w (h .fedBefore) (good-new w (h .new)) in
-    let o = opened-by (end before w) (how openRun (end before w)) (h .number) (h .answer) in
+    let o = opened-by (end before w) (how openRun (end before w)) (h .opens) in
     record {
       start = g;
       opens = o;
-      good = good-step openRun (end before w) tt g;
+      good = good-step openRun (end before w) no-bytes g;
       live = ap (λ (x : World). isClosed (x .state .run .phase)) (o .is);
     }

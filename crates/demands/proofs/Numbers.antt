@@ -13,33 +13,19 @@ use Rattle.rows.specs.declared.FieldRow.{FieldRow}
 use Rattle.table.specs.Lists.{pick}
 use Rattle.table.specs.Lookup.{carried, findRow}
 use Rattle.table.specs.Rows.{BlockRow, Table}
-use Rattle.record.specs.Answer.{Said, unsigned, signed, single, double, doNotUse, notInRevision, refused}
+use Rattle.record.specs.Answer.{Said, doNotUse, notInRevision, refused}
 use Rattle.value.specs.Bits.{readAs, isDoNotUse, valueOf, fieldValue}
 use Rattle.block.specs.Block.{revisionIn, subCount, bodyFits, subsFit, Seen, refusedBy, row, seenRow, seen, seenSubRow}
 use Rattle.record.specs.Calls.{fieldSaid, fieldOr9, bodyBy, subBytes, subBy, numberBy, stamp}
 use Rattle.reader.specs.Refusals.{need}
 use Rattle.records.specs.Calls.{saidUnless, firstOf}
-use Rattle.demands.specs.Exactly.{Order, Exactly}
-use Rattle.demands.specs.Demand1.{refusalValue}
-use Rattle.demands.specs.Asked.{Says, number}
-use Rattle.demands.proofs.Listed.{nothing-there, pick-there, pick-none}
-
-pub back : (a : Said) (n : ℕ) → refusalValue a ≡ some n → a ≡ refused n
-back (unsigned m) n e = nothing-there e
-back (signed z) n e = nothing-there e
-back (single b) n e = nothing-there e
-back (double b) n e = nothing-there e
-back doNotUse n e = nothing-there e
-back notInRevision n e = nothing-there e
-back (refused m) n e = let q : m ≡ n = cc in ap refused q
-
-pub says : (a : Said) {order : Order} → Exactly (refusalValue a) order → Says refused a order
-says a x =
-    record { gives = λ n e. x .gives n (ap refusalValue e); given = λ n g. back a n (x .given n g) }
+use Rattle.demands.specs.World.{fieldRefusal}
+use Rattle.demands.specs.Refusals.{number}
+use Rattle.demands.proofs.Listed.{pick-there, pick-none}
 
 -- ---- a field's value is no refusal
 
-read-none : (kind x : ℕ) → refusalValue (readAs kind x) ≡ none
+read-none : (kind x : ℕ) → fieldRefusal (readAs kind x) ≡ none
 unfolding readAs
 read-none zero x = refl
 read-none (suc zero) x = refl
@@ -54,26 +40,26 @@ read-none (suc (suc (suc (suc (suc (suc (suc (suc (suc zero))))))))) x = refl
 read-none (suc (suc (suc (suc (suc (suc (suc (suc (suc (suc zero)))))))))) x = refl
 read-none (suc (suc (suc (suc (suc (suc (suc (suc (suc (suc (suc k))))))))))) x = refl
 
-cond-none : (c : Bool) (a b : Said) → refusalValue a ≡ none → refusalValue b ≡ none → refusalValue (cond c a b) ≡ none
+cond-none : (c : Bool) (a b : Said) → fieldRefusal a ≡ none → fieldRefusal b ≡ none → fieldRefusal (cond c a b) ≡ none
 cond-none true a b e f = e
 cond-none false a b e f = f
 
-value-none : (s : List ℕ) (f : FieldRow) → refusalValue (fieldValue s f) ≡ none
+value-none : (s : List ℕ) (f : FieldRow) → fieldRefusal (fieldValue s f) ≡ none
 unfolding fieldValue valueOf
 value-none s f = cond-none (isDoNotUse (f .mark) (f .kind) _) doNotUse (readAs (f .kind) _) refl (read-none (f .kind) _)
 
-field-none : (revision : ℕ) (s : List ℕ) (f : FieldRow) → refusalValue (fieldSaid revision s f) ≡ none
+field-none : (revision : ℕ) (s : List ℕ) (f : FieldRow) → fieldRefusal (fieldSaid revision s f) ≡ none
 unfolding fieldSaid
 field-none revision s f = cond-none (carried revision f) (fieldValue s f) notInRevision (value-none s f) refl
 
 -- ---- 9 of a list of fields
 
 nine-by : (revision : ℕ) (s : List ℕ) (o : Option FieldRow) (fs : List FieldRow) (i : ℕ) → pick fs i ≡ o
-    → refusalValue (fieldOr9 revision s o) ≡ need (ltb i (length fs)) 9 none
+    → fieldRefusal (fieldOr9 revision s o) ≡ need (ltb i (length fs)) 9 none
 nine-by revision s none fs i e = rw (le-ltb i (length fs) (pick-none fs i e))
 nine-by revision s (some f) fs i e = rw (lt-ltb i (length fs) (pick-there fs i e)) (field-none revision s f)
 
-pub nine : (revision : ℕ) (s : List ℕ) (fs : List FieldRow) (i : ℕ) → refusalValue (fieldOr9 revision s (pick fs i)) ≡ need (ltb i (length fs)) 9 none
+pub nine : (revision : ℕ) (s : List ℕ) (fs : List FieldRow) (i : ℕ) → fieldRefusal (fieldOr9 revision s (pick fs i)) ≡ need (ltb i (length fs)) 9 none
 nine revision s fs i = nine-by revision s (pick fs i) fs i refl
 
 -- ---- what was seen of the block, and then what is asked of its row
@@ -82,7 +68,7 @@ abbrev pub thenOf : Seen → (BlockRow → Option ℕ) → Option ℕ
 thenOf (refusedBy n) f = some n
 thenOf (row r) f = f r
 
-pub body-row : (b : List ℕ) (i : ℕ) (x : Seen) → refusalValue (bodyBy b i x) ≡ thenOf x (λ r. need (ltb i (length (r .body))) 9 none)
+pub body-row : (b : List ℕ) (i : ℕ) (x : Seen) → fieldRefusal (bodyBy b i x) ≡ thenOf x (λ r. need (ltb i (length (r .body))) 9 none)
 body-row b i (refusedBy n) = refl
 body-row b i (row r) = nine (revisionIn b) b (r .body) i
 
@@ -91,12 +77,12 @@ two-nines : (c d : Bool) → need c 9 (need d 9 none) ≡ need (c && d) 9 none
 two-nines true d = refl
 two-nines false d = refl
 
-sub-by : (c : Bool) (b : List ℕ) (k j : ℕ) (r : BlockRow) → refusalValue (subBy b k j (cond c (row r) (refusedBy 9))) ≡ need (c && ltb j (length (r .subs))) 9 none
+sub-by : (c : Bool) (b : List ℕ) (k j : ℕ) (r : BlockRow) → fieldRefusal (subBy b k j (cond c (row r) (refusedBy 9))) ≡ need (c && ltb j (length (r .subs))) 9 none
 sub-by true b k j r = nine (revisionIn b) (subBytes b k) (r .subs) j
 sub-by false b k j r = refl
 
 pub sub-row : (b : List ℕ) (k j : ℕ) (x : Seen)
-    → refusalValue (subBy b k j (seenSubRow b k x)) ≡ thenOf x (λ r. need (ltb k (subCount b r) && ltb j (length (r .subs))) 9 none)
+    → fieldRefusal (subBy b k j (seenSubRow b k x)) ≡ thenOf x (λ r. need (ltb k (subCount b r) && ltb j (length (r .subs))) 9 none)
 unfolding seenSubRow
 sub-row b k j (refusedBy n) = refl
 sub-row b k j (row r) = sub-by (ltb k (subCount b r)) b k j r
@@ -129,10 +115,10 @@ pub row-need : (b : List ℕ) (r : BlockRow) (f : BlockRow → Option ℕ) → t
 unfolding seenRow
 row-need b r f = then-cond (bodyFits b r) _ 7 f ∙ ap (need (bodyFits b r) 7) (then-cond (subsFit b r) (row r) 8 f)
 
-pub stamp-need : (f : FieldRow) (b : List ℕ) → refusalValue (stamp f b) ≡ need (wholeFrame b) 10 (need (leb 14 (length b)) 7 none)
+pub stamp-need : (f : FieldRow) (b : List ℕ) → fieldRefusal (stamp f b) ≡ need (wholeFrame b) 10 (need (leb 14 (length b)) 7 none)
 unfolding stamp
 stamp-need f b = by (wholeFrame b) (leb 14 (length b)) where
-  by : (c d : Bool) → refusalValue (cond c (cond d (fieldValue b f) (refused 7)) (refused 10)) ≡ need c 10 (need d 7 none)
+  by : (c d : Bool) → fieldRefusal (cond c (cond d (fieldValue b f) (refused 7)) (refused 10)) ≡ need c 10 (need d 7 none)
   by true true = value-none b f
   by true false = refl
   by false d = refl
@@ -142,6 +128,6 @@ pub first-need : (c : Bool) (n : ℕ) (o rest : Option ℕ) → firstOf (need c 
 first-need true n o rest = refl
 first-need false n o rest = refl
 
-pub number-unless : (o : Option ℕ) (a : Said) → refusalValue (saidUnless o a) ≡ firstOf o (refusalValue a)
+pub number-unless : (o : Option ℕ) (a : Said) → fieldRefusal (saidUnless o a) ≡ firstOf o (fieldRefusal a)
 number-unless none a = refl
 number-unless (some n) a = refl

@@ -16,10 +16,9 @@ use Rattle.feed.specs.Hold.{restOf, holdOf}
 use Rattle.reader.specs.State.{limit, sound}
 use Rattle.runs.specs.Calls.{feedingOf, finishingOf}
 use Rattle.reader.specs.declared.State.{State}
-use Rattle.demands.specs.Sound.{Sound, Bytes}
-use Rattle.demands.specs.World.{World, TableCall, stage, withdraw, Call, openRun, feed, finish, table, look, Answer, step, end}
-use Rattle.demands.specs.Sequence.{New, Fed, AllFed}
-use Rattle.demands.proofs.Soundness.{sound-kept, rest-bytes}
+use Rattle.demands.specs.World.{World, TableCall, stage, withdraw, Call, openRun, feed, finish, table, look, Step, step, end}
+use Rattle.demands.specs.Sequence.{Bytes, New, pieceOf, AllFed}
+use Rattle.demands.proofs.Soundness.{Sound, sound-kept, rest-bytes}
 use Rattle.demands.proofs.Steps.{How, isnt, is, how, done}
 
 pub record Held (s : State) (hold : List ℕ) : Type 0 where
@@ -33,6 +32,10 @@ pub record Good (w : World) : Type 0 where
 
 pub good-sound : (w : World) → Good w → sound (w .state) ≡ true
 good-sound w g = sound-kept .passes (w .state) (g .reported) (g .sound)
+
+-- a call that is not Feed is given no bytes
+pub no-bytes : Bytes []
+no-bytes i = omega arith
 
 -- ---- the hold
 
@@ -58,11 +61,11 @@ end-clean s hold b =
     let rest = restOf hold (s .run .held) (s .run .standing) in
     subst⁻¹ Bytes (settle-rest judgedLast rest .is) (drop-bytes rest (length (settle judgedLast rest .passed)) (rest-bytes hold (s .run .held) (s .run .standing) b))
 
-table-held : (t : TableCall) (w : World) → Held (w .state) (w .hold) → Held (done (table t) w .1 .state) (done (table t) w .1 .hold)
+table-held : (t : TableCall) (w : World) → Held (w .state) (w .hold) → Held (done (table t) w .world .state) (done (table t) w .world .hold)
 table-held (stage t) w h = record { there = h .there; clean = h .clean }
 table-held withdraw w h = record { there = h .there; clean = h .clean }
 
-held-done : (c : Call) (w : World) → Fed c → Held (w .state) (w .hold) → Held (done c w .1 .state) (done c w .1 .hold)
+held-done : (c : Call) (w : World) → Bytes (pieceOf c) → Held (w .state) (w .hold) → Held (done c w .world .state) (done c w .world .hold)
 held-done openRun w b h = record { there = omega arith; clean = h .clean }
 held-done (feed piece) w b h =
     record {
@@ -77,13 +80,13 @@ held-done finish w b h =
 held-done (table t) w b h = table-held t w h
 held-done (look l) w b h = h
 
-held-by : (c : Call) (w : World) → Fed c → Held (w .state) (w .hold) → {r : Answer × World} → How c w r → Held (r .1 .state) (r .1 .hold)
+held-by : (c : Call) (w : World) → Bytes (pieceOf c) → Held (w .state) (w .hold) → {r : Step} → How c w r → Held (r .world .state) (r .world .hold)
 held-by c w b h (isnt n e) = h
 held-by c w b h (is e) = held-done c w b h
 
 -- ---- the state
 
-sound-step : (c : Call) (w : World) → Fed c → Good w → (k : ℕ) × Sound (step c w .1 .state) k
+sound-step : (c : Call) (w : World) → Bytes (pieceOf c) → Good w → (k : ℕ) × Sound (step c w .world .state) k
 unfolding step
 sound-step openRun w b g = (_, sound-kept .opens (w .state) (g .reported) (w .force) (w .wait) (g .sound))
 sound-step (feed piece) w b g = (_, sound-kept .feeds (w .state) (g .reported) (w .hold) piece (g .held .clean) b (g .sound))
@@ -94,7 +97,7 @@ sound-step (look l) w b g = (g .reported, g .sound)
 
 -- ---- every call keeps it
 
-pub good-step : (c : Call) (w : World) → Fed c → Good w → Good (step c w .1)
+pub good-step : (c : Call) (w : World) → Bytes (pieceOf c) → Good w → Good (step c w .world)
 good-step c w b g =
     let s = sound-step c w b g in
     record { reported = s .0; sound = s .1; held = held-by c w b (g .held) (how c w) }
@@ -102,7 +105,7 @@ good-step c w b g =
 pub good-end : (cs : List Call) (w : World) → AllFed cs → Good w → Good (end cs w)
 unfolding end AllFed
 good-end [] w b g = g
-good-end (c ∷ cs) w b g = good-end cs (step c w .1) (b .1) (good-step c w (b .0) g)
+good-end (c ∷ cs) w b g = good-end cs (step c w .world) (b .1) (good-step c w (b .0) g)
 
 pub good-new : (w : World) → New w → Good w
 good-new w n =

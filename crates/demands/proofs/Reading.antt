@@ -1,31 +1,32 @@
 -- What a run reports is the reading of the bytes that it took, whatever its calls.
 -- Assumes nothing.
-use Prim.Native.Nat.{ℕ, _+_, _-_}
+use Prim.Native.Nat.{ℕ, zero, suc, _+_, _-_}
 use mathlib.Core.Path.{_≡_, refl, sym, ap, ap₂, _∙_, subst, subst⁻¹}
 use mathlib.Core.Bool.{true, _&&_}
 use mathlib.Core.List.{List, [], _∷_, _++_, append-nil, append-assoc}
-use mathlib.Core.Option.{Option, none, some}
-use lib.ListN.{length, drop, length-append}
+use mathlib.Core.Option.{Option, none, some, Option·getD, IsSome}
+use lib.ListN.{length, take, drop, length-append}
 use Rattle.frame.specs.Judge.{judgedLast}
 use Rattle.scan.specs.Settle.{settle}
 use Rattle.scan.specs.Feed.{Feeding, stop, size}
 use Rattle.framing.specs.ReadRun.{Block, Reading, readRun}
 use Rattle.framing.proofs.Reading.{both, read-end, last-empty}
 use Rattle.reader.specs.State.{sound}
-use Rattle.reader.specs.Said.{Report, ended, refused}
+use Rattle.reader.specs.Said.{Report, ended}
 use Rattle.reader.specs.Refusals.{longHold}
 use Rattle.runs.specs.Refusals.{feedRefusal, finishRefusal}
 use Rattle.runs.specs.Calls.{front, runOn, feedingOf, finishingOf, finishSaid, phaseAfter}
 use Rattle.tables.specs.Calls.{opening}
 use Rattle.reader.specs.declared.Phase.the-variants as phase
 use Rattle.reader.specs.declared.Phase.{Phase}
+use Rattle.reader.specs.declared.Counts.{Counts}
 use Rattle.reader.proofs.Laws.{passes, with-hold}
 use Rattle.feed.specs.Hold.{restOf}
-use Rattle.demands.specs.World.{World, TableCall, stage, withdraw, Look, bytes, body, sub, subBytes, tow, wnc, Call, openRun, feed, finish, table, look, Answer, said, leftForce, looked, step, end}
-use Rattle.demands.specs.Sequence.{Fed, AllFed, endSaid, isEnd, NoEnd, Within, opened, tookOf, reportIn, inHold, shown, taken, blocks, shownBlocks}
-use Rattle.demands.specs.Demand2.{MayFollow, FirstOnes}
-use Rattle.demands.specs.Demand3.{countsOf, BlocksOfTheWhole, HoweverCut}
-use Rattle.demands.proofs.Steps.{How, isnt, is, how, refusal, done, tableDone, clash}
+use Rattle.demands.specs.World.{World, TableCall, stage, withdraw, Look, bytes, body, sub, subBytes, tow, wnc, Call, openRun, feed, finish, table, look, Answer, said, told, Step, looked, step, end}
+use Rattle.demands.specs.Sequence.{Bytes, pieceOf, AllFed, NoEnd, Within, Closes, opened, tookOf, inHold, shown, taken, blocks, shownBlocks}
+use Rattle.demands.specs.Demand2.{MayFollow, ReadSoFar}
+use Rattle.demands.specs.Demand3.{countsOf, RunOf}
+use Rattle.demands.proofs.Steps.{How, isnt, is, how, refusal, leftForce, done, tableDone}
 use Rattle.demands.proofs.Reached.{Good, good-step, good-end}
 use Rattle.demands.proofs.Live.{Live, not-open, live-step, stands}
 use Rattle.demands.proofs.Going.{kept, place, going, kept-after, Fits, finish-report, shown-is}
@@ -43,7 +44,7 @@ table-reads (stage t) w {ts} {b} r =
 table-reads withdraw w {ts} {b} r =
     nil {ts = ts} {b = b} (record { count = r .count; sum = r .sum; places = r .places; skips = r .skips; rest = r .rest; so = r .so })
 
-look-reads : (l : Look) (w : World) {ts : List ℕ} {b : List Block} → Reads ts b w → Next (look l) ts b (looked l w, w)
+look-reads : (l : Look) (w : World) {ts : List ℕ} {b : List Block} → Reads ts b w → Next (look l) ts b (record { answer = looked l w; world = w })
 look-reads bytes w r = nil r
 look-reads (body x i) w r = nil r
 look-reads (sub x k j) w r = nil r
@@ -51,22 +52,22 @@ look-reads (subBytes x k) w r = nil r
 look-reads (tow x) w r = nil r
 look-reads (wnc x) w r = nil r
 
+-- Finish is given no piece
+no-piece : (n : ℕ) → take {A = ℕ} n [] ≡ []
+no-piece zero = refl
+no-piece (suc n) = refl
+
 reads-done : (c : Call) (w : World) {ts : List ℕ} {b : List Block} → Good w → Live w → refusal c w ≡ none → Reads ts b w → Next c ts b (done c w)
 reads-done openRun w g l e r = not-open w l e
 reads-done (feed piece) w g l e r = reads-feed w piece g e r
-reads-done finish w g l e r = reads-finish w g e r
+reads-done finish w {ts} {b} g l e r =
+    subst⁻¹ (λ (x : List ℕ). Reads (ts ++ x) (b ++ inHold (told (done finish w .answer) .block) (done finish w .world)) (done finish w .world))
+    (no-piece (Option·getD (told (done finish w .answer) .taken) 0)) (reads-finish w g e r)
 reads-done (table t) w g l e r = table-reads t w r
 reads-done (look k) w g l e r = look-reads k w r
 
-refused-nil : (c : Call) (n : ℕ) → tookOf c (said (refused n)) ≡ []
-refused-nil openRun n = refl
-refused-nil (feed piece) n = refl
-refused-nil finish n = refl
-refused-nil (table t) n = refl
-refused-nil (look l) n = refl
-
-pub reads-by : (c : Call) (w : World) {ts : List ℕ} {b : List Block} → Good w → Live w → Reads ts b w → {x : Answer × World} → How c w x → Next c ts b x
-reads-by c w {ts} {b} g l r (isnt n e) = subst⁻¹ (λ (x : List ℕ). Reads (ts ++ x) (b ++ []) w) (refused-nil c n) (nil r)
+pub reads-by : (c : Call) (w : World) {ts : List ℕ} {b : List Block} → Good w → Live w → Reads ts b w → {x : Step} → How c w x → Next c ts b x
+reads-by c w g l r (isnt n e) = nil r
 reads-by c w g l r (is e) = reads-done c w g l e r
 
 pub reads-end : (cs : List Call) (w : World) {ts : List ℕ} {b : List Block} → AllFed cs → Good w → Live w → NoEnd cs w → Reads ts b w
@@ -74,14 +75,14 @@ pub reads-end : (cs : List Call) (w : World) {ts : List ℕ} {b : List Block} �
 unfolding end AllFed NoEnd taken blocks
 reads-end [] w f g l n r = nil r
 reads-end (c ∷ cs) w {ts} {b} f g l n r =
-    let bk = inHold (reportIn (step c w .0)) (step c w .1) in
-    let k = reads-end cs (step c w .1) (f .1) (good-step c w (f .0) g) (live-step c w l (n .0)) (n .1) (reads-by c w g l r (how c w)) in
-    subst (λ (x : List ℕ). Reads x (b ++ (bk ++ blocks cs (step c w .1))) (end cs (step c w .1))) (append-assoc ts (tookOf c (step c w .0)) (taken cs (step c w .1)))
-    (subst (λ (x : List Block). Reads (ts ++ tookOf c (step c w .0) ++ taken cs (step c w .1)) x (end cs (step c w .1))) (append-assoc b bk (blocks cs (step c w .1))) k)
+    let bk = inHold (told (step c w .answer) .block) (step c w .world) in
+    let k = reads-end cs (step c w .world) (f .1) (good-step c w (f .0) g) (live-step c w l (n .0)) (n .1) (reads-by c w g l r (how c w)) in
+    subst (λ (x : List ℕ). Reads x (b ++ (bk ++ blocks cs (step c w .world))) (end cs (step c w .world))) (append-assoc ts (tookOf c (step c w .answer)) (taken cs (step c w .world)))
+    (subst (λ (x : List Block). Reads (ts ++ tookOf c (step c w .answer) ++ taken cs (step c w .world)) x (end cs (step c w .world))) (append-assoc b bk (blocks cs (step c w .world))) k)
 
 -- ---- from the run's start to a moment of it
 
-reads-open : (w : World) → Reads [] [] (leftForce w (opening (w .state) (w .force) (w .wait)) .1)
+reads-open : (w : World) → Reads [] [] (leftForce w (opening (w .state) (w .force) (w .wait)) .world)
 unfolding restOf
 reads-open w = record { count = refl; sum = refl; places = []; skips = refl; rest = refl; so = λ zs y. refl }
 
@@ -90,7 +91,7 @@ reads-within w before mid h =
     let s = stands w before mid h in
     reads-end mid (opened w before) (h .fed) (s .good) (s .live) (h .noEnd) (subst⁻¹ (Reads [] []) (s .opens .is) (reads-open (end before w)))
 
-pub first-ones : FirstOnes
+pub first-ones : (w : World) (before mid : List Call) → Within w before mid → ReadSoFar (opened w before) mid
 first-ones w before mid h =
     let r = reads-within w before mid h in
     let u = end mid (opened w before) in
@@ -112,7 +113,10 @@ un-nil {ts} {b} {w} r = subst (λ (x : List ℕ). Reads x b w) (append-nil ts) (
 
 record Whole (ts : List ℕ) (b : List Block) (a : Answer) : Type 0 where
   pub all : b ≡ readRun 0 ts .blocks
-  pub counts : a ≡ said (ended (countsOf ts))
+  pub counts : told a .end ≡ some (countsOf ts)
+
+abbrev counting : ℕ → ℕ → ℕ → Counts
+counting t b s = record { taken = t; blocks = b; skipped = s }
 
 -- a closed run holds nothing, so all is read
 closed-reads : (w : World) {ts : List ℕ} {b : List Block} → w .state .run .phase ≡ phase.Closed → kept w ≡ [] → Reads ts b w
@@ -126,52 +130,52 @@ closed-reads w {ts} {b} c k r =
     let all : b ≡ readRun 0 ts .blocks = ap (λ (x : Reading). x .blocks) (sym so) in
     record {
       all = all;
-      counts = ap₂ (λ (i j : ℕ). said (ended (record { taken = i; blocks = j; skipped = w .state .run .counts .skipped }))) (r .count) (r .sum ∙ ap length all)
-          ∙ ap (λ (i : ℕ). said (ended (record { taken = length ts; blocks = length (readRun 0 ts .blocks); skipped = i })))
+      counts = ap₂ (λ (i j : ℕ). some (counting i j (w .state .run .counts .skipped))) (r .count) (r .sum ∙ ap length all)
+          ∙ ap (λ (i : ℕ). some (counting (length ts) (length (readRun 0 ts .blocks)) i))
           (r .skips ∙ ap (λ (x : Reading). length (x .skipped)) (sym so));
     }
 
 ended-reads : (w : World) {ts : List ℕ} {b : List Block} (o : Option ℕ) (f : Feeding) → f .standing ≡ o → Good w → Fits w f → (o ≡ none → f .held ≡ [])
-    → endSaid (finishSaid o (runOn (phaseAfter o) (w .state .run) f) (f .held)) ≡ true
-    → Reads (ts ++ []) (b ++ inHold (reportIn (said (finishSaid o (runOn (phaseAfter o) (w .state .run) f) (f .held)))) (going (phaseAfter o) w f)) (going (phaseAfter o) w f)
+    → IsSome (told (said (finishSaid o (runOn (phaseAfter o) (w .state .run) f) (f .held))) .end)
+    → Reads (ts ++ []) (b ++ inHold (told (said (finishSaid o (runOn (phaseAfter o) (w .state .run) f) (f .held))) .block) (going (phaseAfter o) w f)) (going (phaseAfter o) w f)
     → Whole ts b (said (finishSaid o (runOn (phaseAfter o) (w .state .run) f) (f .held)))
 ended-reads w none f q g h d e r =
     closed-reads (going phase.Closed w f) refl (kept-after phase.Closed w f g h ∙ ap (λ (o : Option ℕ). drop (size o) (f .held)) q ∙ d refl) (un-nil r)
-ended-reads w (some n) f q g h d e r = clash (sym e)
+ended-reads w (some n) f q g h d e r = absurd e
 
-whole-by : (w : World) {ts : List ℕ} {b : List Block} → Good w → Reads ts b w → {x : Answer × World} → How finish w x → isEnd (x .0) ≡ true → Whole ts b (x .0)
+whole-by : (w : World) {ts : List ℕ} {b : List Block} → Good w → Reads ts b w → {x : Step} → How finish w x → IsSome (told (x .answer) .end) → Whole ts b (x .answer)
 unfolding finishingOf
-whole-by w g r (isnt k e) n = clash (sym n)
+whole-by w g r (isnt k e) n = absurd n
 whole-by w g r (is e) n =
     let f = stop (settle judgedLast (kept w)) in
     ended-reads w (settle judgedLast (kept w) .standing) f refl g (finish-fits w g) (last-empty (kept w)) n (reads-finish w g e r)
 
 -- ---- what Bytes shows of each block is what stands in the hold
 
-shown-feed : (w : World) (piece : List ℕ) → Fed (feed piece) → Good w → refusal (feed piece) w ≡ none → Good (done (feed piece) w .1)
-    → shown (reportIn (done (feed piece) w .0)) (done (feed piece) w .1) ≡ inHold (reportIn (done (feed piece) w .0)) (done (feed piece) w .1)
+shown-feed : (w : World) (piece : List ℕ) → Bytes piece → Good w → refusal (feed piece) w ≡ none → Good (done (feed piece) w .world)
+    → shown (told (done (feed piece) w .answer) .block) (done (feed piece) w .world) ≡ inHold (told (done (feed piece) w .answer) .block) (done (feed piece) w .world)
 unfolding feedRefusal
 shown-feed w piece b g e k =
     let f = feedingOf (w .state) (w .hold) piece in
     shown-is phase.Feeding w f k (with-hold (w .state) (w .hold) (passes (sound (w .state) && longHold (w .hold)) 1 _ e .0) .1)
     (front (runOn phase.Feeding (w .state .run) f))
 
-shown-finish : (w : World) → Good w → refusal finish w ≡ none → Good (done finish w .1)
-    → shown (reportIn (done finish w .0)) (done finish w .1) ≡ inHold (reportIn (done finish w .0)) (done finish w .1)
+shown-finish : (w : World) → Good w → refusal finish w ≡ none → Good (done finish w .world)
+    → shown (told (done finish w .answer) .block) (done finish w .world) ≡ inHold (told (done finish w .answer) .block) (done finish w .world)
 unfolding finishRefusal
 shown-finish w g e k =
     let f = finishingOf (w .state) (w .hold) in
     let x = phaseAfter (finishingOf (w .state) (w .hold) .standing) in
     let q = finish-report (f .standing) (runOn x (w .state .run) f) (f .held) in
-    ap (λ (i : Option Report). shown i (done finish w .1)) q
+    ap (λ (i : Option Report). shown i (done finish w .world)) q
     ∙ shown-is x w f k (with-hold (w .state) (w .hold) (passes (sound (w .state) && longHold (w .hold)) 1 _ e .0) .1) (front (runOn x (w .state .run) f))
-    ∙ ap (λ (i : Option Report). inHold i (done finish w .1)) (sym q)
+    ∙ ap (λ (i : Option Report). inHold i (done finish w .world)) (sym q)
 
-shown-table : (t : TableCall) (w : World) → shown (reportIn (tableDone t w .0)) (tableDone t w .1) ≡ inHold (reportIn (tableDone t w .0)) (tableDone t w .1)
+shown-table : (t : TableCall) (w : World) → shown (told (tableDone t w .answer) .block) (tableDone t w .world) ≡ inHold (told (tableDone t w .answer) .block) (tableDone t w .world)
 shown-table (stage t) w = refl
 shown-table withdraw w = refl
 
-shown-look : (l : Look) (w : World) → shown (reportIn (looked l w)) w ≡ inHold (reportIn (looked l w)) w
+shown-look : (l : Look) (w : World) → shown (told (looked l w) .block) w ≡ inHold (told (looked l w) .block) w
 shown-look bytes w = refl
 shown-look (body x i) w = refl
 shown-look (sub x k j) w = refl
@@ -179,15 +183,15 @@ shown-look (subBytes x k) w = refl
 shown-look (tow x) w = refl
 shown-look (wnc x) w = refl
 
-shown-done : (c : Call) (w : World) → Fed c → Good w → refusal c w ≡ none → Good (done c w .1)
-    → shown (reportIn (done c w .0)) (done c w .1) ≡ inHold (reportIn (done c w .0)) (done c w .1)
+shown-done : (c : Call) (w : World) → Bytes (pieceOf c) → Good w → refusal c w ≡ none → Good (done c w .world)
+    → shown (told (done c w .answer) .block) (done c w .world) ≡ inHold (told (done c w .answer) .block) (done c w .world)
 shown-done openRun w b g e k = refl
 shown-done (feed piece) w b g e k = shown-feed w piece b g e k
 shown-done finish w b g e k = shown-finish w g e k
 shown-done (table t) w b g e k = shown-table t w
 shown-done (look l) w b g e k = shown-look l w
 
-shown-by : (c : Call) (w : World) → Fed c → Good w → {x : Answer × World} → How c w x → Good (x .1) → shown (reportIn (x .0)) (x .1) ≡ inHold (reportIn (x .0)) (x .1)
+shown-by : (c : Call) (w : World) → Bytes (pieceOf c) → Good w → {x : Step} → How c w x → Good (x .world) → shown (told (x .answer) .block) (x .world) ≡ inHold (told (x .answer) .block) (x .world)
 shown-by c w b g (isnt n e) k = refl
 shown-by c w b g (is e) k = shown-done c w b g e k
 
@@ -196,23 +200,19 @@ unfolding AllFed shownBlocks blocks
 shown-all [] w b g = refl
 shown-all (c ∷ cs) w b g =
     let k = good-step c w (b .0) g in
-    ap₂ (λ (x y : List Block). x ++ y) (shown-by c w (b .0) g (how c w) k) (shown-all cs (step c w .1) (b .1) k)
+    ap₂ (λ (x y : List Block). x ++ y) (shown-by c w (b .0) g (how c w) k) (shown-all cs (step c w .world) (b .1) k)
 
 -- ---- the theorems
 
-pub of-the-whole : BlocksOfTheWhole
-of-the-whole w before mid h e =
+pub of-the-whole : (run : List ℕ) (w : World) (before mid : List Call) → Within w before mid → Closes w before mid → taken mid (opened w before) ≡ run
+    → RunOf run (opened w before) mid
+of-the-whole run w before mid h e q =
     let s = stands w before mid h in
     let u = end mid (opened w before) in
-    let t = whole-by (end mid (opened w before)) (good-end mid (opened w before) (h .fed) (s .good)) (reads-within w before mid h) (how finish (end mid (opened w before))) e in
-    record { all = t .all; shown = shown-all mid (opened w before) (h .fed) (s .good) ∙ t .all; counts = t .counts }
-
-pub however-cut : HoweverCut
-however-cut w u before mid first other h k e f t =
-    let a = of-the-whole w before mid h e in
-    let b = of-the-whole u first other k f in
+    let t = whole-by u (good-end mid (opened w before) (h .fed) (s .good)) (reads-within w before mid h) (how finish u) e in
+    let all : blocks mid (opened w before) ≡ readRun 0 run .blocks = t .all ∙ ap (λ (x : List ℕ). readRun 0 x .blocks) q in
     record {
-      all = a .all ∙ ap (λ (x : List ℕ). readRun 0 x .blocks) t ∙ sym (b .all);
-      shown = a .shown ∙ ap (λ (x : List ℕ). readRun 0 x .blocks) t ∙ sym (b .shown);
-      counts = a .counts ∙ ap (λ (x : List ℕ). said (ended (countsOf x))) t ∙ sym (b .counts);
+      all = all;
+      shown = shown-all mid (opened w before) (h .fed) (s .good) ∙ all;
+      counts = t .counts ∙ ap (λ (x : List ℕ). some (countsOf x)) q;
     }

@@ -1,71 +1,86 @@
 -- A refused call keeps the world and hands back nothing; reached states are sound.
 -- Assumes nothing.
 use Prim.Native.Nat.{ℕ}
-use mathlib.Core.Path.{_≡_, refl}
+use mathlib.Core.Path.{_≡_, refl, sym, _∙_}
 use mathlib.Core.List.{List, []}
 use mathlib.Core.Option.{Option, none, some}
-use Rattle.runs.specs.Calls.{finishingOf, finishingBy, finishSaid}
-use Rattle.reader.specs.declared.Run.{Run}
-use Rattle.demands.specs.World.{World, TableCall, stage, withdraw, Look, bytes, body, sub, subBytes, tow, wnc, Call, openRun, feed, finish, table, look, Answer, looked}
-use Rattle.demands.specs.Sequence.{partOf}
-use Rattle.demands.specs.Demand1.{refusalSaid, refusalIn, Demand1}
+use Rattle.table.specs.Decode.{decode}
+use Rattle.block.specs.Block.{Seen, refusedBy, row, seenSub}
+use Rattle.record.specs.Calls.{partBy, numberBy, subBlock, subBlockRefusal}
+use Rattle.reader.specs.Outcome.{partUnless}
+use Rattle.runs.specs.Refusals.{bytesRefusal}
+use Rattle.runs.specs.Calls.{bytesOf}
+use Rattle.records.specs.Calls.{tableInForce, askRefusal, firstOf, subBytesOf, subBytesRefusal}
+use Rattle.reader.specs.declared.State.{State}
+use Rattle.demands.specs.World.{World, Look, bytes, body, sub, subBytes, tow, wnc, Call, openRun, feed, finish, table, look, told, partOf, Step, looked}
+use Rattle.demands.specs.Demand1.{Demand1}
 use Rattle.demands.proofs.Listed.{nothing-there}
-use Rattle.demands.proofs.Steps.{How, isnt, is, how, done, tableDone}
-use Rattle.demands.proofs.Told.{told}
+use Rattle.demands.proofs.Steps.{How, isnt, is, how, done}
+use Rattle.demands.proofs.Refusals.{finish-tells-none, table-tells-none, exactly}
 use Rattle.demands.proofs.Never.{never-one}
 use Rattle.demands.proofs.Reached.{good-sound, good-end, good-new}
 
 -- ---- what is done where none is refused is no refusal, but for a look, which changes nothing
 
-finish-no : {X : Type 0} (o : Option ℕ) (v : List ℕ) (r : Run) (n : ℕ) → refusalSaid (finishSaid o r v) ≡ some n → X
-finish-no none v r n e = nothing-there e
-finish-no (some m) v r n e = nothing-there e
+no-refusal : {X : Type 0} {o : Option ℕ} {n : ℕ} → o ≡ none → o ≡ some n → X
+no-refusal d e = nothing-there (sym d ∙ e)
 
-table-keeps : (t : TableCall) (w : World) (n : ℕ) → refusalIn (tableDone t w .0) ≡ some n → tableDone t w .1 ≡ w
-table-keeps (stage t) w n e = nothing-there e
-table-keeps withdraw w n e = nothing-there e
-
-done-keeps : (c : Call) (w : World) (n : ℕ) → refusalIn (done c w .0) ≡ some n → done c w .1 ≡ w
+done-keeps : (c : Call) (w : World) (n : ℕ) → told (done c w .answer) .refusal ≡ some n → done c w .world ≡ w
 done-keeps openRun w n e = nothing-there e
 done-keeps (feed piece) w n e = nothing-there e
-done-keeps finish w n e =
-    let f = finishingOf (w .state) (w .hold) in
-    finish-no (f .standing) (f .held) (finishingBy f (w .state) (w .hold) .state .run) n e
-done-keeps (table t) w n e = table-keeps t w n e
+done-keeps finish w n e = no-refusal (finish-tells-none w) e
+done-keeps (table t) w n e = no-refusal (table-tells-none t w) e
 done-keeps (look l) w n e = refl
 
-keeps-by : (c : Call) (w : World) (n : ℕ) {r : Answer × World} → How c w r → refusalIn (r .0) ≡ some n → r .1 ≡ w
+keeps-by : (c : Call) (w : World) (n : ℕ) {r : Step} → How c w r → told (r .answer) .refusal ≡ some n → r .world ≡ w
 keeps-by c w n (isnt m e) f = refl
 keeps-by c w n (is e) f = done-keeps c w n f
 
 -- ---- a part is empty where its second call gives a number
 
-look-empty : (l : Look) (w : World) (n : ℕ) → refusalIn (looked l w) ≡ some n → partOf (looked l w) ≡ []
-look-empty bytes w n e = told .bytes (w .state) (w .hold) n e
+part-by : (o : Option ℕ) (v : List ℕ) (n : ℕ) → o ≡ some n → partUnless o v ≡ []
+part-by none v n e = nothing-there e
+part-by (some m) v n e = refl
+
+bytes-part : (s : State) (hold : List ℕ) (n : ℕ) → bytesRefusal s hold ≡ some n → bytesOf s hold ≡ []
+unfolding bytesOf
+bytes-part s hold n e = part-by (bytesRefusal s hold) _ n e
+
+seen-part : (b : List ℕ) (k : ℕ) (x : Seen) (n : ℕ) → numberBy x ≡ some n → partBy b k x ≡ []
+seen-part b k (refusedBy m) n e = refl
+seen-part b k (row r) n e = nothing-there e
+
+sub-part-by : (o : Option ℕ) (b : List ℕ) (k : ℕ) (x : Seen) (n : ℕ) → firstOf o (numberBy x) ≡ some n → partUnless o (partBy b k x) ≡ []
+sub-part-by none b k x n e = seen-part b k x n e
+sub-part-by (some m) b k x n e = refl
+
+sub-part : (s : State) (force b : List ℕ) (k n : ℕ) → subBytesRefusal s force b k ≡ some n → subBytesOf s force b k ≡ []
+unfolding subBytesOf subBytesRefusal subBlock subBlockRefusal
+sub-part s force b k n e = sub-part-by (askRefusal s force) b k (seenSub (decode (tableInForce s force)) b k) n e
+
+look-empty : (l : Look) (w : World) (n : ℕ) → told (looked l w) .refusal ≡ some n → partOf (looked l w) ≡ []
+look-empty bytes w n e = bytes-part (w .state) (w .hold) n e
 look-empty (body b i) w n e = refl
 look-empty (sub b k j) w n e = refl
-look-empty (subBytes b k) w n e = told .sub-bytes (w .state) (w .force) b k n e
+look-empty (subBytes b k) w n e = sub-part (w .state) (w .force) b k n e
 look-empty (tow b) w n e = refl
 look-empty (wnc b) w n e = refl
 
-table-empty : (t : TableCall) (w : World) → partOf (tableDone t w .0) ≡ []
-table-empty (stage t) w = refl
-table-empty withdraw w = refl
-
-done-empty : (c : Call) (w : World) (n : ℕ) → refusalIn (done c w .0) ≡ some n → partOf (done c w .0) ≡ []
+done-empty : (c : Call) (w : World) (n : ℕ) → told (done c w .answer) .refusal ≡ some n → partOf (done c w .answer) ≡ []
 done-empty openRun w n e = refl
 done-empty (feed piece) w n e = refl
-done-empty finish w n e = refl
-done-empty (table t) w n e = table-empty t w
+done-empty finish w n e = no-refusal (finish-tells-none w) e
+done-empty (table t) w n e = no-refusal (table-tells-none t w) e
 done-empty (look l) w n e = look-empty l w n e
 
-empty-by : (c : Call) (w : World) (n : ℕ) {r : Answer × World} → How c w r → refusalIn (r .0) ≡ some n → partOf (r .0) ≡ []
+empty-by : (c : Call) (w : World) (n : ℕ) {r : Step} → How c w r → told (r .answer) .refusal ≡ some n → partOf (r .answer) ≡ []
 empty-by c w n (isnt m e) f = refl
 empty-by c w n (is e) f = done-empty c w n f
 
 pub demand-1 : Demand1
 demand-1 =
     record {
+      refused = exactly;
       keeps = λ c w n e. keeps-by c w n (how c w) e;
       empty = λ c w n e. empty-by c w n (how c w) e;
       sound = λ w before n b. good-sound _ (good-end before w b (good-new w n));

@@ -1,4 +1,4 @@
--- The invariant of states is kept by every call.
+-- An invariant of states, which every call keeps: it has what refusal 1 asks of a state.
 -- Assumes nothing.
 use Prim.Native.Nat.{ℕ, _+_, _-_, _≤_}
 use native.Mathlib.Omega.{arith}
@@ -20,11 +20,11 @@ use Rattle.scan.proofs.Calls.{call, settle-sum}
 use Rattle.feed.specs.Hold.{restOf}
 use Rattle.feed.proofs.Literally.{rest-length}
 use Rattle.table.proofs.Passed as table
-use Rattle.reader.specs.State.{limit, sound}
+use Rattle.reader.specs.State.{limit, newState, sound}
 use Rattle.tables.specs.Calls.{openRefusal, stageRefusal, withdrawRefusal, opening, openOf, staging, stageOf, withdrawing, withdrawOf}
 use Rattle.runs.specs.Refusals.{feedRefusal, finishRefusal}
 use Rattle.reader.specs.Refusals as refusals
-use Rattle.reader.specs.Said.{took}
+use Rattle.reader.specs.Said.{Report, Said, took}
 use Rattle.reader.specs.Outcome.{Outcome, unless}
 use Rattle.reader.specs.Counting.{one, withRun}
 use Rattle.runs.specs.Calls.{reportIf, front, finishSaid, phaseAfter, runOn, feedingBy, feedingOf, feedOf, finishingBy, finishingOf, finishOf}
@@ -35,7 +35,47 @@ use Rattle.reader.specs.declared.State.{State}
 use Rattle.reader.proofs.Laws.{passes, with-hold}
 use Rattle.tables.proofs.Accepted.{stage-passed}
 use Rattle.runs.proofs.Feeding.{WholeIf, fed-whole, end-whole}
-use Rattle.demands.specs.Sound.{Sound, Bytes, sizeIn, sinceOpen, SoundKept}
+use Rattle.demands.specs.World.{said, told}
+use Rattle.demands.specs.Sequence.{Bytes}
+
+-- `reported` is the number of bytes in the blocks reported since Open, the standing one among them: these, the skipped ones and those held
+-- behind the standing block are the bytes taken
+pub record Sound (s : State) (reported : ℕ) : Type 0 where
+  pub few : s .run .held ≤ 65532
+  pub front : s .run .standing ≤ s .run .held
+  pub among : s .run .standing ≤ reported
+  pub count : s .run .counts .blocks ≤ reported
+  pub sum : reported + s .run .counts .skipped + (s .run .held - s .run .standing) ≡ s .run .counts .taken
+  pub most : s .run .counts .taken ≤ limit
+  pub force : s .«in_force» ≤ 8192
+  pub wait : s .waiting ≤ 8192
+
+-- the bytes of the block that an answer reports
+abbrev pub reportBytes : Option Report → ℕ
+reportBytes none = 0
+reportBytes (some r) = r .size
+
+abbrev pub sizeIn : Said → ℕ
+sizeIn a = reportBytes (told (said a) .block)
+
+-- a run that opens has reported none
+abbrev pub noneIf : Option ℕ → ℕ → ℕ
+noneIf none b = b
+noneIf (some v) b = 0
+
+abbrev pub sinceOpen : Said → ℕ → ℕ
+sinceOpen a b = noneIf (told (said a) .version) b
+
+pub record SoundKept : Type 0 where
+  pub new : Sound newState 0
+  pub opens : (s : State) (b : ℕ) (force wait : List ℕ) → Sound s b → Sound (openOf s force wait .state) (sinceOpen (openOf s force wait .said) b)
+  pub feeds : (s : State) (b : ℕ) (hold piece : List ℕ) → Bytes hold → Bytes piece → Sound s b
+      → Sound (feedOf s hold piece .state) (b + sizeIn (feedOf s hold piece .said))
+  pub finishes : (s : State) (b : ℕ) (hold : List ℕ) → Sound s b → Sound (finishOf s hold .state) (b + sizeIn (finishOf s hold .said))
+  pub stages : (s : State) (b : ℕ) (wait t : List ℕ) → Sound s b → Sound (stageOf s wait t .state) b
+  pub withdraws : (s : State) (b : ℕ) → Sound s b → Sound (withdrawOf s .state) b
+  -- a sound state is none that refusal 1 names
+  pub passes : (s : State) (b : ℕ) → Sound s b → sound s ≡ true
 
 -- a refused call keeps the state, and reports nothing; else what is done has to
 kept : (o : Option ℕ) (s : State) (b : ℕ) (l : List ℕ) (d : Outcome) → Sound s b → (o ≡ none → Sound (d .state) (b + sizeIn (d .said)))

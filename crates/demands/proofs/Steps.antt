@@ -9,9 +9,9 @@ use Rattle.frame.proofs.Tests.{never}
 use Rattle.reader.specs.Said.{refused}
 use Rattle.tables.specs.Calls.{openRefusal, stageRefusal, withdrawRefusal, opening, openOf, staging, stageOf, withdrawing, withdrawOf}
 use Rattle.runs.specs.Refusals.{feedRefusal, finishRefusal}
-use Rattle.reader.specs.Outcome.{unless}
+use Rattle.reader.specs.Outcome.{Outcome, unless}
 use Rattle.runs.specs.Calls.{feedingBy, feedingOf, feedOf, finishingBy, finishingOf, finishOf}
-use Rattle.demands.specs.World.{World, TableCall, stage, withdraw, Call, openRun, feed, finish, table, look, Answer, said, leftForce, leftHold, leftWait, leftNone, looked, step}
+use Rattle.demands.specs.World.{World, TableCall, stage, withdraw, Call, openRun, feed, finish, table, look, said, Step, leaving, looked, step}
 
 abbrev pub tableRefusals : TableCall → World → Option ℕ
 tableRefusals (stage t) w = stageRefusal (w .state) (w .wait) t
@@ -25,20 +25,36 @@ refusal finish w = finishRefusal (w .state) (w .hold)
 refusal (table t) w = tableRefusals t w
 refusal (look l) w = none
 
-abbrev pub tableDone : TableCall → World → Answer × World
+-- what a call leaves that may write one buffer, or none
+abbrev pub leftForce : World → Outcome → Step
+leftForce w o = leaving o (w .hold) (o .lent) (w .wait)
+
+abbrev pub leftHold : World → Outcome → Step
+leftHold w o = leaving o (o .lent) (w .force) (w .wait)
+
+abbrev pub leftWait : World → Outcome → Step
+leftWait w o = leaving o (w .hold) (w .force) (o .lent)
+
+abbrev pub leftNone : World → Outcome → Step
+leftNone w o = leaving o (w .hold) (w .force) (w .wait)
+
+abbrev pub tableDone : TableCall → World → Step
 tableDone (stage t) w = leftWait w (staging (w .state) (w .wait) t)
 tableDone withdraw w = leftNone w (withdrawing (w .state))
 
 -- what it does where none is due
-abbrev pub done : Call → World → Answer × World
+abbrev pub done : Call → World → Step
 done openRun w = leftForce w (opening (w .state) (w .force) (w .wait))
 done (feed piece) w = leftHold w (feedingBy (feedingOf (w .state) (w .hold) piece) (w .state) (w .hold))
 done finish w = leftHold w (finishingBy (finishingOf (w .state) (w .hold)) (w .state) (w .hold))
 done (table t) w = tableDone t w
-done (look l) w = (looked l w, w)
+done (look l) w = record { answer = looked l w; world = w }
 
-abbrev pub unlessRefused : Option ℕ → Call → World → Answer × World
-unlessRefused (some n) c w = (said (refused n), w)
+abbrev pub refusing : ℕ → World → Step
+refusing n w = record { answer = said (refused n); world = w }
+
+abbrev pub unlessRefused : Option ℕ → Call → World → Step
+unlessRefused (some n) c w = refusing n w
 unlessRefused none c w = done c w
 
 open-by : (o : Option ℕ) (w : World) → leftForce w (unless o (w .state) (w .force) (opening (w .state) (w .force) (w .wait))) ≡ unlessRefused o openRun w
@@ -72,8 +88,8 @@ by-refusal (table (stage t)) w = stage-by (stageRefusal (w .state) (w .wait) t) 
 by-refusal (table withdraw) w = withdraw-by (withdrawRefusal (w .state)) _ w
 by-refusal (look l) w = refl
 
-pub data How (c : Call) (w : World) : Answer × World → Type 0 where
-  isnt : (n : ℕ) → refusal c w ≡ some n → How c w (said (refused n), w)
+pub data How (c : Call) (w : World) : Step → Type 0 where
+  isnt : (n : ℕ) → refusal c w ≡ some n → How c w (refusing n w)
   is : refusal c w ≡ none → How c w (done c w)
 
 how-by : (o : Option ℕ) (c : Call) (w : World) → refusal c w ≡ o → How c w (unlessRefused o c w)

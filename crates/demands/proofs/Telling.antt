@@ -16,7 +16,7 @@ use Rattle.table.specs.Decode.{decode}
 use Rattle.table.specs.Rules.{tableOk}
 use Rattle.table.proofs.Passed as passed
 use Rattle.reader.specs.State.{sound}
-use Rattle.reader.specs.Said.{refused, version, waited}
+use Rattle.reader.specs.Said.{refused}
 use Rattle.runs.specs.Refusals.{isFeeding, feedRefusal, bytesRefusal}
 use Rattle.reader.specs.Refusals.{longHold}
 use Rattle.tables.specs.Calls.{nextTable, openRefusal}
@@ -28,10 +28,9 @@ use Rattle.reader.specs.declared.Run.{Run}
 use Rattle.reader.specs.declared.State.{State}
 use Rattle.reader.proofs.Laws.{passes}
 use Rattle.tables.proofs.Accepted.{stage-passed}
-use Rattle.demands.specs.World.{World, TableCall, stage, withdraw, Look, bytes, Call, openRun, feed, finish, table, look, Answer, said, part, step, end}
+use Rattle.demands.specs.World.{World, TableCall, stage, withdraw, bytes, Call, openRun, feed, finish, table, look, said, part, told, Step, step, end}
 use Rattle.demands.specs.Sequence.{New}
-use Rattle.demands.specs.Demand3.{LooksBy}
-use Rattle.demands.specs.History.{Past, newPast, orElse, reportedBytes, afterFinish, afterTable, after, past, Stored, StoredIf, AsTold, isThere, AnswersBy, History}
+use Rattle.demands.specs.History.{Past, newPast, orElse, reportedBytes, after, past, Stored, StoredIf, AsTold, isThere, AnswersBy, History}
 use Rattle.demands.proofs.Steps.{How, isnt, is, how, refusal, done, tableDone, unlessRefused, by-refusal, clash}
 use Rattle.demands.proofs.Listed.{nothing-there}
 use Rattle.demands.proofs.Reached.{Good, good-sound, good-end, good-new}
@@ -61,14 +60,14 @@ copied t store l e =
 
 -- what waits, or else what is in force, comes into force
 open-force : (a b : Option (List ℕ)) (w : World) → 8192 ≤ length (w .force) → StoredIf a (w .state .waiting) (w .wait) → StoredIf b (w .state .«in_force») (w .force)
-    → StoredIf (orElse a b) (done openRun w .1 .state .«in_force») (done openRun w .1 .force)
+    → StoredIf (orElse a b) (done openRun w .world .state .«in_force») (done openRun w .world .force)
 open-force (some t) b w l s f =
     let n = w .state .waiting in
     let e : ltb 0 (w .state .waiting) ≡ true = lt-ltb 0 n (stored-some t n (w .wait) s) in
     rw (e, s .is, s .size) (copied t (w .force) l (s .ok))
 open-force none b w l s f = rw (s) f
 
-told-open : (w : World) (p : Past) → MayOpen w → AsTold w p → AsTold (done openRun w .1) (after openRun (done openRun w .0) (w .hold) p)
+told-open : (w : World) (p : Past) → MayOpen w → AsTold w p → AsTold (done openRun w .world) (after openRun (told (done openRun w .answer)) (w .hold) p)
 told-open w p m h =
     record {
       phase = refl;
@@ -89,7 +88,7 @@ stands-by none p v hold = refl
 stands-by (some n) p v hold = refl
 
 told-feed : (w : World) (piece : List ℕ) (p : Past) → refusal (feed piece) w ≡ none → AsTold w p
-    → AsTold (done (feed piece) w .1) (after (feed piece) (done (feed piece) w .0) (done (feed piece) w .1 .hold) p)
+    → AsTold (done (feed piece) w .world) (after (feed piece) (told (done (feed piece) w .answer)) (done (feed piece) w .world .hold) p)
 unfolding feedRefusal
 told-feed w piece p e h =
     let f = feedingOf (w .state) (w .hold) piece in
@@ -102,20 +101,20 @@ told-feed w piece p e h =
     }
 
 told-finish-by : (w : World) (p : Past) (o : Option ℕ) (f : Feeding) (r : Run) (v : List ℕ) → f .standing ≡ o → AsTold w p
-    → AsTold (going (phaseAfter o) w f) (afterFinish (finishSaid o r v) (holdOf f (w .hold)) p)
+    → AsTold (going (phaseAfter o) w f) (after finish (told (said (finishSaid o r v))) (holdOf f (w .hold)) p)
 told-finish-by w p none f r v q h =
     record { phase = refl; waiting = h .waiting; force = h .force; stands = ap (λ (o : Option ℕ). take (size o) (holdOf f (w .hold))) q }
 told-finish-by w p (some n) f r v q h =
     record { phase = refl; waiting = h .waiting; force = h .force; stands = ap (λ (o : Option ℕ). take (size o) (holdOf f (w .hold))) q }
 
-told-finish : (w : World) (p : Past) → AsTold w p → AsTold (done finish w .1) (after finish (done finish w .0) (done finish w .1 .hold) p)
+told-finish : (w : World) (p : Past) → AsTold w p → AsTold (done finish w .world) (after finish (told (done finish w .answer)) (done finish w .world .hold) p)
 told-finish w p h =
     let f = finishingOf (w .state) (w .hold) in
     told-finish-by w p (f .standing) f (runOn (phaseAfter (f .standing)) (w .state .run) f) (f .held) refl h
 
 -- ---- Stage and Withdraw
 
-told-table : (t : TableCall) (w : World) (p : Past) → refusal (table t) w ≡ none → AsTold w p → AsTold (tableDone t w .1) (afterTable t (tableDone t w .0) p)
+told-table : (t : TableCall) (w : World) (p : Past) → refusal (table t) w ≡ none → AsTold w p → AsTold (tableDone t w .world) (after (table t) (told (tableDone t w .answer)) (w .hold) p)
 told-table (stage t) w p e h =
     let q = stage-passed (w .state) (w .wait) t e in
     record { phase = h .phase; waiting = copied t (w .wait) (q .0) (q .1); force = h .force; stands = h .stands }
@@ -123,14 +122,15 @@ told-table withdraw w p e h = record { phase = h .phase; waiting = refl; force =
 
 -- ---- every call
 
-told-done : (c : Call) (w : World) (p : Past) → refusal c w ≡ none → AsTold w p → AsTold (done c w .1) (after c (done c w .0) (done c w .1 .hold) p)
+told-done : (c : Call) (w : World) (p : Past) → refusal c w ≡ none → AsTold w p → AsTold (done c w .world) (after c (told (done c w .answer)) (done c w .world .hold) p)
 told-done openRun w p e h = told-open w p (may-open w e) h
 told-done (feed piece) w p e h = told-feed w piece p e h
 told-done finish w p e h = told-finish w p h
-told-done (table t) w p e h = told-table t w p e h
+told-done (table (stage t)) w p e h = told-table (stage t) w p e h
+told-done (table withdraw) w p e h = told-table withdraw w p e h
 told-done (look l) w p e h = h
 
-told-refused : (c : Call) (w : World) (n : ℕ) (p : Past) → after c (said (refused n)) (w .hold) p ≡ p
+told-refused : (c : Call) (w : World) (n : ℕ) (p : Past) → after c (told (said (refused n))) (w .hold) p ≡ p
 told-refused openRun w n p = refl
 told-refused (feed piece) w n p = refl
 told-refused finish w n p = refl
@@ -138,14 +138,14 @@ told-refused (table (stage t)) w n p = refl
 told-refused (table withdraw) w n p = refl
 told-refused (look l) w n p = refl
 
-told-by : (c : Call) (w : World) (p : Past) → AsTold w p → {r : Answer × World} → How c w r → AsTold (r .1) (after c (r .0) (r .1 .hold) p)
+told-by : (c : Call) (w : World) (p : Past) → AsTold w p → {r : Step} → How c w r → AsTold (r .world) (after c (told (r .answer)) (r .world .hold) p)
 told-by c w p h (isnt n e) = subst⁻¹ (AsTold w) (told-refused c w n p) h
 told-by c w p h (is e) = told-done c w p e h
 
 told-end : (cs : List Call) (w : World) (p : Past) → AsTold w p → AsTold (end cs w) (past cs w p)
 unfolding end past
 told-end [] w p h = h
-told-end (c ∷ cs) w p h = told-end cs (step c w .1) (after c (step c w .0) (step c w .1 .hold) p) (told-by c w p h (how c w))
+told-end (c ∷ cs) w p h = told-end cs (step c w .world) (after c (told (step c w .answer)) (step c w .world .hold) p) (told-by c w p h (how c w))
 
 told-new : (w : World) → New w → AsTold w newPast
 told-new w n =
@@ -201,19 +201,19 @@ force-by (some u) t w q s =
       ok = subst (λ (y : List ℕ). tableOk y ≡ true) x (s .ok);
     }
 
-opened-by : (w : World) (p : Past) → AsTold w p → {r : Answer × World} → How openRun w r → (v : ℕ) → r .0 ≡ said (version v)
+opened-by : (w : World) (p : Past) → AsTold w p → {r : Step} → How openRun w r → (v : ℕ) → told (r .answer) .version ≡ some v
     → (t : List ℕ) × ((orElse (p .waiting) (p .force) ≡ some t) × (nextTable (w .state) (w .force) (w .wait) ≡ t))
-opened-by w p h (isnt n e) v f = let z : _≡_ {A = ℕ} 0 1 = cc in let x : ⊥ = omega arith in absurd x
+opened-by w p h (isnt n e) v f = nothing-there f
 opened-by w p h (is e) v f =
     let o = one-by (p .waiting) (p .force) w (h .waiting) (h .force) (may-open w e) in
     (o .0, (o .1, next-by (p .waiting) (p .force) w (o .0) (h .waiting) (h .force) (o .1) .is))
 
-staged-by : (w : World) (t : List ℕ) {r : Answer × World} → How (table (stage t)) w r → (v : ℕ) → r .0 ≡ said (version v) → v ≡ decode t .version
-staged-by w t (isnt n e) v f = let z : _≡_ {A = ℕ} 0 1 = cc in let x : ⊥ = omega arith in absurd x
+staged-by : (w : World) (t : List ℕ) {r : Step} → How (table (stage t)) w r → (v : ℕ) → told (r .answer) .version ≡ some v → v ≡ decode t .version
+staged-by w t (isnt n e) v f = nothing-there f
 staged-by w t (is e) v f = let q : decode t .version ≡ v = cc in sym q
 
-withdrawn-by : (w : World) (p : Past) → AsTold w p → {r : Answer × World} → How (table withdraw) w r → (b : Bool) → r .0 ≡ said (waited b) → b ≡ isThere (p .waiting)
-withdrawn-by w p h (isnt n e) b f = let z : _≡_ {A = ℕ} 0 1 = cc in let x : ⊥ = omega arith in absurd x
+withdrawn-by : (w : World) (p : Past) → AsTold w p → {r : Step} → How (table withdraw) w r → (b : Bool) → told (r .answer) .waited ≡ some b → b ≡ isThere (p .waiting)
+withdrawn-by w p h (isnt n e) b f = nothing-there f
 withdrawn-by w p h (is e) b f =
     let q : ltb 0 (w .state .waiting) ≡ b = cc in sym q ∙ there-by (p .waiting) (w .state .waiting) (w .wait) (h .waiting)
 
@@ -221,31 +221,27 @@ shown-by : (o : Option ℕ) (x b : List ℕ) → part o (partUnless o x) ≡ par
 shown-by none x b e = let q : x ≡ b = cc in sym q
 shown-by (some n) x b e = let z : _≡_ {A = ℕ} 0 1 = cc in let f : ⊥ = omega arith in absurd f
 
-shows : (w : World) (p : Past) → AsTold w p → (b : List ℕ) → step (look bytes) w .0 ≡ part none b → b ≡ p .stands
+shows : (w : World) (p : Past) → AsTold w p → (b : List ℕ) → step (look bytes) w .answer ≡ part none b → b ≡ p .stands
 unfolding step bytesOf
 shows w p h b e = shown-by (bytesRefusal (w .state) (w .hold)) (take (w .state .run .standing) (w .hold)) b e ∙ h .stands
-
-reads : (w : World) (p : Past) → Good w → AsTold w p → (t : List ℕ) (l : Look) → p .force ≡ some t → LooksBy (decode t) l (step (look l) w .0)
-unfolding step
-reads w p g h t l q = look-by t l w g (force-by (p .force) t w q (h .force))
 
 answers-by : (w : World) (p : Past) → Good w → AsTold w p → AnswersBy w p
 answers-by w p g h =
     record {
       opens = λ t c q lf lw.
           let n = next-by (p .waiting) (p .force) w t (h .waiting) (h .force) q in
-          ap (λ (r : Answer × World). r .0) (by-refusal openRun w ∙ ap (λ (o : Option ℕ). unlessRefused o openRun w) (open-passes w t g (h .phase ∙ c) n lf lw))
-          ∙ ap (λ (x : List ℕ). said (version (decode x .version))) (n .is);
+          ap (λ (r : Step). told (r .answer) .version) (by-refusal openRun w ∙ ap (λ (o : Option ℕ). unlessRefused o openRun w) (open-passes w t g (h .phase ∙ c) n lf lw))
+          ∙ ap (λ (x : List ℕ). some (decode x .version)) (n .is);
       found = λ v e. opened-by w p h (how openRun w) v e;
       stages = λ t v e. staged-by w t (how (table (stage t)) w) v e;
       withdraws = λ b e. withdrawn-by w p h (how (table withdraw) w) b e;
       shows = shows w p h;
-      reads = reads w p g h;
+      reads = λ t l q. look-by t l w g (force-by (p .force) t w q (h .force));
     }
 
 pub history : History
 history =
     record {
-      told = λ w cs n b. told-end cs w newPast (told-new w n);
+      world = λ w cs n b. told-end cs w newPast (told-new w n);
       answers = λ w cs n b. answers-by (end cs w) (past cs w newPast) (good-end cs w b (good-new w n)) (told-end cs w newPast (told-new w n));
     }

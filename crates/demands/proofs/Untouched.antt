@@ -14,7 +14,7 @@ use Rattle.runs.specs.Refusals.{feedRefusal, finishRefusal, bytesRefusal}
 use Rattle.runs.specs.Calls.{feedingOf, finishingOf, bytesOf}
 use Rattle.records.specs.Calls.{askRefusal, bodyOf, subOf, subBytesOf, subBytesRefusal, stampOf}
 use Rattle.tables.proofs.Accepted.{stage-passed}
-use Rattle.demands.specs.World.{World, TableCall, stage, withdraw, Look, bytes, body, sub, subBytes, tow, wnc, Call, openRun, feed, finish, table, look, Answer, looked, step, end}
+use Rattle.demands.specs.World.{World, TableCall, stage, withdraw, Look, bytes, body, sub, subBytes, tow, wnc, Call, openRun, feed, finish, table, look, Answer, Step, looked, step, end}
 use Rattle.demands.specs.Demand3.{isTable}
 use Rattle.demands.proofs.Steps.{How, isnt, is, how, refusal, tableRefusals, done, tableDone, unlessRefused, by-refusal, clash}
 use Rattle.demands.proofs.Reached.{Good, good-sound}
@@ -40,6 +40,13 @@ with w p =
       wait = p .store;
     }
 
+-- a step left with another waiting place, and one left over another base
+abbrev pub placed : Step → Waiting → Step
+placed r p = record { answer = r .answer; world = with (r .world) p }
+
+abbrev pub based : World → Step → Step
+based x r = record { answer = r .answer; world = with x (waits (r .world)) }
+
 -- a waiting place that may stand for another
 pub record Fit (p q : Waiting) : Type 0 where
   pub few : p .size ≤ 8192
@@ -64,24 +71,24 @@ table-refusal (stage t) w x g k = rw (good-sound (with x (waits w)) (good-with x
 table-refusal withdraw w x g k = rw (good-sound (with x (waits w)) (good-with x (waits w) k (g .sound .wait)), good-sound w g) refl
 
 mirror-by : (o : Option ℕ) (t : TableCall) (w x : World)
-    → unlessRefused o (table t) (with x (waits w)) ≡ (unlessRefused o (table t) w .0, with x (waits (unlessRefused o (table t) w .1)))
+    → unlessRefused o (table t) (with x (waits w)) ≡ based x (unlessRefused o (table t) w)
 mirror-by (some n) t w x = refl
 mirror-by none (stage t) w x = refl
 mirror-by none withdraw w x = refl
 
 pub mirror : (t : TableCall) (w x : World) → Good w → Good x
-    → step (table t) (with x (waits w)) ≡ (step (table t) w .0, with x (waits (step (table t) w .1)))
+    → step (table t) (with x (waits w)) ≡ based x (step (table t) w)
 mirror t w x g k =
     by-refusal (table t) (with x (waits w))
     ∙ ap (λ (o : Option ℕ). unlessRefused o (table t) (with x (waits w))) (table-refusal t w x g k)
     ∙ mirror-by (tableRefusals t w) t w x
-    ∙ ap (λ (r : Answer × World). (r .0, with x (waits (r .1)))) (sym (by-refusal (table t) w))
+    ∙ ap (based x) (sym (by-refusal (table t) w))
 
-base-done : (t : TableCall) (w : World) (p : Waiting) → with (tableDone t w .1) p ≡ with w p
+base-done : (t : TableCall) (w : World) (p : Waiting) → with (tableDone t w .world) p ≡ with w p
 base-done (stage t) w p = refl
 base-done withdraw w p = refl
 
-pub base-by : (t : TableCall) (w : World) (p : Waiting) {r : Answer × World} → How (table t) w r → with (r .1) p ≡ with w p
+pub base-by : (t : TableCall) (w : World) (p : Waiting) {r : Step} → How (table t) w r → with (r .world) p ≡ with w p
 base-by t w p (isnt k e) = refl
 base-by t w p (is e) = base-done t w p
 
@@ -97,14 +104,14 @@ look-apart (tow b) w p g l = rw (sound-with w p g l) refl
 look-apart (wnc b) w p g l = rw (sound-with w p g l) refl
 
 apart-done : (o : Option ℕ) (c : Call) (w : World) (p : Waiting) → Good w → p .size ≤ 8192 → isTable c ≡ false → (c ≡ openRun → o ≡ none → ⊥)
-    → unlessRefused o c (with w p) ≡ (unlessRefused o c w .0, with (unlessRefused o c w .1) p)
+    → unlessRefused o c (with w p) ≡ placed (unlessRefused o c w) p
 unfolding feedingOf finishingOf
 apart-done (some k) c w p g l e h = refl
 apart-done none openRun w p g l e h = absurd (h refl refl)
 apart-done none (feed piece) w p g l e h = refl
 apart-done none finish w p g l e h = refl
 apart-done none (table t) w p g l e h = clash e
-apart-done none (look k) w p g l e h = ap (λ (a : Answer). (a, with w p)) (look-apart k w p g l)
+apart-done none (look k) w p g l e h = ap (λ (a : Answer). record { answer = a; world = with w p }) (look-apart k w p g l)
 
 apart-refusal : (c : Call) (w : World) (p : Waiting) → isTable c ≡ false → Good w → Live w → Fit p (waits w) → refusal c (with w p) ≡ refusal c w
 unfolding openRefusal feedRefusal finishRefusal
@@ -118,44 +125,44 @@ never-open : (c : Call) (w : World) → Live w → c ≡ openRun → refusal c w
 never-open c w l h e = not-open w l (subst (λ (x : Call). refusal x w ≡ none) h e)
 
 pub apart : (c : Call) (w : World) (p : Waiting) → isTable c ≡ false → Good w → Live w → Fit p (waits w)
-    → step c (with w p) ≡ (step c w .0, with (step c w .1) p)
+    → step c (with w p) ≡ placed (step c w) p
 apart c w p e g l f =
     by-refusal c (with w p)
     ∙ ap (λ (o : Option ℕ). unlessRefused o c (with w p)) (apart-refusal c w p e g l f)
     ∙ apart-done (refusal c w) c w p g (f .few) e (never-open c w l)
-    ∙ ap (λ (r : Answer × World). (r .0, with (r .1) p)) (sym (by-refusal c w))
+    ∙ ap (λ (r : Step). placed r p) (sym (by-refusal c w))
 
-left-done : (c : Call) (w : World) → isTable c ≡ false → Live w → refusal c w ≡ none → waits (done c w .1) ≡ waits w
+left-done : (c : Call) (w : World) → isTable c ≡ false → Live w → refusal c w ≡ none → waits (done c w .world) ≡ waits w
 left-done openRun w e l f = not-open w l f
 left-done (feed piece) w e l f = refl
 left-done finish w e l f = refl
 left-done (table t) w e l f = clash e
 left-done (look k) w e l f = refl
 
-pub left-by : (c : Call) (w : World) → isTable c ≡ false → Live w → {r : Answer × World} → How c w r → waits (r .1) ≡ waits w
+pub left-by : (c : Call) (w : World) → isTable c ≡ false → Live w → {r : Step} → How c w r → waits (r .world) ≡ waits w
 left-by c w e l (isnt k h) = refl
 left-by c w e l (is f) = left-done c w e l f
 
 -- ---- the waiting store keeps its length
 
-same-table : (t : TableCall) (w : World) → tableRefusals t w ≡ none → length (tableDone t w .1 .wait) ≡ length (w .wait)
+same-table : (t : TableCall) (w : World) → tableRefusals t w ≡ none → length (tableDone t w .world .wait) ≡ length (w .wait)
 same-table (stage t) w e =
     let p = stage-passed (w .state) (w .wait) t e in
     length-over t (w .wait) (omega (arith, passed.passed t (p .1) .file .most, p .0))
 same-table withdraw w e = refl
 
-same-done : (c : Call) (w : World) → refusal c w ≡ none → length (done c w .1 .wait) ≡ length (w .wait)
+same-done : (c : Call) (w : World) → refusal c w ≡ none → length (done c w .world .wait) ≡ length (w .wait)
 same-done openRun w f = refl
 same-done (feed piece) w f = refl
 same-done finish w f = refl
 same-done (table t) w f = same-table t w f
 same-done (look k) w f = refl
 
-pub same-by : (c : Call) (w : World) {r : Answer × World} → How c w r → length (r .1 .wait) ≡ length (w .wait)
+pub same-by : (c : Call) (w : World) {r : Step} → How c w r → length (r .world .wait) ≡ length (w .wait)
 same-by c w (isnt k l) = refl
 same-by c w (is f) = same-done c w f
 
 pub same-length : (cs : List Call) (w : World) → length (end cs w .wait) ≡ length (w .wait)
 unfolding end
 same-length [] w = refl
-same-length (c ∷ cs) w = same-length cs (step c w .1) ∙ same-by c w (how c w)
+same-length (c ∷ cs) w = same-length cs (step c w .world) ∙ same-by c w (how c w)

@@ -10,13 +10,14 @@ use Rattle.frame.specs.Judge.{judged}
 use Rattle.framing.specs.ReadRun.{readRun}
 use Rattle.frame.specs.declared.Verdict.the-variants.{Undecided}
 use Rattle.table.specs.Decode.{decode}
+use Rattle.table.specs.Rows.{Table}
+use Rattle.record.specs.Calls.{bodyField, subField, subBlock, subBlockRefusal, towRow, wncRow, stamp}
 use Rattle.reader.specs.Said.{took}
 use Rattle.records.specs.Calls.{tableInForce}
 use Rattle.reader.specs.declared.Phase.{Phase}
 use Rattle.reader.specs.declared.Phase.the-variants.{Closed, Feeding, Finishing}
-use Rattle.demands.specs.World.{World, Look, Call, feed, look, said, step, end}
+use Rattle.demands.specs.World.{World, Look, bytes, body, sub, subBytes, tow, wnc, Call, feed, look, Answer, said, part, value, step, end}
 use Rattle.demands.specs.Sequence.{Within, opened, taken, blocks}
-use Rattle.demands.specs.Demand3.{LooksBy}
 
 -- what may follow: "After the first Finish no bytes are fed"
 abbrev pub MayFollow : Phase → List ℕ → Type 0
@@ -40,23 +41,22 @@ pub record ReadSoFar (w : World) (mid : List Call) : Type 0 where
   pub took : end mid w .state .run .counts .taken ≡ length (taken mid w)
   pub counted : end mid w .state .run .counts .blocks ≡ length (blocks mid w)
 
-abbrev pub FirstOnes : Type 0
-FirstOnes = (w : World) (before mid : List Call) → Within w before mid → ReadSoFar (opened w before) mid
-
--- "one that answers More has decided all it can": the bytes taken leave the place undecided where reading goes on
-abbrev pub MoreDecided : Type 0
-MoreDecided =
-    (w : World) (before mid : List Call) (piece : List ℕ) (n : ℕ) → Within w before mid
-    → step (feed piece) (end mid (opened w before)) .0 ≡ said (took n none)
-    → judged (drop (placeNow (end (mid ++ feed piece ∷ []) (opened w before))) (taken (mid ++ feed piece ∷ []) (opened w before))) ≡ Undecided
-
--- a record call at a moment of a run is answered by the table in force at that moment
-abbrev pub ByTheTable : Type 0
-ByTheTable =
-    (w : World) (before mid : List Call) → Within w before mid → (l : Look)
-    → LooksBy (decode (tableInForce (end mid (opened w before) .state) (end mid (opened w before) .force))) l (step (look l) (end mid (opened w before)) .0)
+-- the answer of a record call is the one under this table; of Bytes nothing is asked
+abbrev pub ReadsBy : Table → Look → Answer → Type 0
+ReadsBy tab bytes a = Unit {0}
+ReadsBy tab (body b i) a = a ≡ value (bodyField tab b i)
+ReadsBy tab (sub b k j) a = a ≡ value (subField tab b k j)
+ReadsBy tab (subBytes b k) a = a ≡ part (subBlockRefusal tab b k) (subBlock tab b k)
+ReadsBy tab (tow b) a = a ≡ value (stamp towRow b)
+ReadsBy tab (wnc b) a = a ≡ value (stamp wncRow b)
 
 pub record Demand2 : Type 0 where
-  pub first : FirstOnes
-  pub more : MoreDecided
-  pub records : ByTheTable
+  -- "exactly those that the framing rules .. give for the run's bytes, taken from the left"
+  pub first : (w : World) (before mid : List Call) → Within w before mid → ReadSoFar (opened w before) mid
+  -- "one that answers More has decided all it can": the bytes taken leave the place undecided where reading goes on
+  pub more : (w : World) (before mid : List Call) (piece : List ℕ) (n : ℕ) → Within w before mid
+      → step (feed piece) (end mid (opened w before)) .answer ≡ said (took n none)
+      → judged (drop (placeNow (end (mid ++ feed piece ∷ []) (opened w before))) (taken (mid ++ feed piece ∷ []) (opened w before))) ≡ Undecided
+  -- a record call at a moment of a run is answered by the table in force at that moment
+  pub records : (w : World) (before mid : List Call) → Within w before mid → (l : Look)
+      → ReadsBy (decode (tableInForce (end mid (opened w before) .state) (end mid (opened w before) .force))) l (step (look l) (end mid (opened w before)) .answer)

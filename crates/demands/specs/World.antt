@@ -1,15 +1,17 @@
--- The world of a reader, its calls, and what one call does to it: made of the very functions that the contracts of `reader` cite.
+-- The world of a reader, its calls, their answers, and what a call does: made of the very functions that the contracts of the reader's calls cite.
 -- Assumes nothing.
 use Prim.Native.Nat.{ℕ}
+use mathlib.Core.Bool.{Bool}
 use mathlib.Core.List.{List, [], _∷_}
-use mathlib.Core.Option.{Option}
+use mathlib.Core.Option.{Option, none, some, Option·getD}
 use Rattle.record.specs.Answer as fields
-use Rattle.reader.specs.Said.{Said}
+use Rattle.reader.specs.Said.{Report, Said, refused, version, took, found, ended, waited}
 use Rattle.runs.specs.Refusals.{bytesRefusal}
 use Rattle.reader.specs.Outcome.{Outcome}
 use Rattle.tables.specs.Calls.{openOf, stageOf, withdrawOf}
 use Rattle.runs.specs.Calls.{feedOf, finishOf, bytesOf}
 use Rattle.records.specs.Calls.{bodyOf, subOf, subBytesOf, subBytesRefusal, towOf, wncOf}
+use Rattle.reader.specs.declared.Counts.{Counts}
 use Rattle.reader.specs.declared.State.{State}
 
 -- the state, and the three lent buffers: "each given the state and lent the buffers as the last call left them"
@@ -46,18 +48,63 @@ pub data Answer : Type 0 where
   part : Option ℕ → List ℕ → Answer
   value : fields.Said → Answer
 
--- Open may write the in-force store, Feed and Finish the hold, Stage the waiting store, Withdraw none
-abbrev pub leftForce : World → Outcome → Answer × World
-leftForce w o = (said (o .said), record { state = o .state; hold = w .hold; force = o .lent; wait = w .wait })
+-- ---- what an answer tells
 
-abbrev pub leftHold : World → Outcome → Answer × World
-leftHold w o = (said (o .said), record { state = o .state; hold = o .lent; force = w .force; wait = w .wait })
+-- none stands for what an answer does not speak of
+pub record Told : Type 0 where
+  -- the number of a refusal
+  pub refusal : Option ℕ
+  -- Open, Stage: the version
+  pub version : Option ℕ
+  -- Feed: "the count taken"
+  pub taken : Option ℕ
+  -- Feed, Finish: "Block (place, number, revision, length)"; where Feed tells a count and no block, that is More
+  pub block : Option Report
+  -- Finish: "End (bytes, blocks, skipped bytes)"
+  pub end : Option Counts
+  -- Withdraw: whether a table waited
+  pub waited : Option Bool
+  -- Bytes, and a sub-block's bytes
+  pub part : Option (List ℕ)
 
-abbrev pub leftWait : World → Outcome → Answer × World
-leftWait w o = (said (o .said), record { state = o .state; hold = w .hold; force = w .force; wait = o .lent })
+abbrev pub tells : Option ℕ → Option ℕ → Option ℕ → Option Report → Option Counts → Option Bool → Option (List ℕ) → Told
+tells n v t b e w p = record { refusal = n; version = v; taken = t; block = b; end = e; waited = w; part = p }
 
-abbrev pub leftNone : World → Outcome → Answer × World
-leftNone w o = (said (o .said), record { state = o .state; hold = w .hold; force = w .force; wait = w .wait })
+-- "a refusal, with its number inside"
+abbrev pub fieldRefusal : fields.Said → Option ℕ
+fieldRefusal (fields.unsigned n) = none
+fieldRefusal (fields.signed z) = none
+fieldRefusal (fields.single b) = none
+fieldRefusal (fields.double b) = none
+fieldRefusal fields.doNotUse = none
+fieldRefusal fields.notInRevision = none
+fieldRefusal (fields.refused n) = some n
+
+abbrev pub told : Answer → Told
+told (said (refused n)) = tells (some n) none none none none none none
+told (said (version v)) = tells none (some v) none none none none none
+told (said (took n r)) = tells none none (some n) r none none none
+told (said (found r)) = tells none none none (some r) none none none
+told (said (ended c)) = tells none none none none (some c) none none
+told (said (waited b)) = tells none none none none none (some b) none
+told (part n p) = tells n none none none none none (some p)
+told (value v) = tells (fieldRefusal v) none none none none none none
+
+-- the part that is handed back, empty where the call hands back none
+abbrev pub partOf : Answer → List ℕ
+partOf a = Option·getD (told a .part) []
+
+-- ---- what a call does
+
+-- one call: its answer, and the world that it leaves
+pub record Step : Type 0 where
+  pub answer : Answer
+  pub world : World
+
+-- an outcome, and the buffers after it
+abbrev pub leaving : Outcome → List ℕ → List ℕ → List ℕ → Step
+leaving o hold force wait =
+    record { answer = said (o .said); world = record { state = o .state; hold = hold; force = force; wait = wait } }
 
 abbrev pub looked : Look → World → Answer
 looked bytes w = part (bytesRefusal (w .state) (w .hold)) (bytesOf (w .state) (w .hold))
@@ -67,23 +114,29 @@ looked (subBytes b k) w = part (subBytesRefusal (w .state) (w .force) b k) (subB
 looked (tow b) w = value (towOf (w .state) b)
 looked (wnc b) w = value (wncOf (w .state) b)
 
-abbrev pub tabled : TableCall → World → Answer × World
-tabled (stage t) w = leftWait w (stageOf (w .state) (w .wait) t)
-tabled withdraw w = leftNone w (withdrawOf (w .state))
+-- Open may write the in-force store, Feed and Finish the hold, Stage the waiting store, the others none
+unfoldable pub step : Call → World → Step
+step openRun w = let o = openOf (w .state) (w .force) (w .wait) in leaving o (w .hold) (o .lent) (w .wait)
+step (feed piece) w = let o = feedOf (w .state) (w .hold) piece in leaving o (o .lent) (w .force) (w .wait)
+step finish w = let o = finishOf (w .state) (w .hold) in leaving o (o .lent) (w .force) (w .wait)
+step (table (stage t)) w = let o = stageOf (w .state) (w .wait) t in leaving o (w .hold) (w .force) (o .lent)
+step (table withdraw) w = leaving (withdrawOf (w .state)) (w .hold) (w .force) (w .wait)
+step (look l) w = record { answer = looked l w; world = w }
 
--- one call: its answer, and the world it leaves
-unfoldable pub step : Call → World → Answer × World
-step openRun w = leftForce w (openOf (w .state) (w .force) (w .wait))
-step (feed piece) w = leftHold w (feedOf (w .state) (w .hold) piece)
-step finish w = leftHold w (finishOf (w .state) (w .hold))
-step (table t) w = tabled t w
-step (look l) w = (looked l w, w)
-
--- calls one after the other: the world they leave, and each call with its answer
+-- calls one after the other: the world they leave
 unfoldable pub end : List Call → World → World
 end [] w = w
-end (c ∷ cs) w = end cs (step c w .1)
+end (c ∷ cs) w = end cs (step c w .world)
 
-unfoldable pub trace : List Call → World → List (Call × Answer)
+-- a call with its answer, and calls one after the other, each with its answer
+pub record Line : Type 0 where
+  pub call : Call
+  pub answer : Answer
+
+infix 80 _⇒_
+abbrev pub _⇒_ : Call → Answer → Line
+c ⇒ a = record { call = c; answer = a }
+
+unfoldable pub trace : List Call → World → List Line
 trace [] w = []
-trace (c ∷ cs) w = (c, step c w .0) ∷ trace cs (step c w .1)
+trace (c ∷ cs) w = c ⇒ step c w .answer ∷ trace cs (step c w .world)

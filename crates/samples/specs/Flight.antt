@@ -9,8 +9,8 @@ use mathlib.Core.Option.{Option, none, some}
 use Rattle.wire.specs.Little.{littleAt}
 use Rattle.table.specs.Lists.{pick}
 use Rattle.record.specs.Answer.{single}
-use Rattle.demands.specs.World.{stage, bytes, body, Call, openRun, feed, finish, table, look, Answer, part, value}
-use Rattle.demands.specs.Transcript.{Transcript, _⇒_, replayed, versionIs, block, ends, report}
+use Rattle.demands.specs.World.{stage, bytes, body, openRun, feed, finish, table, look, Answer, part, value, Line, _⇒_}
+use Rattle.samples.specs.Transcript.{Transcript, replayed, versionIs, block, ends, report}
 
 -- the table that the line is flown with, version 1: AttEuler without the Reserved row, so that field 5 is Roll
 abbrev pub withoutReserved : List ℕ
@@ -99,11 +99,11 @@ flight =
 
 -- what the definitions answer to call i of the story
 abbrev pub answered : ℕ → Option Answer
-answered i = pick (map (λ (line : Call × Answer). line .1) (replayed flight)) i
+answered i = pick (map (λ (x : Line). x .answer) (replayed flight)) i
 
 pub record FlightLine : Type 0 where
   -- the definitions answer every call as the story has it
-  pub told : replayed flight ≡ flight
+  pub story : replayed flight ≡ flight
   -- before and after the release landed: both times Roll's bits
   pub before : answered 4 ≡ some (value (single roll))
   pub after : answered 6 ≡ answered 4

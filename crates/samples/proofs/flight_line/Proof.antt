@@ -1,4 +1,4 @@
--- `demands::flight_line`: the answers of the story are computed; the facts on field 5 are read off them.
+-- `samples::flight_line`: the answers of the story are computed; the facts on field 5 are read off them.
 -- Assumes nothing.
 use Prim.Native.Nat.{ℕ}
 use native.Mathlib.Omega.{arith}
@@ -8,16 +8,16 @@ use mathlib.Core.Option.{some}
 use Rattle.wire.specs.Little.{littleAt}
 use Rattle.table.specs.Lists.{pick}
 use Rattle.record.specs.Answer.{single}
-use Rattle.demands.specs.World.{Call, Answer, value}
-use Rattle.demands.specs.Transcript.{Transcript}
-use Rattle.demands.specs.Flight.{pitch, roll, flight, answered}
-use Rattle.demands.proofs.Computed.{computed}
-use Rattle.demands.proofs.flight_line.Statement.{statement}
-use Rattle.demands.proofs.flight_line.Tie as tie
+use Rattle.demands.specs.World.{value, Line}
+use Rattle.samples.specs.Transcript.{Transcript}
+use Rattle.samples.specs.Flight.{pitch, roll, flight, answered}
+use Rattle.samples.proofs.Computed.{computed}
+use Rattle.samples.proofs.flight_line.Statement.{statement}
+use Rattle.samples.proofs.flight_line.Tie as tie
 
 -- the answer to call i, as the story has it
-at : (i : ℕ) → answered i ≡ pick (map (λ (line : Call × Answer). line .1) flight) i
-at i = ap (λ (t : Transcript). pick (map (λ (line : Call × Answer). line .1) t) i) (computed .told)
+at : (i : ℕ) → answered i ≡ pick (map (λ (x : Line). x .answer) flight) i
+at i = ap (λ (t : Transcript). pick (map (λ (x : Line). x .answer) t) i) (computed .story)
 
 before : answered 4 ≡ some (value (single roll))
 unfolding pick
@@ -41,7 +41,7 @@ returns : tie.Need-returns
 unfolding littleAt
 returns c =
     record {
-      told = computed .told;
+      story = computed .story;
       before = before;
       after = after ∙ sym before;
       next = next;

@@ -7,24 +7,19 @@ use lib.ListN.{replicate}
 use Rattle.record.specs.Answer as fields
 use Rattle.reader.specs.Said.{Report, version, took, found, ended}
 use Rattle.reader.specs.State.{newState}
-use Rattle.demands.specs.World.{World, Call, Answer, said, value, trace}
+use Rattle.demands.specs.World.{World, Answer, said, value, Line, trace}
 
 -- a new reader, lent the shortest buffers allowed: "a hold of at least 65,536 bytes, a store for the table in force and one for the
 -- waiting table, each at least 8,192", full of bytes 7
 unfoldable pub newWorld : World
 newWorld = record { state = newState; hold = replicate 65536 7; force = replicate 8192 7; wait = replicate 8192 7 }
 
--- a line: a call, and what it answers
-infix 80 _⇒_
-abbrev pub _⇒_ : Call → Answer → Call × Answer
-c ⇒ a = (c, a)
-
 abbrev pub Transcript : Type 0
-Transcript = List (Call × Answer)
+Transcript = List Line
 
 -- the same calls on a new reader, each with what the definitions answer
 unfoldable pub replayed : Transcript → Transcript
-replayed t = trace (map (λ (line : Call × Answer). line .0) t) newWorld
+replayed t = trace (map (λ (x : Line). x .call) t) newWorld
 
 -- Open, Stage: the version
 abbrev pub versionIs : ℕ → Answer

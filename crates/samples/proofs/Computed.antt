@@ -24,15 +24,15 @@ use Rattle.tables.specs.Calls.{openRefusal, stageRefusal, withdrawRefusal, open
 use Rattle.runs.specs.Refusals.{feedRefusal, finishRefusal, bytesRefusal}
 use Rattle.runs.specs.Calls.{feedingOf, feedOf, finishingOf, finishOf, bytesOf}
 use Rattle.records.specs.Calls.{askRefusal, bodyOf, subOf, subBytesOf, subBytesRefusal, stampOf}
 use Rattle.demands.specs.World.{step, trace}
-use Rattle.demands.specs.Transcript.{newWorld, replayed}
-use Rattle.demands.specs.Samples.{SamplesHold}
-use Rattle.demands.specs.Flight.{flight}
+use Rattle.samples.specs.Transcript.{newWorld, replayed}
+use Rattle.samples.specs.Samples.{SamplesHold}
+use Rattle.samples.specs.Flight.{flight}
 
 pub record Computed : Type 0 where
   pub samples : SamplesHold
-  pub told : replayed flight ≡ flight
+  pub story : replayed flight ≡ flight
 
 pub computed : Computed
 unfolding crcOf crcFrom crcByte crcBits8 crcBit littleAt syncAt allowed endsWithin crcRight frameAt wholeFrame judged judgedLast settle feedBy countAll restOf tabulate every chain neighbours first pick sizeOf markFits fieldAt rowFrom rowAt rowsOf blockOf decode fileOk indexOk counts formOk risingOk isPair fieldsOk blockOk meaningOk tableOk findRow withSign readAs isDoNotUse valueOf fieldValue bodyFits subsFit seenRow seen seenSubRow seenSub fieldSaid bodyField subBytes subField subBlock subBlockRefusal stamp sound openRefusal feedRefusal finishRefusal bytesRefusal stageRefusal withdrawRefusal openOf feedingOf feedOf finishingOf finishOf bytesOf stageOf withdrawOf askRefusal bodyOf subOf subBytesOf subBytesRefusal stampOf step trace newWorld replayed
-computed = record { samples = refl; told = refl }
+computed = record { samples = refl; story = refl }

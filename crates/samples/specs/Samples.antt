@@ -6,8 +6,8 @@ use mathlib.Core.Path.{_≡_}
 use mathlib.Core.List.{List, [], _∷_, _++_, map}
 use mathlib.Core.Option.{none, some}
 use Rattle.record.specs.Answer.{single, unsigned, doNotUse}
-use Rattle.demands.specs.World.{stage, bytes, body, sub, subBytes, tow, wnc, openRun, feed, finish, table, look, part, value}
-use Rattle.demands.specs.Transcript.{Transcript, _⇒_, replayed, versionIs, more, block, gives, ends, refusal, report}
+use Rattle.demands.specs.World.{stage, bytes, body, sub, subBytes, tow, wnc, openRun, feed, finish, table, look, part, value, _⇒_}
+use Rattle.samples.specs.Transcript.{Transcript, replayed, versionIs, more, block, gives, ends, refusal, report}
 
 -- (b), and (c) with 88 for 89
 abbrev pub sampleB : List ℕ

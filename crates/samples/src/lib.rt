@@ -1,0 +1,13 @@
+// Document 01's samples and the story that started this, computed by the definitions that the reader's contracts cite.
+ghost use Rattle.samples.specs.Flight.{FlightLine};
+ghost use Rattle.samples.specs.Samples.{SamplesHold};
+
+// Document 01's samples (a) to (j): one table of cases, one theorem.
+pub fn samples_hold()
+    ensures { λ _. ⌜ SamplesHold ⌝ }
+{}
+
+// The story that started this, worked through: a table staged in mid-run changes no field of the open run, and is read by in the next.
+pub fn flight_line()
+    ensures { λ _. ⌜ FlightLine ⌝ }
+{}
