@@ -3,20 +3,22 @@
 use Prim.Native.Nat.{ℕ}
 use mathlib.Core.Path.{_≡_, refl, sym, ap, _∙_, subst⁻¹}
 use mathlib.Core.List.{List, [], _∷_, _++_}
-use mathlib.Core.Option.{some}
+use mathlib.Core.Option.{Option, none, some}
 use lib.ListN.{length, take}
 use lib.Seq.{take-length}
 use Rattle.record.specs.Answer as fields
-use Rattle.reader.specs.Said.{Said, refused, version, took, found, ended, waited}
+use Rattle.reader.specs.Said.{Report, Said, refused, version, took, found, ended, waited}
 use Rattle.tables.specs.Calls.{openOf, stageOf, withdrawOf}
-use Rattle.runs.specs.Calls.{feedOf, finishOf}
+use Rattle.runs.specs.Calls.{feedOf, finishOf, front, reported, finishSaid, finishingBy, finishingOf}
 use Rattle.table.specs.Rows.{Table}
 use Rattle.reader.specs.declared.Counts.{Counts}
+use Rattle.reader.specs.declared.Run.{Run}
 use Rattle.reader.specs.declared.State.{State}
-use Rattle.demands.specs.World.{World, stage, withdraw, Look, Call, openRun, feed, finish, table, look, Answer, said, part, value, fieldRefusal, told, step, end, Line, trace}
+use Rattle.demands.specs.World.{World, stage, withdraw, Look, Call, openRun, feed, finish, table, look, Answer, said, part, value, fieldRefusal, told, Step, step, end, Line, trace}
 use Rattle.demands.specs.Sequence.{AllFed, NoEnd, Within, Closes, opened, taken, blocks, shownBlocks}
 use Rattle.demands.specs.Demand2.{ReadsBy}
 use Rattle.demands.specs.Demand3.{countsOf, RunOf, Offers, foundBy}
+use Rattle.demands.proofs.Steps.{How, isnt, is, how}
 use Rattle.demands.proofs.Listed.{nothing-there}
 use Rattle.demands.proofs.Refusing.{demand-1}
 use Rattle.demands.proofs.Stream.{demand-3}
@@ -49,6 +51,20 @@ said-end (said (ended d)) c e = let q : d ≡ c = cc in ap (λ (x : Counts). sai
 said-end (said (waited b)) c e = nothing-there e
 said-end (part n p) c e = nothing-there e
 said-end (value v) c e = nothing-there e
+
+-- a block that Finish tells is its answer Block
+finish-found : (o : Option ℕ) (r : Run) (v : List ℕ) (b : Report) → told (said (finishSaid o r v)) .block ≡ some b → said (finishSaid o r v) ≡ said (found b)
+finish-found none r v b e = nothing-there e
+finish-found (some n) r v b e = let q : reported (front r) n v ≡ b = cc in ap (λ (x : Report). said (found x)) q
+
+found-by : (w : World) (b : Report) {x : Step} → How finish w x → told (x .answer) .block ≡ some b → x .answer ≡ said (found b)
+found-by w b (isnt n e) f = nothing-there f
+found-by w b (is e) f =
+    let g = finishingOf (w .state) (w .hold) in
+    finish-found (g .standing) (finishingBy g (w .state) (w .hold) .state .run) (g .held) b f
+
+pub finish-block : (w : World) (b : Report) → told (step finish w .answer) .block ≡ some b → step finish w .answer ≡ said (found b)
+finish-block w b e = found-by w b (how finish w) e
 
 -- ---- a refused call keeps the state and the buffer that it may write: of the functions that the contracts cite
 

@@ -38,4 +38,10 @@ takes-the-stream s (c ∷ cs) w o =
     (takes-the-stream (drop (length x) s) cs (step c w .world) (o .1))
 
 pub demand-3 : Demand3
-demand-3 = record { whole = of-the-whole; offered = takes-the-stream; records = one-table; moved = moved }
+demand-3 =
+    record {
+      whole = λ run w before mid h e q. of-the-whole run w before mid h e q;
+      offered = λ s cs w o. takes-the-stream s cs w o;
+      records = λ w before mid h l. one-table w before mid h l;
+      moved = λ w before mid after h. moved w before mid after h;
+    }

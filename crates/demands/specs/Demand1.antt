@@ -20,7 +20,7 @@ pub record Long (w : World) : Type 0 where
   pub wait : 8192 ≤ length (w .wait)
 
 pub record Demand1 : Type 0 where
-  -- "get the numbered refusals of document 01": each call, of every world, exactly when its number is given
+  -- "get the numbered refusals of document 01": every call on every input, each number exactly when it is given
   pub refused : (c : Call) (w : World) → Exactly (told (step c w .answer) .refusal) (order c w)
   -- "a refused call changes no lent byte and no state"
   pub keeps : (c : Call) (w : World) (n : ℕ) → told (step c w .answer) .refusal ≡ some n → step c w .world ≡ w
