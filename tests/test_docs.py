@@ -21,6 +21,12 @@ def there(name):
     return os.path.exists(os.path.join(TOP, name)) or bool(glob.glob(os.path.join(TOP, name)))
 
 
+def is_edit(word):
+    """Whether `crate/label` is a wrong program: the crate samples is named as the folder samples/ is."""
+    crate, _, label = word.partition("/")
+    return any(there(os.path.join("crates", crate, kind, label + ".edit")) for kind in ("must-fail", "wrong"))
+
+
 def sources(crate, kind):
     """All text of a crate's files of one kind."""
     names = glob.glob(os.path.join(TOP, "crates", crate, kind, "**", "*.*"), recursive=True)
@@ -37,7 +43,8 @@ def paths(document, text):
     for word in sorted(set(re.findall(r"`([\w.*-]+/[\w./*-]*[\w*])`", text))):
         top = word.split("/")[0]
         if top in FOLDERS:
-            CASES.expect(f"{document}: {word}", there(word) or "NAME" in word or "LABEL" in word, "there is no such file or folder")
+            found = there(word) or top in CRATES and is_edit(word)
+            CASES.expect(f"{document}: {word}", found or "NAME" in word or "LABEL" in word, "there is no such file or folder")
         elif top in CRATES and word.split("/")[1] in ("src", "specs", "proofs", "must-fail", "wrong"):
             CASES.expect(f"{document}: {word}", there(os.path.join("crates", word)), "there is no such file of crates/")
 
