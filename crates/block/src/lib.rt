@@ -40,7 +40,7 @@ fn ends_by(f: FieldRow, revision: u8, n: usize) -> bool
     requires { ⌜ f .offset < 65536 ⌝ }
     ensures { λ r. ⌜ r ≡ endsBy revision n f ⌝ }
 {
-    let end = f.offset + rows::size(f.kind);
+    let end = f.offset + kinds::size(f.kind);
     !(f.first <= revision) | (end <= n)
 }
 

@@ -7,8 +7,8 @@ use Rattle.table.specs.Decode.{rowsOf, blockOf, decode}
 use Rattle.encode.specs.Encode.{two, fieldBytes, fieldsPart, rowsPart, unsealed, encode}
 use Rattle.table.specs.Lists.{tabulate, every, chain, neighbours}
 use Rattle.table.specs.Rules.{fileOk, risingOk, rowOk, counts, indexOk, rowsOk, fieldsOk, isPair, blockOk, tableOk}
-use Rattle.rows.specs.Types.{sizeOf}
-use Rattle.table.specs.Marks.{markFits}
+use Rattle.kinds.specs.Types.{sizeOf}
+use Rattle.kinds.specs.Marks.{markFits}
 use Rattle.wire.specs.Little.{littleAt}
 use Rattle.shipped.specs.Statements.{Ships}
 

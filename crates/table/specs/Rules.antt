@@ -6,10 +6,11 @@ use Prim.Native.Nat.{ℕ, _+_, _*_}
 use lib.Dec.{ltb, leb, eqb}
 use lib.ListN.{length}
 use Rattle.crc.specs.Crc.{crcOf}
+use Rattle.kinds.specs.Types.{listed}
+use Rattle.kinds.specs.Marks.{markFits}
 use Rattle.rows.specs.declared.FieldRow.{FieldRow}
 use Rattle.rows.specs.declared.Row.{Row}
 use Rattle.table.specs.Lists.{every, neighbours}
-use Rattle.table.specs.Marks.{listed, markFits}
 use Rattle.table.specs.Rows.{BlockRow, ends}
 use Rattle.rows.specs.Places.{blockCount, fieldCount}
 use Rattle.table.specs.Decode.{toBlocks, toFields, crcField, covered, closing₀, closing₁, rowsOf, decode}
