@@ -7,6 +7,8 @@ use mathlib.Core.Option.{Option, none, some}
 use lib.ListN.{take, drop}
 use lib.Dec.{leb}
 use Rattle.frame.specs.Frame.{wholeFrame}
+use Rattle.kinds.specs.Types.{u2, u4}
+use Rattle.kinds.specs.Marks.{ones}
 use Rattle.rows.specs.declared.FieldRow.{FieldRow}
 use Rattle.table.specs.Lists.{pick}
 use Rattle.table.specs.Rows.{Table}
@@ -62,10 +64,10 @@ subBlockRefusal tab b k = numberBy (seenSub tab b k)
 
 -- "TOW (u4 at 8) and WNc (u2 at 12) stand in every block with mark 1"
 abbrev pub towRow : FieldRow
-towRow = record { offset = 8; kind = 3; first = 0; mark = 1 }
+towRow = record { offset = 8; kind = u4; first = 0; mark = ones }
 
 abbrev pub wncRow : FieldRow
-wncRow = record { offset = 12; kind = 2; first = 0; mark = 1 }
+wncRow = record { offset = 12; kind = u2; first = 0; mark = ones }
 
 -- "the TOW and WNc calls read no table and give only 1, 10 and, for L below 14, 7"
 unfoldable pub stamp : FieldRow → List ℕ → Said
