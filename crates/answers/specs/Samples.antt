@@ -7,6 +7,8 @@ use mathlib.Core.Option.{Option, none, some}
 use lib.IntN.{pos, negsuc}
 use Rattle.wire.specs.Little.{littleAt}
 use Rattle.frame.specs.Frame.{numberOf, revisionOf}
+use Rattle.kinds.specs.Types.{u1, u2, u4, u8, i1, i2, i4, i8, f4, f8}
+use Rattle.kinds.specs.Marks.{unmarked, ones, zeroes, minus2e10, least}
 use Rattle.rows.specs.declared.FieldRow.{FieldRow}
 use Rattle.table.specs.Rows.{Table}
 use Rattle.value.specs.Said.{Said, unsigned, signed, single, double, doNotUse, notInRevision, refused}
@@ -30,7 +32,7 @@ abbrev field : ℕ → ℕ → ℕ → ℕ → FieldRow
 field offset kind first mark = record { offset = offset; kind = kind; first = first; mark = mark }
 
 abbrev counts : List FieldRow
-counts = field 14 1 0 0 ∷ field 15 1 0 0 ∷ []
+counts = field 14 u1 0 unmarked ∷ field 15 u1 0 unmarked ∷ []
 
 -- the block of 8 bytes that is sample (b) of framing
 abbrev sampleB : List ℕ
@@ -43,9 +45,9 @@ sampleTable =
       version = 1;
       rows =
           record { number = 0; highest = 0; body = []; subs = [] }
-          ∷ record { number = 1; highest = 1; body = field 14 2 0 1 ∷ field 16 6 0 4 ∷ field 20 9 0 3 ∷ field 24 1 1 0 ∷ []; subs = [] }
-          ∷ record { number = 2; highest = 1; body = counts; subs = field 0 2 0 0 ∷ field 2 5 1 4 ∷ [] }
-          ∷ record { number = 3; highest = 1; body = counts; subs = field 0 1 1 0 ∷ [] }
+          ∷ record { number = 1; highest = 1; body = field 14 u2 0 ones ∷ field 16 i2 0 least ∷ field 20 f4 0 minus2e10 ∷ field 24 u1 1 unmarked ∷ []; subs = [] }
+          ∷ record { number = 2; highest = 1; body = counts; subs = field 0 u2 0 unmarked ∷ field 2 i1 1 least ∷ [] }
+          ∷ record { number = 3; highest = 1; body = counts; subs = field 0 u1 1 unmarked ∷ [] }
           ∷ [];
     }
 
@@ -126,11 +128,11 @@ recordCases =
     ∷ case (idOf (0x37 ∷ 0x37 ∷ [])) (id 5943 1)
     ∷ case (idOf (0xFF ∷ 0xFF ∷ [])) (id 8191 7)
     -- (h) f4 bits D09502F9 with mark 3 are Do-Not-Use, D09502F8 a value
-    ∷ case (value (0xF9 ∷ 0x02 ∷ 0x95 ∷ 0xD0 ∷ []) 9 3) (says doNotUse)
-    ∷ case (value (0xF8 ∷ 0x02 ∷ 0x95 ∷ 0xD0 ∷ []) 9 3) (says (single 0xD09502F8))
+    ∷ case (value (0xF9 ∷ 0x02 ∷ 0x95 ∷ 0xD0 ∷ []) f4 minus2e10) (says doNotUse)
+    ∷ case (value (0xF8 ∷ 0x02 ∷ 0x95 ∷ 0xD0 ∷ []) f4 minus2e10) (says (single 0xD09502F8))
     -- (i) u2 65535 with mark 1 is Do-Not-Use, 65534 a value
-    ∷ case (value (0xFF ∷ 0xFF ∷ []) 2 1) (says doNotUse)
-    ∷ case (value (0xFE ∷ 0xFF ∷ []) 2 1) (says (unsigned 65534))
+    ∷ case (value (0xFF ∷ 0xFF ∷ []) u2 ones) (says doNotUse)
+    ∷ case (value (0xFE ∷ 0xFF ∷ []) u2 ones) (says (unsigned 65534))
     -- (j) a block of length 8 whose number has a row gives refusal 7
     ∷ case (body sampleB 0) (says (refused 7))
     -- so does one of length 12, to the calls for TOW and WNc too
@@ -138,18 +140,18 @@ recordCases =
     ∷ case (says (stamp towRow twelve)) (says (refused 7))
     ∷ case (says (stamp wncRow twelve)) (says (refused 7))
     -- a sign at each width, and the least value
-    ∷ case (value (0xFF ∷ []) 5 0) (says (signed (negsuc 0)))
-    ∷ case (value (0xFF ∷ 0x7F ∷ []) 6 4) (says (signed (pos 32767)))
-    ∷ case (value (0x00 ∷ 0x80 ∷ []) 6 4) (says doNotUse)
-    ∷ case (value (0x00 ∷ 0x80 ∷ []) 6 0) (says (signed (negsuc 32767)))
-    ∷ case (value (0x00 ∷ 0x00 ∷ 0x00 ∷ 0x80 ∷ []) 7 0) (says (signed (negsuc 2147483647)))
-    ∷ case (value (0xFE ∷ 0xFF ∷ 0xFF ∷ 0xFF ∷ 0xFF ∷ 0xFF ∷ 0xFF ∷ 0xFF ∷ []) 8 4) (says (signed (negsuc 1)))
+    ∷ case (value (0xFF ∷ []) i1 unmarked) (says (signed (negsuc 0)))
+    ∷ case (value (0xFF ∷ 0x7F ∷ []) i2 least) (says (signed (pos 32767)))
+    ∷ case (value (0x00 ∷ 0x80 ∷ []) i2 least) (says doNotUse)
+    ∷ case (value (0x00 ∷ 0x80 ∷ []) i2 unmarked) (says (signed (negsuc 32767)))
+    ∷ case (value (0x00 ∷ 0x00 ∷ 0x00 ∷ 0x80 ∷ []) i4 unmarked) (says (signed (negsuc 2147483647)))
+    ∷ case (value (0xFE ∷ 0xFF ∷ 0xFF ∷ 0xFF ∷ 0xFF ∷ 0xFF ∷ 0xFF ∷ 0xFF ∷ []) i8 least) (says (signed (negsuc 1)))
     -- f8 with mark 3, and all ones and zero in u8 and u4
-    ∷ case (value (0x00 ∷ 0x00 ∷ 0x00 ∷ 0x20 ∷ 0x5F ∷ 0xA0 ∷ 0x12 ∷ 0xC2 ∷ []) 10 3) (says doNotUse)
-    ∷ case (value (0x01 ∷ 0x00 ∷ 0x00 ∷ 0x20 ∷ 0x5F ∷ 0xA0 ∷ 0x12 ∷ 0xC2 ∷ []) 10 3) (says (double 0xC212A05F20000001))
-    ∷ case (value (0xFF ∷ 0xFF ∷ 0xFF ∷ 0xFF ∷ 0xFF ∷ 0xFF ∷ 0xFF ∷ 0xFF ∷ []) 4 1) (says doNotUse)
-    ∷ case (value (0x00 ∷ 0x00 ∷ 0x00 ∷ 0x00 ∷ []) 3 2) (says doNotUse)
-    ∷ case (value (0x00 ∷ 0x00 ∷ 0x00 ∷ 0x00 ∷ []) 3 1) (says (unsigned 0))
+    ∷ case (value (0x00 ∷ 0x00 ∷ 0x00 ∷ 0x20 ∷ 0x5F ∷ 0xA0 ∷ 0x12 ∷ 0xC2 ∷ []) f8 minus2e10) (says doNotUse)
+    ∷ case (value (0x01 ∷ 0x00 ∷ 0x00 ∷ 0x20 ∷ 0x5F ∷ 0xA0 ∷ 0x12 ∷ 0xC2 ∷ []) f8 minus2e10) (says (double 0xC212A05F20000001))
+    ∷ case (value (0xFF ∷ 0xFF ∷ 0xFF ∷ 0xFF ∷ 0xFF ∷ 0xFF ∷ 0xFF ∷ 0xFF ∷ []) u8 ones) (says doNotUse)
+    ∷ case (value (0x00 ∷ 0x00 ∷ 0x00 ∷ 0x00 ∷ []) u4 zeroes) (says doNotUse)
+    ∷ case (value (0x00 ∷ 0x00 ∷ 0x00 ∷ 0x00 ∷ []) u4 ones) (says (unsigned 0))
     -- body fields: values, a NaN's bits, not in this revision, no such field
     ∷ case (body old 0) (says (unsigned 65534))
     ∷ case (body old 1) (says (signed (negsuc 1)))

@@ -22,13 +22,20 @@ use Rattle.table.specs.Lookup.{Stands, StandsIfAny, Finding}
 use Rattle.table.specs.Lookup as lookup
 use Rattle.table.proofs.Bools.{both}
 use Rattle.table.proofs.Lists.{length-tab}
+use Rattle.block.specs.declared.Span.{Span}
 use Rattle.block.specs.declared.Looked.{Looked}
 use Rattle.block.specs.declared.Looked.the-variants.{At, Refused}
-use Rattle.block.specs.Block.{numberIn, revisionIn, countIn, subLengthIn, endsBy, bodyFits, subsFit, row, seenRow, seen, seenSubRow, seenSub, meant, Fine, FineIfAny, Judging, Looking, SubLooking}
+use Rattle.block.specs.declared.SubLooked.the-variants as sub
+use Rattle.block.specs.Block.{numberIn, revisionIn, countIn, subLengthIn, endsBy, bodyFits, subSpan, subsFit, row, seenRow, seen, seenSubRow, seenSub, meant, Fine, FineIfAny, Looking, SubFine, SubLooking}
+use Rattle.block.specs.Code.{Judging, ByAnyRow}
 
 -- the product of two bytes
 pub small : (k n : ℕ) → k < 256 → n < 256 → k * n ≤ 65025
 small k n a b = let u : k ≤ 255 = omega arith in let v : n ≤ 255 = omega arith in mul-le-mul u v
+
+-- the code's span, by the byte that it read
+pub span-is : (b : List ℕ) (k : ℕ) {m : ℕ} → m ≡ subLengthIn b → ByAnyRow b k (record { at = 16 + k * m; size = m })
+span-is b k e r = ap {B = Span} (λ (n : ℕ). record { at = 16 + k * n; size = n }) e
 
 -- a whole frame has an allowed length
 module _ (b : List ℕ) (e : wholeFrame b ≡ true) where
@@ -62,10 +69,12 @@ module _ (t b : List ℕ) (r : Row) where
   unfolding subsFit blockOf
   subs-none e = rw (length-tab (fieldAt t) (r .start + r .bodies) (r .subs), e)
 
-  pub subs-some : (r .subs ≡ 0 → ⊥) → {n m v : ℕ} {x : Bool} → n ≡ countIn b → m ≡ subLengthIn b → v ≡ revisionIn b
-      → x ≡ every (endsBy v m) (tabulate (fieldAt t) (r .start + r .bodies) (r .subs)) → ((eqb n 0 || x) && leb (16 + n * m) (length b)) ≡ subsFit b (blockOf t r)
+  pub subs-some : (r .subs ≡ 0 → ⊥) → {n v : ℕ} {x : Bool} {s : Span} → n ≡ countIn b → ByAnyRow b n s → v ≡ revisionIn b
+      → x ≡ every (endsBy v (s .size)) (tabulate (fieldAt t) (r .start + r .bodies) (r .subs)) → ((eqb n 0 || x) && leb (s .at) (length b)) ≡ subsFit b (blockOf t r)
   unfolding subsFit blockOf
-  subs-some e f g h i = rw (length-tab (fieldAt t) (r .start + r .bodies) (r .subs), ne-eqb (r .subs) 0 e, i, f, g, h)
+  subs-some e f g h i =
+      let p = g (blockOf t r) in
+      rw (length-tab (fieldAt t) (r .start + r .bodies) (r .subs), ne-eqb (r .subs) 0 e, i, p, f, h)
 
   pub long : bodyFits b (blockOf t r) ≡ true → 14 ≤ length b
   unfolding bodyFits
@@ -111,7 +120,7 @@ fine-at t b d h = subst (FineIfAny t b) h (d .fine)
 
 -- sub-blocks: refusal 9
 module _ (t b : List ℕ) {l : Looked} (d : Looking t b l) (k : ℕ) where
-  pub sub-refused : {x : Refusal} → l ≡ Refused x → SubLooking t b k (Refused x)
+  pub sub-refused : {x : Refusal} → l ≡ Refused x → SubLooking t b k (sub.Refused x)
   unfolding seenSub seenSubRow
   sub-refused h = record { is = ap (seenSubRow b k) (sym (ap (meant t) h) ∙ d .is); fine = tt }
 
@@ -123,12 +132,12 @@ module _ (t b : List ℕ) {l : Looked} (d : Looking t b l) (k : ℕ) where
     unfolding seenSub
     sub-seen = ap (seenSubRow b k) (sym (d .is) ∙ ap (meant t) h)
 
-    pub sub-none : r .subs ≡ 0 → SubLooking t b k (Refused NoSuchField)
+    pub sub-none : r .subs ≡ 0 → SubLooking t b k (sub.Refused NoSuchField)
     unfolding seenSubRow blockOf
     sub-none e = record { is = sym (sub-seen ∙ rw (length-tab (fieldAt t) (r .start + r .bodies) (r .subs), e, le-ltb k 0 (omega arith))); fine = tt }
 
     module _ (some-subs : r .subs ≡ 0 → ⊥) {n : ℕ} (g : n ≡ countIn b) where
-      pub sub-past : n ≤ k → SubLooking t b k (Refused NoSuchField)
+      pub sub-past : n ≤ k → SubLooking t b k (sub.Refused NoSuchField)
       unfolding seenSubRow blockOf
       sub-past i =
           let j : countIn b ≤ k = omega arith in
@@ -137,7 +146,9 @@ module _ (t b : List ℕ) {l : Looked} (d : Looking t b l) (k : ℕ) where
             fine = tt;
           }
 
-      inner : k < countIn b → (every (endsBy (revisionIn b) (subLengthIn b)) (blockOf t r .subs) ≡ true) × (16 + k * subLengthIn b + subLengthIn b ≤ length b)
+      inner : k < countIn b
+          → (every (endsBy (revisionIn b) (subLengthIn b)) (blockOf t r .subs) ≡ true)
+          × (subSpan (blockOf t r) b k .at + subSpan (blockOf t r) b k .size ≤ length b)
       unfolding subsFit blockOf
       inner m =
           let o : countIn b ≡ 0 → ⊥ = λ z. omega arith in
@@ -148,11 +159,24 @@ module _ (t b : List ℕ) {l : Looked} (d : Looking t b l) (k : ℕ) where
           let w = suc-mul k (subLengthIn b) in
           (e .0, omega arith)
 
-      pub sub-at : k < n → n < 256 → SubLooking t b k (At r)
+      -- what is known where it stands, by the span that the code made
+      there : {s : Span} → ByAnyRow b k s → k < countIn b → k < 256 → SubFine t b k r s
+      there {s} p j small =
+          let e = p (blockOf t r) in
+          record {
+            inside = passed .inside;
+            long = passed .long;
+            few = small;
+            stands = e;
+            within = subst (λ (x : Span). x .at + x .size ≤ length b) (sym e) (inner j .1);
+            fields = subst (λ (x : Span). every (endsBy (revisionIn b) (x .size)) (blockOf t r .subs) ≡ true) (sym e) (inner j .0);
+          }
+
+      pub sub-at : k < n → n < 256 → {s : Span} → ByAnyRow b k s → SubLooking t b k (sub.At r s)
       unfolding seenSubRow blockOf
-      sub-at i s =
+      sub-at i z p =
           let j : k < countIn b = omega arith in
           record {
             is = sym (sub-seen ∙ rw (length-tab (fieldAt t) (r .start + r .bodies) (r .subs), ne-eqb (r .subs) 0 some-subs, lt-ltb k (countIn b) j));
-            fine = record { inside = passed .inside; long = passed .long; within = inner j .1; few = omega arith; fields = inner j .0 };
+            fine = there p j (omega arith);
           }

@@ -16,8 +16,11 @@ use Rattle.table.specs.Rows.{BlockRow, Table, ends}
 use Rattle.rows.specs.Places.{fieldCount}
 use Rattle.table.specs.Decode.{blockOf, decode}
 use Rattle.table.specs.Lookup.{carried, findRow}
+use Rattle.block.specs.declared.Span.{Span}
 use Rattle.block.specs.declared.Looked.{Looked}
 use Rattle.block.specs.declared.Looked.the-variants as looked
+use Rattle.block.specs.declared.SubLooked.{SubLooked}
+use Rattle.block.specs.declared.SubLooked.the-variants as subLooked
 
 -- "The low thirteen bits of the ID are the block number, the top three its revision."
 abbrev pub numberIn : List ℕ → ℕ
@@ -48,12 +51,17 @@ bodyFits b r = leb 14 (lengthIn b) && every (endsBy (revisionIn b) (lengthIn b))
 abbrev pub hasSubs : BlockRow → Bool
 hasSubs r = not (eqb (length (r .subs)) 0)
 
+-- where sub-block k of a block stands, by the block's row: "the sub-blocks begin at 16", each of SBLength bytes. A Span is `at`, where it
+-- starts in the block, and `size`
+abbrev pub subSpan : BlockRow → List ℕ → ℕ → Span
+subSpan r b k = record { at = 16 + k * subLengthIn b; size = subLengthIn b }
+
 -- refusal 8 is given where this fails: "the block's row has sub-fields, and either N is over 0 and a carried sub-field ends past SBLength,
--- or 16 + N x SBLength is over L"
+-- or 16 + N x SBLength is over L": N sub-blocks end where one more would start
 unfoldable pub subsFit : List ℕ → BlockRow → Bool
 subsFit b r =
     not (hasSubs r)
-    || (eqb (countIn b) 0 || every (endsBy (revisionIn b) (subLengthIn b)) (r .subs)) && leb (16 + countIn b * subLengthIn b) (lengthIn b)
+    || (eqb (countIn b) 0 || every (endsBy (revisionIn b) (subLengthIn b)) (r .subs)) && leb (subSpan r b (countIn b) .at) (lengthIn b)
 
 -- the row that a block is read by, or the number of a refusal
 pub data Seen : Type 0 where
@@ -86,6 +94,10 @@ abbrev pub meant : List ℕ → Looked → Seen
 meant t (looked.At r) = row (blockOf t r)
 meant t (looked.Refused x) = refusedBy (numberFor x)
 
+abbrev pub subMeant : List ℕ → SubLooked → Seen
+subMeant t (subLooked.At r s) = row (blockOf t r)
+subMeant t (subLooked.Refused x) = refusedBy (numberFor x)
+
 -- what a caller may use of a row that was found: its field rows are there, N and SBLength too, and the block passed
 pub record Fine (t b : List ℕ) (r : Row) : Type 0 where
   pub inside : r .start + r .bodies + r .subs ≤ fieldCount t
@@ -97,27 +109,23 @@ abbrev pub FineIfAny : List ℕ → List ℕ → Looked → Type 0
 FineIfAny t b (looked.At r) = Fine t b r
 FineIfAny t b (looked.Refused x) = Unit
 
--- of a row whose block is a whole frame: what refusals 7 and 8 make of it
-pub record Judging (t b : List ℕ) (r : Row) (l : Looked) : Type 0 where
-  pub is : meant t l ≡ seenRow b (some (blockOf t r))
-  pub fine : FineIfAny t b l
-
 pub record Looking (t b : List ℕ) (l : Looked) : Type 0 where
   pub is : meant t l ≡ seen (decode t) b
   pub fine : FineIfAny t b l
 
--- of a sub-block that is there: it lies in the block, and its carried fields lie in it
-pub record SubFine (t b : List ℕ) (k : ℕ) (r : Row) : Type 0 where
+-- of a sub-block that is there: where it stands, in the block, and its carried fields lie in it
+pub record SubFine (t b : List ℕ) (k : ℕ) (r : Row) (s : Span) : Type 0 where
   pub inside : r .start + r .bodies + r .subs ≤ fieldCount t
   pub long : 16 ≤ length b
-  pub within : 16 + k * subLengthIn b + subLengthIn b ≤ length b
   pub few : k < 256
-  pub fields : every (endsBy (revisionIn b) (subLengthIn b)) (blockOf t r .subs) ≡ true
+  pub stands : s ≡ subSpan (blockOf t r) b k
+  pub within : s .at + s .size ≤ length b
+  pub fields : every (endsBy (revisionIn b) (s .size)) (blockOf t r .subs) ≡ true
 
-abbrev pub SubFineIfAny : List ℕ → List ℕ → ℕ → Looked → Type 0
-SubFineIfAny t b k (looked.At r) = SubFine t b k r
-SubFineIfAny t b k (looked.Refused x) = Unit
+abbrev pub SubFineIfAny : List ℕ → List ℕ → ℕ → SubLooked → Type 0
+SubFineIfAny t b k (subLooked.At r s) = SubFine t b k r s
+SubFineIfAny t b k (subLooked.Refused x) = Unit
 
-pub record SubLooking (t b : List ℕ) (k : ℕ) (l : Looked) : Type 0 where
-  pub is : meant t l ≡ seenSub (decode t) b k
+pub record SubLooking (t b : List ℕ) (k : ℕ) (l : SubLooked) : Type 0 where
+  pub is : subMeant t l ≡ seenSub (decode t) b k
   pub fine : SubFineIfAny t b k l

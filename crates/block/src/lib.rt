@@ -7,7 +7,8 @@ ghost use Rattle.table.specs.Lists.{tabulate, every};
 ghost use Rattle.rows.specs.Places.{fieldCount, fieldAt};
 ghost use Rattle.table.specs.Decode.{blockOf};
 ghost use Rattle.table.specs.Rules.{tableOk};
-ghost use Rattle.block.specs.Block.{numberIn, revisionIn, endsBy, bodyFits, subsFit, Judging, Looking, SubLooking};
+ghost use Rattle.block.specs.Block.{numberIn, revisionIn, endsBy, bodyFits, subsFit, Looking, SubLooking};
+ghost use Rattle.block.specs.Code.{Judging, ByAnyRow};
 ghost use Rattle.frame.specs.Frame.{wholeFrame};
 use refusal::Refusal;
 use rows::FieldRow;
@@ -17,6 +18,18 @@ use table::Found;
 // The row that a block is read by, or why it is refused.
 pub enum Looked {
     At(Row),
+    Refused(Refusal),
+}
+
+// Where a part of a block stands: it starts at `at` and has `size` bytes.
+pub struct Span {
+    pub at: usize,
+    pub size: usize,
+}
+
+// The row that a sub-block is read by and where it stands, or why it is refused.
+pub enum SubLooked {
+    At(Row, Span),
     Refused(Refusal),
 }
 
@@ -40,7 +53,7 @@ fn ends_by(f: FieldRow, revision: u8, n: usize) -> bool
     requires { ⌜ f .offset < 65536 ⌝ }
     ensures { λ r. ⌜ r ≡ endsBy revision n f ⌝ }
 {
-    let end = f.offset + rows::size(f.kind);
+    let end = f.offset + kinds::size(f.kind);
     !(f.first <= revision) | (end <= n)
 }
 
@@ -72,6 +85,17 @@ fn body_fits(t: &[u8], row: Row, block: &[u8]) -> bool
     (14 <= block.len()) & all
 }
 
+// Where sub-block k of a block stands.
+fn sub_span(block: &[u8], k: usize) -> Span
+    requires { ⌜ (k < 256) × (16 ≤ length (now block)) ⌝ }
+    ensures { λ s. ⌜ ByAnyRow (now (block .entry)) k s ⌝ }
+{
+    let length = block[15];
+    let size = rows::wide(length);
+    let at = 16 + k * size;
+    Span { at, size }
+}
+
 // Refusal 8 is given where this fails.
 fn subs_fit(t: &[u8], row: Row, block: &[u8]) -> bool
     requires { ⌜ (16 ≤ length (now block)) × (row .start + row .bodies + row .subs ≤ fieldCount (now t)) ⌝ }
@@ -83,9 +107,9 @@ fn subs_fit(t: &[u8], row: Row, block: &[u8]) -> bool
     }
     let at = row.start + row.bodies;
     let count = rows::wide(block[14]);
-    let size = rows::wide(block[15]);
-    let all = all_end(t, at, m, revision(block), size);
-    ((count == 0) | all) & (16 + count * size <= block.len())
+    let end = sub_span(block, count);
+    let all = all_end(t, at, m, revision(block), end.size);
+    ((count == 0) | all) & (end.at <= block.len())
 }
 
 // Refusals 7 and 8, in this order.
@@ -116,8 +140,8 @@ pub fn row_of(t: &[u8], block: &[u8]) -> Looked
     }
 }
 
-// The same for sub-block k, with refusal 9 after them.
-pub fn sub_row_of(t: &[u8], block: &[u8], k: usize) -> Looked
+// The same for sub-block k and where it stands, with refusal 9 after them.
+pub fn sub_row_of(t: &[u8], block: &[u8], k: usize) -> SubLooked
     requires { ⌜ tableOk (now t) ≡ true ⌝ }
     ensures { λ l. ⌜ SubLooking (now (t .entry)) (now (block .entry)) k l ⌝ }
 {
@@ -125,13 +149,13 @@ pub fn sub_row_of(t: &[u8], block: &[u8], k: usize) -> Looked
         Looked::At(row) => {
             let m = row.subs;
             if m == 0 {
-                return Looked::Refused(Refusal::NoSuchField);
+                return SubLooked::Refused(Refusal::NoSuchField);
             }
             if rows::wide(block[14]) <= k {
-                return Looked::Refused(Refusal::NoSuchField);
+                return SubLooked::Refused(Refusal::NoSuchField);
             }
-            Looked::At(row)
+            SubLooked::At(row, sub_span(block, k))
         }
-        Looked::Refused(x) => Looked::Refused(x),
+        Looked::Refused(x) => SubLooked::Refused(x),
     }
 }

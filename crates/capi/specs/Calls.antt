@@ -1,18 +1,17 @@
 -- What each exported call answers and leaves: the reader's outcome as C has it, and refusal 1 for a state whose phase is none.
 -- Assumes nothing.
-use Prim.Native.Nat.{ℕ, _+_, _*_}
+use Prim.Native.Nat.{ℕ}
 use mathlib.Core.List.{List, []}
 use mathlib.Core.Option.{Option, none, some}
 use lib.ListN.{length, take, drop}
 use Rattle.record.specs.Answer as field
-use Rattle.block.specs.Block.{subLengthIn}
 use Rattle.reader.specs.declared.State.{State}
 use Rattle.reader.specs.Said.{Said, refused}
 use Rattle.runs.specs.Refusals.{bytesRefusal}
 use Rattle.reader.specs.Outcome.{Outcome}
 use Rattle.tables.specs.Calls.{openOf, stageOf, withdrawOf}
 use Rattle.runs.specs.Calls.{feedOf, finishOf, bytesOf}
-use Rattle.records.specs.Calls.{bodyOf, subOf, subBytesOf, subBytesRefusal, towOf, wncOf}
+use Rattle.records.specs.Calls.{bodyOf, subOf, subBytesOf, subPlaceOf, subBytesRefusal, towOf, wncOf}
 use Rattle.cform.specs.declared.CState.{CState}
 use Rattle.cform.specs.declared.CReply.{CReply}
 use Rattle.cform.specs.declared.CField.{CField}
@@ -84,14 +83,14 @@ abbrev pub handing : CPart → List ℕ → Handing
 handing p buffer = record { part = p; bytes = cut p buffer }
 
 -- a call that hands back so many bytes from an offset, or is refused
-abbrev pub hands : (State → Option ℕ) → ℕ → (State → List ℕ) → Option State → Handing
+abbrev pub hands : (State → Option ℕ) → (State → ℕ) → (State → List ℕ) → Option State → Handing
 hands refusal offset bytes none = record { part = partC (some 1) 0 0; bytes = [] }
-hands refusal offset bytes (some t) = record { part = partC (refusal t) offset (length (bytes t)); bytes = bytes t }
+hands refusal offset bytes (some t) = record { part = partC (refusal t) (offset t) (length (bytes t)); bytes = bytes t }
 
 unfoldable pub bytesC : CState → List ℕ → Handing
-bytesC s hold = hands (λ t. bytesRefusal t hold) 0 (λ t. bytesOf t hold) (stateOf s)
+bytesC s hold = hands (λ t. bytesRefusal t hold) (λ t. 0) (λ t. bytesOf t hold) (stateOf s)
 
--- "the slice from 16 + k x SBLength"
+-- "a part that starts inside the block": where the sub-block stands
 unfoldable pub subBytesC : CState → List ℕ → List ℕ → ℕ → Handing
 subBytesC s force block k =
-    hands (λ t. subBytesRefusal t force block k) (16 + k * subLengthIn block) (λ t. subBytesOf t force block k) (stateOf s)
+    hands (λ t. subBytesRefusal t force block k) (λ t. subPlaceOf t force block k .at) (λ t. subBytesOf t force block k) (stateOf s)

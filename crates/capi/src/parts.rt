@@ -29,17 +29,15 @@ pub extern "C" fn alderflute_subbytes(s: CState, in_force: &[u8], block: &[u8], 
     ensures { λ r. ⌜ handing r (now (block .entry)) ≡ subBytesC s (now («in_force» .entry)) (now (block .entry)) k ⌝ }
 {
     let t = cform::states::state_of(s);
-    let h = records::sub_bytes_refused(t, in_force, block, k);
+    let p = records::sub_place(t, in_force, block, k);
+    let h = p.handed;
+    let span = p.span;
     match h {
         Handed::Refused(x) => cform::parts::no_part(x),
-        Handed::Given => {
-            let size = rows::wide(block[15]);
-            let offset = 16 + k * size;
-            CPart {
-                refusal: 0,
-                offset,
-                length: size,
-            }
-        }
+        Handed::Given => CPart {
+            refusal: 0,
+            offset: span.at,
+            length: span.size,
+        },
     }
 }

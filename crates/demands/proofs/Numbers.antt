@@ -14,9 +14,11 @@ use Rattle.table.specs.Lists.{pick}
 use Rattle.table.specs.Lookup.{carried, findRow}
 use Rattle.table.specs.Rows.{BlockRow, Table}
 use Rattle.record.specs.Answer.{Said, doNotUse, notInRevision, refused}
-use Rattle.value.specs.Bits.{readAs, isDoNotUse, valueOf, fieldValue}
+use Rattle.kinds.specs.Marks.{isDoNotUse}
+use Rattle.value.specs.Bits.{readAs, valueOf, fieldValue}
 use Rattle.block.specs.Block.{revisionIn, subCount, bodyFits, subsFit, Seen, refusedBy, row, seenRow, seen, seenSubRow}
-use Rattle.record.specs.Calls.{fieldSaid, fieldOr9, bodyBy, subBytes, subBy, numberBy, stamp}
+use Rattle.record.specs.Calls.{fieldSaid, fieldOr9, bodyBy, subBy, numberBy, stamp}
+use Rattle.record.proofs.Parts.{bytesByAny as subBytes}
 use Rattle.reader.specs.Refusals.{need}
 use Rattle.records.specs.Calls.{saidUnless, firstOf}
 use Rattle.demands.specs.World.{fieldRefusal}

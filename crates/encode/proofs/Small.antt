@@ -13,13 +13,13 @@ use Rattle.crc.specs.Crc.{crcByte, crcFrom, crcOf}
 use Rattle.crc.proofs.Linear.{bits8-lt}
 use Rattle.rows.specs.declared.FieldRow.{FieldRow}
 use Rattle.table.specs.Lists.{every, neighbours}
-use Rattle.table.specs.Marks.{markFits}
+use Rattle.kinds.specs.Marks.{markFits}
 use Rattle.table.specs.Rows.{BlockRow, Table}
 use Rattle.table.specs.Rules.{numberOk, highestOk, offsetOk, apart, steady, firstOk, typeOk, markOk, fieldsOk, blockOk}
 use Rattle.encode.specs.Encode.{two, fieldBytes, fieldsPart, rowsPart, unsealed, encode}
 use Rattle.encode.specs.Fits.{fieldRows, countFits, offsetFits, blockFits}
 use Rattle.table.proofs.Bools.{both, join}
-use Rattle.table.proofs.Marks.{mark-none}
+use Rattle.kinds.proofs.Marks.{mark-none}
 use Rattle.table.proofs.Passed.{Meaning}
 use Rattle.encode.proofs.Room.{Room}
 use Rattle.encode.proofs.File.{length-rows}

@@ -8,6 +8,8 @@ use Prim.Native.Nat.{ℕ}
 use Prim.Native.String.{String}
 use lib.ListN.{set, take, drop}
 use Rattle.crc.specs.Crc.{crcOf}
+use Rattle.kinds.specs.Types.{u1, u2, u4, u8, i1, i8, f4, f8}
+use Rattle.kinds.specs.Marks.{unmarked, ones, zeroes, minus2e10, least}
 use Rattle.rows.specs.declared.FieldRow.{FieldRow}
 use Rattle.table.specs.Rows.{BlockRow, Table}
 use Rattle.encode.specs.Encode.{two, unsealed, encode}
@@ -40,7 +42,7 @@ abbrev body : List FieldRow → List BlockRow
 body fs = block 1 3 fs [] ∷ []
 
 abbrev subs : List FieldRow → List BlockRow
-subs fs = block 1 3 (field 14 1 0 0 ∷ field 15 1 0 0 ∷ []) fs ∷ []
+subs fs = block 1 3 (field 14 u1 0 unmarked ∷ field 15 u1 0 unmarked ∷ []) fs ∷ []
 
 -- a type and a mark
 abbrev bears : ℕ → ℕ → List BlockRow
@@ -57,48 +59,48 @@ rows =
     ∷ bad "numbers falling" (block 2 0 [] [] ∷ block 1 0 [] [] ∷ [])
     ∷ ok "highest 7" (block 1 7 [] [] ∷ [])
     ∷ bad "highest 8" (block 1 8 [] [] ∷ [])
-    ∷ ok "two blocks with fields" (block 1 0 (field 14 3 0 0 ∷ []) [] ∷ block 2 0 (field 14 3 0 0 ∷ []) [] ∷ [])
+    ∷ ok "two blocks with fields" (block 1 0 (field 14 u4 0 unmarked ∷ []) [] ∷ block 2 0 (field 14 u4 0 unmarked ∷ []) [] ∷ [])
     ∷ []
 
 abbrev fields : List Case
 fields =
-    bad "a body offset of 13" (body (field 13 1 0 0 ∷ []))
-    ∷ ok "a body offset of 255" (body (field 255 10 0 0 ∷ []))
-    ∷ ok "a field where the previous one ends" (body (field 14 2 0 0 ∷ field 16 1 0 0 ∷ []))
-    ∷ bad "a field before the previous one ends" (body (field 14 2 0 0 ∷ field 15 1 0 0 ∷ []))
-    ∷ ok "a gap" (body (field 20 2 0 0 ∷ field 30 1 0 0 ∷ []))
-    ∷ ok "first revisions rising to the highest" (body (field 14 1 0 0 ∷ field 15 1 3 0 ∷ field 16 1 3 0 ∷ []))
-    ∷ bad "a first revision above the highest" (body (field 14 1 4 0 ∷ []))
-    ∷ bad "first revisions falling" (body (field 14 1 1 0 ∷ field 15 1 0 0 ∷ []))
-    ∷ ok "sub-fields from 0" (subs (field 0 10 0 0 ∷ field 8 1 1 0 ∷ []))
-    ∷ bad "sub-fields that overlap" (subs (field 0 10 0 0 ∷ field 7 1 0 0 ∷ []))
-    ∷ bad "first revisions of sub-fields falling" (subs (field 0 1 1 0 ∷ field 1 1 0 0 ∷ []))
-    ∷ bad "sub-fields without N and SBLength" (block 1 0 [] (field 0 1 0 0 ∷ []) ∷ [])
-    ∷ bad "N alone" (block 1 0 (field 14 1 0 0 ∷ []) (field 0 1 0 0 ∷ []) ∷ [])
-    ∷ bad "N, SBLength and one more" (block 1 0 (field 14 1 0 0 ∷ field 15 1 0 0 ∷ field 16 1 0 0 ∷ []) (field 0 1 0 0 ∷ []) ∷ [])
-    ∷ bad "N with a mark" (block 1 0 (field 14 1 0 1 ∷ field 15 1 0 0 ∷ []) (field 0 1 0 0 ∷ []) ∷ [])
-    ∷ bad "SBLength of type i1" (block 1 0 (field 14 1 0 0 ∷ field 15 5 0 0 ∷ []) (field 0 1 0 0 ∷ []) ∷ [])
-    ∷ bad "SBLength at 16" (block 1 0 (field 14 1 0 0 ∷ field 16 1 0 0 ∷ []) (field 0 1 0 0 ∷ []) ∷ [])
-    ∷ bad "SBLength from revision 1" (block 1 1 (field 14 1 0 0 ∷ field 15 1 1 0 ∷ []) (field 0 1 0 0 ∷ []) ∷ [])
+    bad "a body offset of 13" (body (field 13 u1 0 unmarked ∷ []))
+    ∷ ok "a body offset of 255" (body (field 255 f8 0 unmarked ∷ []))
+    ∷ ok "a field where the previous one ends" (body (field 14 u2 0 unmarked ∷ field 16 u1 0 unmarked ∷ []))
+    ∷ bad "a field before the previous one ends" (body (field 14 u2 0 unmarked ∷ field 15 u1 0 unmarked ∷ []))
+    ∷ ok "a gap" (body (field 20 u2 0 unmarked ∷ field 30 u1 0 unmarked ∷ []))
+    ∷ ok "first revisions rising to the highest" (body (field 14 u1 0 unmarked ∷ field 15 u1 3 unmarked ∷ field 16 u1 3 unmarked ∷ []))
+    ∷ bad "a first revision above the highest" (body (field 14 u1 4 unmarked ∷ []))
+    ∷ bad "first revisions falling" (body (field 14 u1 1 unmarked ∷ field 15 u1 0 unmarked ∷ []))
+    ∷ ok "sub-fields from 0" (subs (field 0 f8 0 unmarked ∷ field 8 u1 1 unmarked ∷ []))
+    ∷ bad "sub-fields that overlap" (subs (field 0 f8 0 unmarked ∷ field 7 u1 0 unmarked ∷ []))
+    ∷ bad "first revisions of sub-fields falling" (subs (field 0 u1 1 unmarked ∷ field 1 u1 0 unmarked ∷ []))
+    ∷ bad "sub-fields without N and SBLength" (block 1 0 [] (field 0 u1 0 unmarked ∷ []) ∷ [])
+    ∷ bad "N alone" (block 1 0 (field 14 u1 0 unmarked ∷ []) (field 0 u1 0 unmarked ∷ []) ∷ [])
+    ∷ bad "N, SBLength and one more" (block 1 0 (field 14 u1 0 unmarked ∷ field 15 u1 0 unmarked ∷ field 16 u1 0 unmarked ∷ []) (field 0 u1 0 unmarked ∷ []) ∷ [])
+    ∷ bad "N with a mark" (block 1 0 (field 14 u1 0 ones ∷ field 15 u1 0 unmarked ∷ []) (field 0 u1 0 unmarked ∷ []) ∷ [])
+    ∷ bad "SBLength of type i1" (block 1 0 (field 14 u1 0 unmarked ∷ field 15 i1 0 unmarked ∷ []) (field 0 u1 0 unmarked ∷ []) ∷ [])
+    ∷ bad "SBLength at 16" (block 1 0 (field 14 u1 0 unmarked ∷ field 16 u1 0 unmarked ∷ []) (field 0 u1 0 unmarked ∷ []) ∷ [])
+    ∷ bad "SBLength from revision 1" (block 1 1 (field 14 u1 0 unmarked ∷ field 15 u1 1 unmarked ∷ []) (field 0 u1 0 unmarked ∷ []) ∷ [])
     ∷ []
 
 abbrev marks : List Case
 marks =
-    bad "type 0" (bears 0 0)
-    ∷ ok "type 10" (bears 10 0)
-    ∷ bad "type 11" (bears 11 0)
-    ∷ ok "mark 1 on u8" (bears 4 1)
-    ∷ ok "mark 2 on u1" (bears 1 2)
-    ∷ ok "mark 3 on f4" (bears 9 3)
-    ∷ ok "mark 4 on i1" (bears 5 4)
-    ∷ ok "mark 4 on i8" (bears 8 4)
-    ∷ bad "mark 1 on i1" (bears 5 1)
-    ∷ bad "mark 2 on f8" (bears 10 2)
-    ∷ bad "mark 3 on i8" (bears 8 3)
-    ∷ bad "mark 3 on u8" (bears 4 3)
-    ∷ bad "mark 4 on u8" (bears 4 4)
-    ∷ bad "mark 4 on f4" (bears 9 4)
-    ∷ bad "mark 5 on u2" (bears 2 5)
+    bad "type 0" (bears 0 unmarked)
+    ∷ ok "type 10" (bears f8 unmarked)
+    ∷ bad "type 11" (bears 11 unmarked)
+    ∷ ok "mark 1 on u8" (bears u8 ones)
+    ∷ ok "mark 2 on u1" (bears u1 zeroes)
+    ∷ ok "mark 3 on f4" (bears f4 minus2e10)
+    ∷ ok "mark 4 on i1" (bears i1 least)
+    ∷ ok "mark 4 on i8" (bears i8 least)
+    ∷ bad "mark 1 on i1" (bears i1 ones)
+    ∷ bad "mark 2 on f8" (bears f8 zeroes)
+    ∷ bad "mark 3 on i8" (bears i8 minus2e10)
+    ∷ bad "mark 3 on u8" (bears u8 minus2e10)
+    ∷ bad "mark 4 on u8" (bears u8 least)
+    ∷ bad "mark 4 on f4" (bears f4 least)
+    ∷ bad "mark 5 on u2" (bears u2 5)
     ∷ []
 
 -- bytes before the CRC, closed with the right one
@@ -107,7 +109,7 @@ closed bs = bs ++ (two (crcOf bs) ++ (0x42 ∷ 0x54 ∷ []))
 
 -- a file of 32 bytes: a field row at 0, block rows at 4 and 12, the trailer at 20
 abbrev small : Table
-small = table (block 1 0 (field 14 1 0 0 ∷ []) [] ∷ block 2 0 [] [] ∷ [])
+small = table (block 1 0 (field 14 u1 0 unmarked ∷ []) [] ∷ block 2 0 [] [] ∷ [])
 
 -- that file with another byte, and the right CRC
 abbrev other : String → ℕ → ℕ → Case
@@ -118,7 +120,7 @@ files =
     record { name = "the small file"; bytes = closed (unsealed small); passes = true }
     ∷ other "a block row that ends in no zero byte" 11 1
     ∷ other "a first index that is not the sum" 16 0
-    ∷ record { name = "counts that leave a field row"; bytes = closed (set (unsealed (table (body (field 14 1 0 0 ∷ [])))) 7 0); passes = false }
+    ∷ record { name = "counts that leave a field row"; bytes = closed (set (unsealed (table (body (field 14 u1 0 unmarked ∷ [])))) 7 0); passes = false }
     ∷ other "counts beyond the field rows" 15 1
     ∷ other "a count that is not R" 22 1
     ∷ other "another distance to the block rows" 24 29

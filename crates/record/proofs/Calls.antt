@@ -1,9 +1,9 @@
 -- What each call answers, by the row or the refusal that the block came to.
 -- Assumes nothing.
 use mathlib.Core.Path.{_≡_, refl, sym, ap, _∙_, subst}
-use mathlib.Core.List.{List, []}
+use mathlib.Core.List.{List}
 use mathlib.Core.Bool.{true}
-use Prim.Native.Nat.{ℕ, _+_, _-_, _<_, _≤_}
+use Prim.Native.Nat.{ℕ, _+_, _<_, _≤_}
 use lib.ListN.{length}
 use lib.Dec.{leb}
 use Rattle.refusal.specs.declared.Refusal.{Refusal}
@@ -22,10 +22,13 @@ use Rattle.record.specs.declared.Answer.the-variants as answer
 use Rattle.record.specs.declared.Handed.the-variants as handed
 use Rattle.block.specs.declared.Looked.{Looked}
 use Rattle.block.specs.declared.Looked.the-variants as looked
+use Rattle.block.specs.declared.Span.{Span}
+use Rattle.block.specs.declared.SubLooked.{SubLooked}
+use Rattle.block.specs.declared.SubLooked.the-variants as sub
 use Rattle.value.specs.Said.{refused}
 use Rattle.record.specs.Answer.{Answers, handedSays}
-use Rattle.block.specs.Block.{revisionIn, subLengthIn, endsBy, bodyFits, meant, Looking, SubFine, SubFineIfAny, SubLooking}
-use Rattle.record.specs.Calls.{fieldSaid, fieldOr9, bodyBy, bodyField, subBytes, subBy, subField, partBy, subBlock, numberBy, subBlockRefusal}
+use Rattle.block.specs.Block.{revisionIn, endsBy, bodyFits, meant, subMeant, Looking, SubFine, SubFineIfAny, SubLooking}
+use Rattle.record.specs.Calls.{fieldSaid, fieldOr9, bodyBy, bodyField, subBytes, subBy, subField, nowhere, placeBy, subPlace, numberBy, subBlockRefusal}
 use Rattle.record.proofs.Fields.{same}
 use Rattle.block.proofs.Blocks.{fine-at}
 
@@ -64,47 +67,49 @@ module _ (t b : List ℕ) {l : Looked} (d : Looking t b l) (i : ℕ) where
     body-ends g e u =
         rw (e, u) (every-at (fieldAt t) (endsBy (revisionIn b) (length b)) (r .start) (r .bodies) i (both (leb 14 (length b)) _ (fine-at t b d h .body) .1) g)
 
-pub sub-fine : (t b : List ℕ) (k : ℕ) {l : Looked} {r : Row} → SubLooking t b k l → l ≡ looked.At r → SubFine t b k r
+pub sub-fine : (t b : List ℕ) (k : ℕ) {l : SubLooked} {r : Row} {p : Span} → SubLooking t b k l → l ≡ sub.At r p → SubFine t b k r p
 sub-fine t b k d h = subst (SubFineIfAny t b k) h (d .fine)
 
-module _ (t b : List ℕ) (k : ℕ) {l : Looked} (d : SubLooking t b k l) where
-  pub part-refused : {x : Refusal} → l ≡ looked.Refused x → [] ≡ subBlock (decode t) b k
-  unfolding subBlock
-  part-refused h = ap (partBy b k) (sym (ap (meant t) h) ∙ d .is)
+module _ (t b : List ℕ) (k : ℕ) {l : SubLooked} (d : SubLooking t b k l) where
+  pub place-refused : {x : Refusal} → l ≡ sub.Refused x → nowhere ≡ subPlace (decode t) b k
+  unfolding subPlace
+  place-refused h = ap (placeBy b k) (sym (ap (subMeant t) h) ∙ d .is)
 
-  pub part-given : {r : Row} {s : List ℕ} → l ≡ looked.At r → s ≡ subBytes b k → s ≡ subBlock (decode t) b k
-  unfolding subBlock
-  part-given h e = e ∙ ap (partBy b k) (sym (ap (meant t) h) ∙ d .is)
+  pub place-given : {r : Row} {p : Span} → l ≡ sub.At r p → p ≡ subPlace (decode t) b k
+  unfolding subPlace
+  place-given h = sub-fine t b k d h .stands ∙ ap (placeBy b k) (sym (ap (subMeant t) h) ∙ d .is)
 
-  pub twin-refused : {x : Refusal} → l ≡ looked.Refused x → handedSays (handed.Refused x) ≡ subBlockRefusal (decode t) b k
+  pub twin-refused : {x : Refusal} → l ≡ sub.Refused x → handedSays (handed.Refused x) ≡ subBlockRefusal (decode t) b k
   unfolding subBlockRefusal
-  twin-refused h = ap numberBy (sym (ap (meant t) h) ∙ d .is)
+  twin-refused h = ap numberBy (sym (ap (subMeant t) h) ∙ d .is)
 
-  pub twin-given : {r : Row} → l ≡ looked.At r → handedSays handed.Given ≡ subBlockRefusal (decode t) b k
+  pub twin-given : {r : Row} {p : Span} → l ≡ sub.At r p → handedSays handed.Given ≡ subBlockRefusal (decode t) b k
   unfolding subBlockRefusal
-  twin-given h = ap numberBy (sym (ap (meant t) h) ∙ d .is)
+  twin-given h = ap numberBy (sym (ap (subMeant t) h) ∙ d .is)
 
-  pub sub-refused : (j : ℕ) {x : Refusal} → l ≡ looked.Refused x → Answers (answer.Refused x) (subField (decode t) b k j)
+  pub sub-refused : (j : ℕ) {x : Refusal} → l ≡ sub.Refused x → Answers (answer.Refused x) (subField (decode t) b k j)
   unfolding subField
-  sub-refused j {x} h = same (ap (subBy b k j) (sym (ap (meant t) h) ∙ d .is)) (refuses x)
+  sub-refused j {x} h = same (ap (subBy b k j) (sym (ap (subMeant t) h) ∙ d .is)) (refuses x)
 
-  module _ (r : Row) (h : l ≡ looked.At r) where
+  module _ (r : Row) (p : Span) (h : l ≡ sub.At r p) where
     module _ (j : ℕ) where
-      by-sub-row : fieldOr9 (revisionIn b) (subBytes b k) (pick (blockOf t r .subs) j) ≡ subField (decode t) b k j
+      by-sub-row : fieldOr9 (revisionIn b) (subBytes b p) (pick (blockOf t r .subs) j) ≡ subField (decode t) b k j
       unfolding subField
-      by-sub-row = ap (subBy b k j) (sym (ap (meant t) h) ∙ d .is)
+      by-sub-row =
+          ap (λ (x : Span). fieldOr9 (revisionIn b) (subBytes b x) (pick (blockOf t r .subs) j)) (sub-fine t b k d h .stands)
+          ∙ ap (subBy b k j) (sym (ap (subMeant t) h) ∙ d .is)
 
       pub sub-9 : r .subs ≤ j → Answers (answer.Refused NoSuchField) (subField (decode t) b k j)
       unfolding blockOf
-      sub-9 g = same by-sub-row (none-there (fieldAt t) (r .start + r .bodies) (r .subs) j (revisionIn b) (subBytes b k) g)
+      sub-9 g = same by-sub-row (none-there (fieldAt t) (r .start + r .bodies) (r .subs) j (revisionIn b) (subBytes b p) g)
 
-      pub sub-says : j < r .subs → {f : FieldRow} {v : ℕ} {s : List ℕ} {a : Answer} → f ≡ fieldAt t (r .start + r .bodies + j) → v ≡ revisionIn b → s ≡ subBytes b k
+      pub sub-says : j < r .subs → {f : FieldRow} {v : ℕ} {s : List ℕ} {a : Answer} → f ≡ fieldAt t (r .start + r .bodies + j) → v ≡ revisionIn b → s ≡ subBytes b p
           → Answers a (fieldSaid v s f) → Answers a (subField (decode t) b k j)
       unfolding blockOf
-      sub-says g e u p w =
-          same by-sub-row (one-there (fieldAt t) (r .start + r .bodies) (r .subs) j (revisionIn b) (subBytes b k) g (rw (e, u, p) at w))
+      sub-says g e u q w =
+          same by-sub-row (one-there (fieldAt t) (r .start + r .bodies) (r .subs) j (revisionIn b) (subBytes b p) g (rw (e, u, q) at w))
 
-      pub sub-ends : j < r .subs → {f : FieldRow} {v n : ℕ} → f ≡ fieldAt t (r .start + r .bodies + j) → v ≡ revisionIn b → n ≡ subLengthIn b → endsBy v n f ≡ true
+      pub sub-ends : j < r .subs → {f : FieldRow} {v n : ℕ} → f ≡ fieldAt t (r .start + r .bodies + j) → v ≡ revisionIn b → n ≡ p .size → endsBy v n f ≡ true
       unfolding blockOf
-      sub-ends g e u p =
-          rw (e, u, p) (every-at (fieldAt t) (endsBy (revisionIn b) (subLengthIn b)) (r .start + r .bodies) (r .subs) j (sub-fine t b k d h .fields) g)
+      sub-ends g e u q =
+          rw (e, u, q) (every-at (fieldAt t) (endsBy (revisionIn b) (p .size)) (r .start + r .bodies) (r .subs) j (sub-fine t b k d h .fields) g)

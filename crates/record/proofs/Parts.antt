@@ -1,23 +1,40 @@
 -- The part of a block that the code takes is the sub-block.
 -- Assumes nothing.
-use mathlib.Core.Path.{_≡_, _∙_}
-use mathlib.Core.List.{List}
-use Prim.Native.Nat.{ℕ, _+_, _-_, _*_, _≤_}
+use mathlib.Core.Path.{_≡_, refl, ap, _∙_}
+use mathlib.Core.List.{List, []}
+use Prim.Native.Nat.{ℕ, _+_, _-_, _≤_}
 use native.Mathlib.Omega.{arith}
 use lib.ListN.{length, take, drop, length-drop}
 use lib.Seq.{length-take-le}
-use Rattle.block.specs.Block.{subLengthIn}
-use Rattle.record.specs.Calls.{subBytes}
+use Rattle.table.specs.Rows.{Table}
+use Rattle.block.specs.declared.Span.{Span}
+use Rattle.block.specs.Block.{subSpan, Seen, refusedBy, row, seenSub}
+use Rattle.record.specs.Calls.{subBytes, partBy, placeBy, subBlock, subPlace}
 
-module _ (b : List ℕ) (k m : ℕ) (e : m ≡ subLengthIn b) (h : 16 + k * subLengthIn b + subLengthIn b ≤ length b) where
-  pub lies : 16 + k * m + m ≤ length b
-  lies = rw e h
+module _ (b : List ℕ) (s : Span) (h : s .at + s .size ≤ length b) where
+  end : s .at + s .size - s .at ≡ s .size
+  end = omega arith
 
-  pub part-is : (take (16 + k * m + m - (16 + k * m)) (drop (16 + k * m) b) ≡ subBytes b k)
-      × (length (take (16 + k * m + m - (16 + k * m)) (drop (16 + k * m) b)) ≡ subLengthIn b)
+  pub part-long : length (subBytes b s) ≡ s .size
+  unfolding subBytes
+  part-long = let l : s .size ≤ length (drop (s .at) b) = rw length-drop (omega arith) in length-take-le (s .size) (drop (s .at) b) l
+
+  pub part-is : (take (s .at + s .size - s .at) (drop (s .at) b) ≡ subBytes b s) × (length (take (s .at + s .size - s .at) (drop (s .at) b)) ≡ s .size)
   unfolding subBytes
   part-is =
-      let i = lies in
-      let g : 16 + k * m + m - (16 + k * m) ≡ m = omega arith in
-      let l : m ≤ length (drop (16 + k * m) b) = rw length-drop (omega arith) in
-      (rw (g, e), rw g (length-take-le m (drop (16 + k * m) b) l ∙ e))
+      let e = ap (λ (n : ℕ). take n (drop (s .at) b)) end in
+      (e, ap length e ∙ part-long)
+
+-- the part that stands at a call's place is the one that it hands back
+part-by : (b : List ℕ) (k : ℕ) (x : Seen) → subBytes b (placeBy b k x) ≡ partBy b k x
+unfolding subBytes
+part-by b k (refusedBy n) = refl
+part-by b k (row r) = refl
+
+pub part-at : (tab : Table) (b : List ℕ) (k : ℕ) → subBytes b (subPlace tab b k) ≡ subBlock tab b k
+unfolding subPlace subBlock
+part-at tab b k = part-by b k (seenSub tab b k)
+
+-- a sub-block's bytes by any row: each gives it the same place
+abbrev pub bytesByAny : List ℕ → ℕ → List ℕ
+bytesByAny b k = subBytes b (subSpan (record { number = 0; highest = 0; body = []; subs = [] }) b k)

@@ -1,15 +1,17 @@
 // What a block's fields answer, by a table that passes its check.
 ghost use mathlib.Core.Path.{_≡_};
 ghost use mathlib.Core.Bool.{true};
-ghost use Prim.Native.Nat.{_+_, _*_, _≤_, _<_};
+ghost use Prim.Native.Nat.{_+_, _≤_};
 ghost use lib.ListN.{length};
 ghost use Rattle.table.specs.Rows.{ends};
 ghost use Rattle.table.specs.Decode.{decode};
 ghost use Rattle.table.specs.Rules.{tableOk};
 ghost use Rattle.record.specs.Answer.{Answers, handedSays};
-ghost use Rattle.block.specs.Block.{endsBy, subLengthIn};
-ghost use Rattle.record.specs.Calls.{fieldSaid, bodyField, subBytes, subField, subBlock, subBlockRefusal, towRow, wncRow, stamp};
+ghost use Rattle.block.specs.Block.{endsBy};
+ghost use Rattle.record.specs.Calls.{fieldSaid, bodyField, subBytes, subField, subBlock, subPlace, subBlockRefusal, towRow, wncRow, stamp};
 use block::Looked;
+use block::Span;
+use block::SubLooked;
 use refusal::Refusal;
 use rows::FieldRow;
 use value::Value;
@@ -23,6 +25,12 @@ pub enum Answer {
 pub enum Handed {
     Refused(Refusal),
     Given,
+}
+
+// The same, and where the part stands in its block: an empty one at the start where it is refused.
+pub struct Placed {
+    pub handed: Handed,
+    pub span: Span,
 }
 
 // A field in these bytes, in which it ends if the revision carries it.
@@ -55,15 +63,13 @@ pub fn body_field(table: &[u8], block: &[u8], i: usize) -> Answer
     }
 }
 
-// Sub-block k of a block, which lies in it.
-fn part(block: &[u8], k: usize) -> &[u8]
-    requires { ⌜ (k < 256) × (16 ≤ length (now block)) × (16 + k * subLengthIn (now block) + subLengthIn (now block) ≤ length (now block)) ⌝ }
-    ensures { λ r. ⌜ (now r ≡ subBytes (now (block .entry)) k) × (length (now r) ≡ subLengthIn (now (block .entry))) ⌝ }
+// The part of a block that stands there.
+fn part(block: &[u8], s: Span) -> &[u8]
+    requires { ⌜ s .at + s .size ≤ length (now block) ⌝ }
+    ensures { λ r. ⌜ (now r ≡ subBytes (now (block .entry)) s) × (length (now r) ≡ s .size) ⌝ }
 {
-    let length = block[15];
-    let size = rows::wide(length);
-    let a = 16 + k * size;
-    let e = a + size;
+    let a = s.at;
+    let e = a + s.size;
     &block[a..e]
 }
 
@@ -73,7 +79,7 @@ pub fn sub_field(table: &[u8], block: &[u8], k: usize, j: usize) -> Answer
     ensures { λ r. ⌜ Answers r (subField (decode (now (table .entry))) (now (block .entry)) k j) ⌝ }
 {
     match block::sub_row_of(table, block, k) {
-        Looked::At(row) => {
+        SubLooked::At(row, span) => {
             let start = row.start + row.bodies;
             let count = row.subs;
             if count <= j {
@@ -81,9 +87,28 @@ pub fn sub_field(table: &[u8], block: &[u8], k: usize, j: usize) -> Answer
             }
             let f = rows::field_at(table, start + j);
             let revision = block::revision(block);
-            field(part(block, k), f, revision)
+            field(part(block, span), f, revision)
         }
-        Looked::Refused(x) => Answer::Refused(x),
+        SubLooked::Refused(x) => Answer::Refused(x),
+    }
+}
+
+// Where sub-block k of a block stands, or why there is none.
+pub fn sub_place(table: &[u8], block: &[u8], k: usize) -> Placed
+    requires { ⌜ tableOk (now table) ≡ true ⌝ }
+    ensures { λ r. ⌜ handedSays (r .handed) ≡ subBlockRefusal (decode (now (table .entry))) (now (block .entry)) k ⌝ }
+    ensures { λ r. ⌜ r .span ≡ subPlace (decode (now (table .entry))) (now (block .entry)) k ⌝ }
+    ensures { λ r. ⌜ r .span .at + r .span .size ≤ length (now (block .entry)) ⌝ }
+{
+    match block::sub_row_of(table, block, k) {
+        SubLooked::At(_, span) => Placed {
+            handed: Handed::Given,
+            span,
+        },
+        SubLooked::Refused(x) => Placed {
+            handed: Handed::Refused(x),
+            span: Span { at: 0, size: 0 },
+        },
     }
 }
 
@@ -92,10 +117,8 @@ pub fn sub_block<'a, 'b>(table: &'a [u8], block: &'b [u8], k: usize) -> &'b [u8]
     requires { ⌜ tableOk (now table) ≡ true ⌝ }
     ensures { λ r. ⌜ now r ≡ subBlock (decode (now (table .entry))) (now (block .entry)) k ⌝ }
 {
-    match block::sub_row_of(table, block, k) {
-        Looked::At(_) => part(block, k),
-        Looked::Refused(_) => &block[..0],
-    }
+    let p = sub_place(table, block, k);
+    part(block, p.span)
 }
 
 // Whether `sub_block` is refused.
@@ -103,10 +126,8 @@ pub fn sub_block_refusal(table: &[u8], block: &[u8], k: usize) -> Handed
     requires { ⌜ tableOk (now table) ≡ true ⌝ }
     ensures { λ r. ⌜ handedSays r ≡ subBlockRefusal (decode (now (table .entry))) (now (block .entry)) k ⌝ }
 {
-    match block::sub_row_of(table, block, k) {
-        Looked::At(_) => Handed::Given,
-        Looked::Refused(x) => Handed::Refused(x),
-    }
+    let p = sub_place(table, block, k);
+    p.handed
 }
 
 // A field that stands in every block from length 14 on.

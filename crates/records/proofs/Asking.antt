@@ -1,6 +1,6 @@
--- A record call that reads by a table, refused by 1, 5 or 4, or not.
+-- A record call that reads by a table, refused by 1, 5 or 4, or not; and the part that it hands back.
 -- Assumes nothing.
-use mathlib.Core.Path.{_≡_, sym, ap}
+use mathlib.Core.Path.{_≡_, refl, sym, ap}
 use mathlib.Core.Bool.{true, _&&_}
 use mathlib.Core.List.{List}
 use mathlib.Core.Option.{Option, none, some}
@@ -8,17 +8,22 @@ use Prim.Native.Nat.{ℕ, _≤_}
 use native.Mathlib.Omega.{arith}
 use lib.ListN.{length}
 use lib.Dec.{ltb}
+use Rattle.table.specs.Decode.{decode}
 use Rattle.table.specs.Rules.{tableOk}
+use Rattle.block.specs.declared.Span.{Span}
 use Rattle.refusal.specs.Numbers.{numberFor}
 use Rattle.record.specs.Answer.{Said, Answers}
 use Rattle.record.specs.declared.Answer.{Answer}
 use Rattle.record.specs.declared.Answer.the-variants as answer
 use Rattle.refusal.specs.declared.Refusal.{Refusal}
+use Rattle.record.specs.Calls.{subBytes, subPlace}
 use Rattle.record.proofs.Calls.{refuses}
 use Rattle.record.proofs.Fields.{same}
+use Rattle.record.proofs.Parts.{part-at}
 use Rattle.reader.specs.State.{sound}
 use Rattle.reader.specs.Refusals.{need, longStore, tableRefusal}
-use Rattle.records.specs.Calls.{tableInForce, askRefusal, saidUnless}
+use Rattle.reader.specs.Outcome.{partUnless}
+use Rattle.records.specs.Calls.{tableInForce, askRefusal, saidUnless, subBytesOf, placeUnless, subPlaceOf}
 use Rattle.reader.specs.declared.State.{State}
 use Rattle.reader.proofs.Laws.{passes, with-store}
 
@@ -40,3 +45,15 @@ unless-refused o x said e = same (sym (ap (λ (p : Option ℕ). saidUnless p sai
 
 pub unless-none : (o : Option ℕ) {r : Answer} (said : Said) → o ≡ none → Answers r said → Answers r (saidUnless o said)
 unless-none o said e h = same (sym (ap (λ (p : Option ℕ). saidUnless p said) e)) h
+
+-- the part that stands at a call's place is the one that it hands back
+place-by : (o : Option ℕ) (b : List ℕ) (p : Span) {q : List ℕ} → subBytes b p ≡ q → subBytes b (placeUnless o p) ≡ partUnless o q
+unfolding subBytes
+place-by none b p e = e
+place-by (some n) b p e = refl
+
+pub place-bytes : (s : State) (force block : List ℕ) (k : ℕ) → subBytes block (subPlaceOf s force block k) ≡ subBytesOf s force block k
+unfolding subPlaceOf subBytesOf
+place-bytes s force block k =
+    let tab = decode (tableInForce s force) in
+    place-by (askRefusal s force) block (subPlace tab block k) (part-at tab block k)

@@ -10,7 +10,8 @@ use lib.Dec.{ltb}
 use Rattle.table.specs.Decode.{decode}
 use Rattle.rows.specs.declared.FieldRow.{FieldRow}
 use Rattle.record.specs.Answer.{Said, refused}
-use Rattle.record.specs.Calls.{bodyField, subField, subBlock, subBlockRefusal, towRow, wncRow, stamp}
+use Rattle.block.specs.declared.Span.{Span}
+use Rattle.record.specs.Calls.{bodyField, subField, subBlock, nowhere, subPlace, subBlockRefusal, towRow, wncRow, stamp}
 use Rattle.reader.specs.State.{sound}
 use Rattle.reader.specs.Refusals.{need, longStore, tableRefusal}
 use Rattle.reader.specs.Outcome.{partUnless}
@@ -39,6 +40,14 @@ subOf s force block k j = saidUnless (askRefusal s force) (subField (decode (tab
 -- "a sub-block's bytes as a part that starts inside the block"
 unfoldable pub subBytesOf : State → List ℕ → List ℕ → ℕ → List ℕ
 subBytesOf s force block k = partUnless (askRefusal s force) (subBlock (decode (tableInForce s force)) block k)
+
+-- where that part stands in the block: an empty one at its start where the call is refused
+abbrev pub placeUnless : Option ℕ → Span → Span
+placeUnless (some n) s = nowhere
+placeUnless none s = s
+
+unfoldable pub subPlaceOf : State → List ℕ → List ℕ → ℕ → Span
+subPlaceOf s force block k = placeUnless (askRefusal s force) (subPlace (decode (tableInForce s force)) block k)
 
 abbrev pub firstOf : Option ℕ → Option ℕ → Option ℕ
 firstOf (some n) rest = some n

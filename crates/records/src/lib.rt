@@ -1,12 +1,16 @@
 // Record calls: a body field, a sub-block's field, a sub-block's bytes by the table in force; TOW and WNc by no table.
 ghost use mathlib.Core.Path.{_≡_};
+ghost use Prim.Native.Nat.{_+_, _≤_};
+ghost use lib.ListN.{length};
 ghost use Rattle.record.specs.Answer.{Answers, handedSays};
 ghost use Rattle.reader.specs.Said.{refusalOf};
-ghost use Rattle.records.specs.Calls.{askRefusal, bodyOf, subOf, subBytesOf, subBytesRefusal, towOf, wncOf};
+ghost use Rattle.records.specs.Calls.{askRefusal, bodyOf, subOf, subBytesOf, subPlaceOf, subBytesRefusal, towOf, wncOf};
+use block::Span;
 use reader::Check;
 use reader::State;
 use record::Answer;
 use record::Handed;
+use record::Placed;
 use refusal::Refusal;
 use table::Checked;
 
@@ -73,6 +77,23 @@ pub fn sub_bytes_refused(s: State, in_force: &[u8], block: &[u8], k: usize) -> H
     match c {
         Check::Refused(why) => Handed::Refused(why),
         Check::Passed => record::sub_block_refusal(&in_force[..n], block, k),
+    }
+}
+
+// Both in one: where the bytes of sub-block k stand in the block, or why the call is refused.
+pub fn sub_place(s: State, in_force: &[u8], block: &[u8], k: usize) -> Placed
+    ensures { λ r. ⌜ handedSays (r .handed) ≡ subBytesRefusal s (now («in_force» .entry)) (now (block .entry)) k ⌝ }
+    ensures { λ r. ⌜ r .span ≡ subPlaceOf s (now («in_force» .entry)) (now (block .entry)) k ⌝ }
+    ensures { λ r. ⌜ r .span .at + r .span .size ≤ length (now (block .entry)) ⌝ }
+{
+    let c = of_ask(s, in_force);
+    let n = s.in_force;
+    match c {
+        Check::Refused(why) => Placed {
+            handed: Handed::Refused(why),
+            span: Span { at: 0, size: 0 },
+        },
+        Check::Passed => record::sub_place(&in_force[..n], block, k),
     }
 }
 

@@ -2,7 +2,6 @@
 ghost use mathlib.Core.Path.{_≡_};
 ghost use Prim.Native.Nat.{_+_, _*_, _≤_, _<_};
 ghost use lib.ListN.{length};
-ghost use Rattle.rows.specs.Types.{sizeOf};
 ghost use Rattle.rows.specs.Places.{versionOf, blockCount, blocksAt, fieldCount, fieldAt, rowAt};
 
 // A field row: `kind` is its type, `first` its first revision.
@@ -22,23 +21,6 @@ pub struct Row {
     pub start: usize,
     pub subs: usize,
     pub zero: u8,
-}
-
-// Entry k is the size of type k + 1. Check and field reader look sizes up here.
-const SIZES: [u8; 10] = [1, 2, 4, 8, 1, 2, 4, 8, 4, 8];
-
-// The size of a type; 0 where it is not listed.
-pub fn size(kind: u8) -> usize
-    ensures { λ r. ⌜ (r ≡ sizeOf kind) × (r ≤ 8) ⌝ }
-{
-    if kind == 0 {
-        return 0;
-    }
-    if kind <= 10 {
-        let k = (kind - 1) as usize;
-        return wide(SIZES[k]);
-    }
-    0
 }
 
 pub fn wide(x: u8) -> usize

@@ -10,13 +10,13 @@ use Rattle.scan.specs.Feed.{feedBy}
 use Rattle.scan.specs.Passed.{countAll}
 use Rattle.feed.specs.Hold.{restOf}
 use Rattle.table.specs.Lists.{tabulate, every, chain, neighbours, first, pick}
-use Rattle.rows.specs.Types.{sizeOf}
-use Rattle.table.specs.Marks.{markFits}
+use Rattle.kinds.specs.Types.{sizeOf}
+use Rattle.kinds.specs.Marks.{markFits, isDoNotUse}
 use Rattle.rows.specs.Places.{fieldAt, rowFrom, rowAt}
 use Rattle.table.specs.Decode.{rowsOf, blockOf, decode}
 use Rattle.table.specs.Rules.{fileOk, indexOk, counts, formOk, risingOk, isPair, fieldsOk, blockOk, meaningOk, tableOk}
 use Rattle.table.specs.Lookup.{findRow}
-use Rattle.value.specs.Bits.{withSign, readAs, isDoNotUse, valueOf, fieldValue}
+use Rattle.value.specs.Bits.{withSign, readAs, valueOf, fieldValue}
 use Rattle.block.specs.Block.{bodyFits, subsFit, seenRow, seen, seenSubRow, seenSub}
 use Rattle.record.specs.Calls.{fieldSaid, bodyField, subBytes, subField, subBlock, subBlockRefusal, stamp}
 use Rattle.reader.specs.State.{sound}

@@ -1,8 +1,10 @@
 -- The rows shipped, as a person writes them (document 01, 'Rows shipped'). Written by tools/table from samples/shipped-v1.table.txt.
 -- Assumes nothing.
 use mathlib.Core.List.{List, [], _∷_}
+use Rattle.kinds.specs.Types.{u1, u2, u4, u8, i1, i2, i4, i8, f4, f8}
+use Rattle.kinds.specs.Marks.{unmarked, ones, zeroes, minus2e10, least}
 use Rattle.table.specs.Rows.{Table}
-use Rattle.shipped.specs.Words.{Block, block, field, tableOf, u1, u2, u4, u8, i1, i2, i4, i8, f4, f8, unmarked, ones, zeroes, minus2e10, least}
+use Rattle.shipped.specs.Words.{Block, block, field, tableOf}
 
 abbrev pvtcartesian : Block
 pvtcartesian =

@@ -1,6 +1,5 @@
 pub mod Bools
 pub mod Lists
-pub mod Marks
 pub mod Fused
 pub mod Passed
 pub mod Loops

@@ -1,5 +1,4 @@
 pub mod Lists
-pub mod Marks
 pub mod Rows
 pub mod Decode
 pub mod Rules

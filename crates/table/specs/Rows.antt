@@ -3,7 +3,7 @@
 use mathlib.Core.List.{List}
 use Prim.Native.Nat.{ℕ, _+_}
 use Rattle.rows.specs.declared.FieldRow.{FieldRow}
-use Rattle.rows.specs.Types.{sizeOf}
+use Rattle.kinds.specs.Types.{sizeOf}
 
 -- a FieldRow is offset, kind (the type), first (the first revision) and mark
 pub record BlockRow : Type 0 where

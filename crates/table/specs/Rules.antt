@@ -6,10 +6,11 @@ use Prim.Native.Nat.{ℕ, _+_, _*_}
 use lib.Dec.{ltb, leb, eqb}
 use lib.ListN.{length}
 use Rattle.crc.specs.Crc.{crcOf}
+use Rattle.kinds.specs.Types.{u1, listed}
+use Rattle.kinds.specs.Marks.{unmarked, markFits}
 use Rattle.rows.specs.declared.FieldRow.{FieldRow}
 use Rattle.rows.specs.declared.Row.{Row}
 use Rattle.table.specs.Lists.{every, neighbours}
-use Rattle.table.specs.Marks.{listed, markFits}
 use Rattle.table.specs.Rows.{BlockRow, Table, ends}
 use Rattle.rows.specs.Places.{blockCount, fieldCount}
 use Rattle.table.specs.Decode.{toBlocks, toFields, crcField, covered, closing₀, closing₁, rowsOf, decode}
@@ -104,7 +105,7 @@ firstOk highest f = leb (f .first) highest
 
 -- a u1 row, first revision 0, mark 0
 abbrev pub isCount : ℕ → FieldRow → Bool
-isCount at f = eqb (f .offset) at && eqb (f .kind) 1 && eqb (f .first) 0 && eqb (f .mark) 0
+isCount at f = eqb (f .offset) at && eqb (f .kind) u1 && eqb (f .first) 0 && eqb (f .mark) unmarked
 
 -- "exactly two u1 rows at 14 and 15 (N and SBLength), first revision 0, mark 0"
 unfoldable pub isPair : List FieldRow → Bool

@@ -2,32 +2,17 @@
 ghost use mathlib.Core.Path.{_≡_};
 ghost use Prim.Native.Nat.{_+_, _≤_, _<_};
 ghost use Rattle.table.specs.Lists.{tabulate};
-ghost use Rattle.table.specs.Marks.{markFits};
 ghost use Rattle.rows.specs.Places.{fieldCount, fieldAt};
 ghost use Rattle.table.specs.Rules.{isCount, isPair};
 ghost use Rattle.table.specs.Code.{fieldStep, fieldPass};
 use rows::FieldRow;
-
-// Whether a type may bear a mark.
-fn mark_fits(kind: u8, mark: u8) -> bool
-    ensures { λ r. ⌜ r ≡ markFits kind mark ⌝ }
-{
-    match mark {
-        0 => true,
-        1 => (1 <= kind) & (kind <= 4),
-        2 => (1 <= kind) & (kind <= 4),
-        3 => (9 <= kind) & (kind <= 10),
-        4 => (5 <= kind) & (kind <= 8),
-        _ => false,
-    }
-}
 
 // A field row, where the one before ends at `low` and has the first revision `rev`.
 fn field_ok(f: FieldRow, low: usize, rev: u8, highest: u8) -> bool
     ensures { λ r. ⌜ r ≡ fieldStep low rev highest f ⌝ }
 {
     let listed = (1 <= f.kind) & (f.kind <= 10);
-    let marked = mark_fits(f.kind, f.mark);
+    let marked = kinds::mark_fits(f.kind, f.mark);
     (low <= f.offset) & (rev <= f.first) & (f.first <= highest) & listed & marked
 }
 
@@ -44,7 +29,7 @@ pub fn fields_ok(t: &[u8], at: usize, count: usize, least: usize, highest: u8) -
         if !field_ok(f, low, rev, highest) {
             return false;
         }
-        low = f.offset + rows::size(f.kind);
+        low = f.offset + kinds::size(f.kind);
         rev = f.first;
         i += 1;
     }

@@ -1,19 +1,16 @@
 -- What the bits of a field mean, by its type and mark (document 01, 'Types and sizes', 'Marks', 'A field's answer').
 -- Assumes nothing.
-use Prim.Native.Nat.{ℕ, suc, _+_, _-_, _*_, _^_}
+use Prim.Native.Nat.{ℕ, suc, _+_, _-_}
 use mathlib.Core.List.{List, [], _∷_}
-use mathlib.Core.Bool.{Bool, false, cond}
+use mathlib.Core.Bool.{cond}
 use lib.ListN.{getD}
-use lib.Dec.{ltb, eqb}
+use lib.Dec.{ltb}
 use lib.IntN.{ℤ, pos, negsuc}
 use Rattle.wire.specs.Little.{littleAt}
+use Rattle.kinds.specs.Types.{sizeOf, half}
+use Rattle.kinds.specs.Marks.{isDoNotUse}
 use Rattle.rows.specs.declared.FieldRow.{FieldRow}
-use Rattle.rows.specs.Types.{sizeOf}
 use Rattle.value.specs.Said.{Said, unsigned, signed, single, double, doNotUse}
-
--- half of the numbers that so many bytes make: with a sign, those from here on are negative
-abbrev pub half : ℕ → ℕ
-half size = 2 ^ (8 * size - 1)
 
 -- x read with a sign, where h is half of the numbers
 unfoldable pub withSign : ℕ → ℕ → ℤ
@@ -30,34 +27,7 @@ readings =
 unfoldable pub readAs : ℕ → ℕ → Said
 readAs kind x = getD readings kind unsigned x
 
--- the marks' tests on bits x of so many bytes
-abbrev pub never : ℕ → ℕ → Bool
-never size x = false
-
--- "1 all ones"
-abbrev pub allOnes : ℕ → ℕ → Bool
-allOnes size x = eqb x (256 ^ size - 1)
-
--- "2 zero"
-abbrev pub isZero : ℕ → ℕ → Bool
-isZero size x = eqb x 0
-
--- "3 minus 2 x 10^10 (float, bits D09502F9 or C212A05F20000000)"
-abbrev pub isMinus : ℕ → ℕ → Bool
-isMinus size x = eqb x (cond (eqb size 4) 0xD09502F9 0xC212A05F20000000)
-
--- "4 the least value (signed)"
-abbrev pub isLeast : ℕ → ℕ → Bool
-isLeast size x = eqb x (half size)
-
--- "Marks: 0 none; .." in the order of their numbers
-abbrev pub markTests : List (ℕ → ℕ → Bool)
-markTests = never ∷ allOnes ∷ isZero ∷ isMinus ∷ isLeast ∷ []
-
--- "Do-Not-Use is told by bits"
-unfoldable pub isDoNotUse : ℕ → ℕ → ℕ → Bool
-isDoNotUse mark kind x = getD markTests mark never (sizeOf kind) x
-
+-- "and Do-Not-Use is told by bits"
 unfoldable pub valueOf : ℕ → ℕ → ℕ → Said
 valueOf kind mark x = cond (isDoNotUse mark kind x) doNotUse (readAs kind x)
 

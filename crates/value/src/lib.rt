@@ -3,9 +3,9 @@ ghost use mathlib.Core.Path.{_≡_};
 ghost use Prim.Native.Nat.{_+_, _^_, _≤_, _<_};
 ghost use lib.ListN.{length};
 ghost use Rattle.wire.specs.Little.{littleAt};
-ghost use Rattle.rows.specs.Types.{sizeOf};
+ghost use Rattle.kinds.specs.Types.{sizeOf};
 ghost use Rattle.value.specs.Said.{single, double, Means};
-ghost use Rattle.value.specs.Bits.{withSign, readAs, isDoNotUse, fieldValue};
+ghost use Rattle.value.specs.Bits.{withSign, readAs, fieldValue};
 use rows::FieldRow;
 
 // What a field answers. A NaN is carried as its bits: no float can be made of them.
@@ -73,52 +73,6 @@ fn read_as(kind: u8, x: u64) -> Value
     }
 }
 
-// Entry k is all ones in k bytes.
-const ONES: [u64; 9] = [
-    0x0,
-    0xff,
-    0xffff,
-    0xff_ffff,
-    0xffff_ffff,
-    0xff_ffff_ffff,
-    0xffff_ffff_ffff,
-    0xff_ffff_ffff_ffff,
-    0xffff_ffff_ffff_ffff,
-];
-
-// Entry k is the bits of the least signed number of k bytes.
-const LEAST: [u64; 9] = [
-    0x1,
-    0x80,
-    0x8000,
-    0x80_0000,
-    0x8000_0000,
-    0x80_0000_0000,
-    0x8000_0000_0000,
-    0x80_0000_0000_0000,
-    0x8000_0000_0000_0000,
-];
-
-// Whether the bits of a type are its mark's Do-Not-Use.
-fn is_do_not_use(mark: u8, kind: u8, x: u64) -> bool
-    ensures { λ r. ⌜ r ≡ isDoNotUse mark kind x ⌝ }
-{
-    let size = rows::size(kind);
-    match mark {
-        1 => x == ONES[size],
-        2 => x == 0,
-        3 => {
-            if size == 4 {
-                x == 0xd095_02f9
-            } else {
-                x == 0xc212_a05f_2000_0000
-            }
-        }
-        4 => x == LEAST[size],
-        _ => false,
-    }
-}
-
 fn byte(s: &[u8], at: usize) -> u64
     requires { ⌜ at < length (now s) ⌝ }
     ensures { λ r. ⌜ (r ≡ littleAt 1 (now (s .entry)) at) × (r < 256) ⌝ }
@@ -131,7 +85,7 @@ fn bits_at(s: &[u8], at: usize, kind: u8) -> u64
     requires { ⌜ at + sizeOf kind ≤ length (now s) ⌝ }
     ensures { λ r. ⌜ (r ≡ littleAt (sizeOf kind) (now (s .entry)) at) × (r < 256 ^ sizeOf kind) ⌝ }
 {
-    match rows::size(kind) {
+    match kinds::size(kind) {
         1 => byte(s, at),
         2 => wire::u2(s, at) as u64,
         4 => wire::u4(s, at) as u64,
@@ -147,7 +101,7 @@ pub fn read(s: &[u8], f: FieldRow) -> Value
 {
     let at = f.offset;
     let x = bits_at(s, at, f.kind);
-    if is_do_not_use(f.mark, f.kind, x) {
+    if kinds::is_do_not_use(f.mark, f.kind, x) {
         return Value::DoNotUse;
     }
     read_as(f.kind, x)

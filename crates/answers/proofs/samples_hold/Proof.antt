@@ -5,9 +5,10 @@ use Rattle.crc.specs.Crc.{crcOf, crcFrom, crcByte, crcBits8, crcBit}
 use Rattle.wire.specs.Little.{littleAt}
 use Rattle.frame.specs.Frame.{syncAt, allowed, endsWithin, crcRight, frameAt, wholeFrame}
 use Rattle.table.specs.Lists.{every, first, pick}
-use Rattle.rows.specs.Types.{sizeOf}
+use Rattle.kinds.specs.Types.{sizeOf}
+use Rattle.kinds.specs.Marks.{isDoNotUse}
 use Rattle.table.specs.Lookup.{findRow}
-use Rattle.value.specs.Bits.{withSign, readAs, isDoNotUse, valueOf, fieldValue}
+use Rattle.value.specs.Bits.{withSign, readAs, valueOf, fieldValue}
 use Rattle.block.specs.Block.{bodyFits, subsFit, seenRow, seen, seenSubRow, seenSub}
 use Rattle.record.specs.Calls.{fieldSaid, bodyField, subBytes, subField, subBlock, subBlockRefusal, stamp}
 use Rattle.answers.proofs.samples_hold.Statement.{statement}

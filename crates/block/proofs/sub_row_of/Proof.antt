@@ -24,11 +24,14 @@ wide-requires c κs = search needs
 returns-2 : tie.Need-returns-2
 returns-2 c = let e = c .before .before .before in let k = e .before in sub-past _ _ (k .before .before .before .row-of .ensures) _ _ (k .before .row .given .1) (e .if1 .left) (c .before .wide .ensures .0) (omega arith)
 
+sub-span-requires : tie.Need-sub-span-requires
+sub-span-requires c κs = let k = c .before .before .before .before in (omega (arith, c .before .wide .ensures .1), fine-at _ _ (k .before .before .before .row-of .ensures) (k .before .row .given .1) .long)
+
 enum-known-x : tie.Need-enum-known-x
 enum-known-x c = search needs
 
 returns-3 : tie.Need-returns-3
-returns-3 c = let e = c .before .before .before in let k = e .before in sub-at _ _ (k .before .before .before .row-of .ensures) _ _ (k .before .row .given .1) (e .if1 .left) (c .before .wide .ensures .0) (omega arith) (c .before .wide .ensures .1)
+returns-3 c = let w = c .before .before in let e = w .before .before in let k = e .before in sub-at _ _ (k .before .before .before .row-of .ensures) _ _ (k .before .row .given .1) (e .if1 .left) (w .wide .ensures .0) (omega arith) (w .wide .ensures .1) (c .sub-span .ensures)
 
 returns-4 : tie.Need-returns-4
 returns-4 c = sub-refused _ _ (c .before .before .before .row-of .ensures) _ (c .before .x .given .1)
@@ -43,6 +46,7 @@ sub-row-of-spec =
     shared-slice-read-wide
     wide-requires
     returns-2
+    sub-span-requires
     enum-known-x
     returns-3
     returns-4)

@@ -3,8 +3,8 @@ use mathlib.Core.Path.{refl}
 use Rattle.crc.specs.Crc.{crcBit, crcBits8, crcByte, crcFrom, crcOf}
 use Rattle.wire.specs.Little.{littleAt}
 use Rattle.table.specs.Lists.{tabulate, every, chain, neighbours}
-use Rattle.rows.specs.Types.{sizeOf}
-use Rattle.table.specs.Marks.{markFits}
+use Rattle.kinds.specs.Types.{sizeOf}
+use Rattle.kinds.specs.Marks.{markFits}
 use Rattle.rows.specs.Places.{fieldAt, rowFrom, rowAt}
 use Rattle.table.specs.Decode.{rowsOf, blockOf, decode}
 use Rattle.encode.specs.Encode.{two, fieldBytes, fieldsPart, rowsPart, unsealed, encode}

@@ -1,7 +1,7 @@
 -- `record::tow` meets its contract: u4 at 8 ends by 14.
 -- Assumes nothing.
 use native.Mathlib.Omega.{arith}
-use Rattle.rows.specs.Types.{sizeOf}
+use Rattle.kinds.specs.Types.{sizeOf}
 use Rattle.record.proofs.tow.Statement.{statement}
 use Rattle.record.proofs.tow.Tie as tie
 

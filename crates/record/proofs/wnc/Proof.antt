@@ -1,7 +1,7 @@
 -- `record::wnc` meets its contract: u2 at 12 ends by 14.
 -- Assumes nothing.
 use native.Mathlib.Omega.{arith}
-use Rattle.rows.specs.Types.{sizeOf}
+use Rattle.kinds.specs.Types.{sizeOf}
 use Rattle.record.proofs.wnc.Statement.{statement}
 use Rattle.record.proofs.wnc.Tie as tie
 

@@ -1,9 +1,9 @@
 -- `shipped::ships`: by `encode::encodes`; antt computes that the rows keep the rules on meaning, and that they fit.
 -- Assumes nothing.
 use mathlib.Core.Path.{refl}
-use Rattle.rows.specs.Types.{sizeOf}
+use Rattle.kinds.specs.Types.{sizeOf}
 use Rattle.table.specs.Lists.{every, chain, neighbours}
-use Rattle.table.specs.Marks.{markFits}
+use Rattle.kinds.specs.Marks.{markFits}
 use Rattle.table.specs.Rules.{risingOk, isPair, fieldsOk, blockOk, meaningOk}
 use Rattle.encode.specs.Fits.{fieldRows, fileSize, blockFits, fits}
 use Rattle.encode.proofs.Encoded.{encodes}

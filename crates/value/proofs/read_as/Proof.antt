@@ -4,7 +4,7 @@ use mathlib.Core.Path.{refl, ap, _∙_}
 use mir.Syntax.{w64}
 use mir.ValLaws.{toZ-ofZ}
 use native.Mathlib.Omega.{arith}
-use Rattle.rows.specs.Types.{sizeOf}
+use Rattle.kinds.specs.Types.{sizeOf}
 use Rattle.value.specs.Said.{signed}
 use Rattle.value.specs.Bits.{readAs}
 use Rattle.value.proofs.Types.{plain}

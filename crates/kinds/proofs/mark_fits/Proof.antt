@@ -1,10 +1,10 @@
--- `table::fields::mark_fits` meets its contract: each arm is an entry of `marks`.
+-- `kinds::mark_fits` meets its contract: each arm is an entry of `marks`.
 -- Assumes nothing.
 use native.Mathlib.Omega.{arith}
-use Rattle.table.specs.Marks.{markFits}
-use Rattle.table.proofs.Marks.{mark-none}
-use Rattle.table.proofs.fields.mark_fits.Statement.{statement}
-use Rattle.table.proofs.fields.mark_fits.Tie as tie
+use Rattle.kinds.specs.Marks.{markFits}
+use Rattle.kinds.proofs.Marks.{fits-none}
+use Rattle.kinds.proofs.mark_fits.Statement.{statement}
+use Rattle.kinds.proofs.mark_fits.Tie as tie
 
 returns : tie.Need-returns
 unfolding markFits
@@ -27,7 +27,7 @@ unfolding markFits
 returns-5 c = rw (c .match .keys5)
 
 returns-6 : tie.Need-returns-6
-returns-6 c = mark-none _ _ (omega arith)
+returns-6 c = fits-none _ _ (omega arith)
 
 pub mark-fits-spec : {M : Type 1} → statement M
 mark-fits-spec = tie.close (tie.spec returns returns-2 returns-3 returns-4 returns-5 returns-6)

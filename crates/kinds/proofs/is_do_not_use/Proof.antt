@@ -1,11 +1,11 @@
--- `value::is_do_not_use` meets its contract: each arm is its entry of `markTests`.
+-- `kinds::is_do_not_use` meets its contract: each arm is its entry of `marks`.
 -- Assumes nothing.
 use native.Mathlib.Omega.{arith}
-use Rattle.value.specs.Bits.{isDoNotUse}
-use Rattle.value.proofs.Types.{mark-1, mark-3-f4, mark-3-f8, mark-4, unmarked}
+use Rattle.kinds.specs.Marks.{isDoNotUse}
+use Rattle.kinds.proofs.Marks.{mark-1, mark-3-f4, mark-3-f8, mark-4, marks-nothing}
 use borrow.Author.Needs.{needs}
-use Rattle.value.proofs.is_do_not_use.Statement.{statement}
-use Rattle.value.proofs.is_do_not_use.Tie as tie
+use Rattle.kinds.proofs.is_do_not_use.Statement.{statement}
+use Rattle.kinds.proofs.is_do_not_use.Tie as tie
 
 size-requires : tie.Need-size-requires
 size-requires c κs = search needs
@@ -39,7 +39,7 @@ returns-5 : tie.Need-returns-5
 returns-5 c = rw (c .match .keys4) (mark-4 _ _ _ (c .before .size .ensures .0) (omega arith))
 
 returns-6 : tie.Need-returns-6
-returns-6 c = let r = c .match .rest in unmarked _ _ _ (r .0 .0 .0 .1) (r .0 .0 .1) (r .0 .1) (r .1)
+returns-6 c = let r = c .match .rest in marks-nothing _ _ _ (r .0 .0 .0 .1) (r .0 .0 .1) (r .0 .1) (r .1)
 
 pub is-do-not-use-spec : {M : Type 1} → statement M
 is-do-not-use-spec =

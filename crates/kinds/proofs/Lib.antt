@@ -1,0 +1,4 @@
+pub mod Below
+pub mod Types
+pub mod Marks
+pub mod Unset

@@ -1,0 +1,96 @@
+-- The marks, one list: the types that may bear each, its test for Do-Not-Use, and what an unset field is written with (document 01, 'The
+-- block table' and 'A field's answer').
+-- Assumes nothing.
+use mathlib.Core.Bool.{Bool, true, false, cond}
+use mathlib.Core.List.{List, [], _∷_}
+use mathlib.Core.Option.{Option, none, some}
+use mathlib.Core.Path.{_≡_}
+use Prim.Native.Nat.{ℕ, _-_, _^_, _<_}
+use lib.Dec.{eqb}
+use lib.ListN.{getD}
+use Rattle.kinds.specs.Types.{sizeOf, listed, unsigned, signed, float, half}
+
+-- "Marks: 0 none; 1 all ones (unsigned); 2 zero (unsigned); 3 minus 2 x 10^10 (float ..); 4 the least value (signed)"
+abbrev pub unmarked : ℕ
+unmarked = 0
+
+abbrev pub ones : ℕ
+ones = 1
+
+abbrev pub zeroes : ℕ
+zeroes = 2
+
+abbrev pub minus2e10 : ℕ
+minus2e10 = 3
+
+abbrev pub least : ℕ
+least = 4
+
+-- of a type: whether it may bear the mark; of a size and bits of so many bytes: whether they are Do-Not-Use; of a size: the bits that an
+-- unset field is written with, none where a field cannot be unset
+pub record Mark : Type 0 where
+  pub fits : ℕ → Bool
+  pub test : ℕ → ℕ → Bool
+  pub unset : ℕ → Option ℕ
+
+-- the bits that marks 1 to 3 name, in so many bytes; those of mark 4 are `half`
+abbrev pub allOnes : ℕ → ℕ
+allOnes size = 256 ^ size - 1
+
+abbrev pub nought : ℕ → ℕ
+nought size = 0
+
+-- "(float, bits D09502F9 or C212A05F20000000)"
+abbrev pub minus : ℕ → ℕ
+minus size = cond (eqb size 4) 0xD09502F9 0xC212A05F20000000
+
+-- "Do-Not-Use is told by bits": by these, in so many bytes, and no others; an unset field is written with them
+abbrev pub equals : (ℕ → ℕ) → ℕ → ℕ → Bool
+equals bits size x = eqb x (bits size)
+
+abbrev pub written : (ℕ → ℕ) → ℕ → Option ℕ
+written bits size = some (bits size)
+
+-- a field without a mark is never Do-Not-Use, and cannot be unset
+abbrev pub never : ℕ → ℕ → Bool
+never size x = false
+
+abbrev pub cannot : ℕ → Option ℕ
+cannot size = none
+
+-- in the order of their numbers
+abbrev pub marks : List Mark
+marks =
+    record { fits = λ kind. true; test = never; unset = cannot }
+    ∷ record { fits = unsigned; test = equals allOnes; unset = written allOnes }
+    ∷ record { fits = unsigned; test = equals nought; unset = written nought }
+    ∷ record { fits = float; test = equals minus; unset = written minus }
+    ∷ record { fits = signed; test = equals half; unset = written half }
+    ∷ []
+
+-- a number that is not listed: no type may bear it
+abbrev pub unlisted : Mark
+unlisted = record { fits = λ kind. false; test = never; unset = cannot }
+
+abbrev pub markOf : ℕ → Mark
+markOf mark = getD marks mark unlisted
+
+-- whether a type may bear a mark
+unfoldable pub markFits : ℕ → ℕ → Bool
+markFits kind mark = markOf mark .fits kind
+
+-- whether the bits of a type are its mark's Do-Not-Use
+unfoldable pub isDoNotUse : ℕ → ℕ → ℕ → Bool
+isDoNotUse mark kind x = markOf mark .test (sizeOf kind) x
+
+-- what an unset field of a type is written with
+unfoldable pub unsetOf : ℕ → ℕ → Option ℕ
+unsetOf mark kind = markOf mark .unset (sizeOf kind)
+
+-- what is written for a mark fits the type, and is told as Do-Not-Use; only a field without a mark cannot be unset
+abbrev pub ReadsUnset : ℕ → ℕ → Option ℕ → Type 0
+ReadsUnset mark kind none = mark ≡ unmarked
+ReadsUnset mark kind (some bits) = (bits < 256 ^ sizeOf kind) × (isDoNotUse mark kind bits ≡ true)
+
+abbrev pub UnsetIsTold : Type 0
+UnsetIsTold = (kind mark : ℕ) → listed kind ≡ true → markFits kind mark ≡ true → ReadsUnset mark kind (unsetOf mark kind)

@@ -1,0 +1,62 @@
+-- The ten types of fields: their numbers, their sizes, and which are of one kind (document 01, 'The block table').
+-- Assumes nothing.
+use mathlib.Core.Bool.{Bool, _&&_}
+use mathlib.Core.List.{List, [], _∷_}
+use Prim.Native.Nat.{ℕ, zero, suc, _-_, _*_, _^_}
+use lib.Dec.{leb}
+use lib.ListN.{getD}
+
+-- "Types and sizes: 1 u1 1; 2 u2 2; 3 u4 4; 4 u8 8; 5 i1 1; 6 i2 2; 7 i4 4; 8 i8 8; 9 f4 4; 10 f8 8"
+abbrev pub u1 : ℕ
+u1 = 1
+
+abbrev pub u2 : ℕ
+u2 = 2
+
+abbrev pub u4 : ℕ
+u4 = 3
+
+abbrev pub u8 : ℕ
+u8 = 4
+
+abbrev pub i1 : ℕ
+i1 = 5
+
+abbrev pub i2 : ℕ
+i2 = 6
+
+abbrev pub i4 : ℕ
+i4 = 7
+
+abbrev pub i8 : ℕ
+i8 = 8
+
+abbrev pub f4 : ℕ
+f4 = 9
+
+abbrev pub f8 : ℕ
+f8 = 10
+
+abbrev pub sizes : List ℕ
+sizes = 1 ∷ 2 ∷ 4 ∷ 8 ∷ 1 ∷ 2 ∷ 4 ∷ 8 ∷ 4 ∷ 8 ∷ []
+
+-- the size of a type; 0 where it is not listed
+unfoldable pub sizeOf : ℕ → ℕ
+sizeOf zero = 0
+sizeOf (suc k) = getD sizes k 0
+
+abbrev pub listed : ℕ → Bool
+listed kind = leb u1 kind && leb kind f8
+
+abbrev pub unsigned : ℕ → Bool
+unsigned kind = leb u1 kind && leb kind u8
+
+abbrev pub signed : ℕ → Bool
+signed kind = leb i1 kind && leb kind i8
+
+abbrev pub float : ℕ → Bool
+float kind = leb f4 kind && leb kind f8
+
+-- half of the numbers that so many bytes make: with a sign, those from here on are negative, and this one is the least
+abbrev pub half : ℕ → ℕ
+half size = 2 ^ (8 * size - 1)
