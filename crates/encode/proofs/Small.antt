@@ -19,7 +19,7 @@ use Rattle.table.specs.Rules.{numberOk, highestOk, offsetOk, apart, steady, fir
 use Rattle.encode.specs.Encode.{two, fieldBytes, fieldsPart, rowsPart, unsealed, encode}
 use Rattle.encode.specs.Fits.{fieldRows, countFits, offsetFits, blockFits}
 use Rattle.table.proofs.Bools.{both, join}
-use Rattle.kinds.proofs.Marks.{mark-none}
+use Rattle.kinds.proofs.Marks.{fits-none}
 use Rattle.table.proofs.Passed.{Meaning}
 use Rattle.encode.proofs.Room.{Room}
 use Rattle.encode.proofs.File.{length-rows}
@@ -47,7 +47,7 @@ two-small n h = join (lt-ltb (n % 256) 256 (omega arith)) (join (lt-ltb (n / 256
 mark-small : (kind mark : ℕ) → markFits kind mark ≡ true → mark < 256
 mark-small kind mark e = by (ltb 4 mark) refl where
   by : (b : Bool) → ltb 4 mark ≡ b → mark < 256
-  by true h = absurd (false≢true (mark-none kind mark (ltb-true 4 mark h) ∙ e))
+  by true h = absurd (false≢true (fits-none kind mark (ltb-true 4 mark h) ∙ e))
   by false h = let l : mark ≤ 4 = ltb-false 4 mark h in omega arith
 
 each-small : (top : ℕ) → top ≤ 7 → (fs : List FieldRow) → every offsetFits fs ≡ true → every (firstOk top) fs ≡ true → every typeOk fs ≡ true
