@@ -4,12 +4,12 @@ use mathlib.Core.List.{List, [], _∷_, _++_, append-assoc}
 use mathlib.Core.Path.{_≡_, ap, _∙_}
 use Prim.Native.Nat.{ℕ, _+_, _-_, _*_}
 use native.Mathlib.Omega.{arith}
-use lib.ListN.{length, drop, length-append}
+use lib.ListN.{length, getD, drop, length-append}
 use lib.Seq.{drop-append-add, take-at, drop-at}
 use Rattle.crc.specs.Crc.{crcOf}
 use Rattle.rows.specs.Places.{versionOf, blockCount, blocksAt, fieldCount}
 use Rattle.table.specs.Rows.{Table}
-use Rattle.table.specs.Decode.{toBlocks, toFields, crcField, covered, closing₀, closing₁, rowsOf, decode}
+use Rattle.table.specs.Decode.{toBlocks, toFields, crcField, covered, rowsOf, decode}
 use Rattle.encode.specs.Encode.{two, fieldsPart, rowsPart, unsealed, encode}
 use Rattle.encode.specs.Fits.{fieldRows}
 use Rattle.encode.proofs.Reading.{here, two-at}
@@ -86,11 +86,11 @@ module _ (tab : Table) where
   pub crc-is : crcField t ≡ crcOf (covered t)
   crc-is = rw covered-is crc-stands
 
-  pub low : closing₀ t ≡ 0x42
+  pub low : getD t (length t - 2) 0 ≡ 0x42
   unfolding two
   low = here t (length t - 2) (from (length t - 2) 10 (omega (arith, length-file, length-rows)))
 
-  pub high : closing₁ t ≡ 0x54
+  pub high : getD t (length t - 1) 0 ≡ 0x54
   unfolding two
   high = here t (length t - 1) (from (length t - 1) 11 (omega (arith, length-file, length-rows)))
 

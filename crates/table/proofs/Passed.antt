@@ -3,18 +3,18 @@
 use mathlib.Core.Bool.{true, _&&_}
 use mathlib.Core.List.{List}
 use mathlib.Core.Path.{_≡_, sym, _∙_}
-use Prim.Native.Nat.{ℕ, zero, suc, _+_, _*_, _<_, _≤_}
+use Prim.Native.Nat.{ℕ, zero, suc, _+_, _-_, _*_, _<_, _≤_}
 use native.Mathlib.Nat.{zero-add, add-zero, not-suc-le-zero}
 use native.Mathlib.Omega.{arith}
 use lib.Dec.{leb, eqb}
-use lib.ListN.{length}
+use lib.ListN.{length, getD}
 use borrow.Author.Tests.{leb-true, eqb-true, le-leb, eq-eqb}
 use Rattle.crc.specs.Crc.{crcOf}
 use Rattle.rows.specs.declared.Row.{Row}
 use Rattle.table.specs.Lists.{tabulate, every}
 use Rattle.table.specs.Rows.{Table}
 use Rattle.rows.specs.Places.{blockCount, fieldCount, rowAt}
-use Rattle.table.specs.Decode.{toBlocks, toFields, crcField, covered, closing₀, closing₁, rowsOf, blockOf, decode}
+use Rattle.table.specs.Decode.{toBlocks, toFields, crcField, covered, rowsOf, blockOf, decode}
 use Rattle.table.specs.Rules.{sizeOk, partsOk, countOk, toBlocksOk, toFieldsOk, crcOk, closingOk, fileOk, zeroOk, indexOk, counts, usedOk, formOk}
 use Rattle.table.specs.Rules.{numberOk, risingOk, highestOk, blockOk, meaningOk, tableOk}
 use Rattle.table.specs.Lookup.{Stands}
@@ -29,8 +29,8 @@ pub record File (t : List ℕ) : Type 0 where
   pub blocks : toBlocks t ≡ 12 + 8 * blockCount t
   pub fields : toFields t ≡ length t
   pub crc : crcField t ≡ crcOf (covered t)
-  pub low : closing₀ t ≡ 0x42
-  pub high : closing₁ t ≡ 0x54
+  pub low : getD t (length t - 2) 0 ≡ 0x42
+  pub high : getD t (length t - 1) 0 ≡ 0x54
 
 pub file : (t : List ℕ) → fileOk t ≡ true → File t
 unfolding fileOk
@@ -42,7 +42,7 @@ file t e =
     let f = both (sizeOk t && partsOk t) _ (d .0) in
     let g = both (sizeOk t) _ (f .0) in
     let s = both (leb 20 (length t)) _ (g .0) in
-    let m = both (eqb (closing₀ t) 0x42) _ (a .1) in
+    let m = both (eqb (getD t (length t - 2) 0) 0x42) _ (a .1) in
     record {
       least = leb-true _ _ (s .0);
       most = leb-true _ _ (s .1);

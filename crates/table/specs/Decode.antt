@@ -2,7 +2,7 @@
 -- Assumes nothing.
 use mathlib.Core.List.{List, map}
 use Prim.Native.Nat.{ℕ, _+_, _-_}
-use lib.ListN.{length, getD, take}
+use lib.ListN.{length, take}
 use Rattle.wire.specs.Little.{littleAt}
 use Rattle.rows.specs.declared.Row.{Row}
 use Rattle.rows.specs.Places.{versionOf, blockCount, fieldAt, rowAt}
@@ -22,13 +22,6 @@ crcField t = littleAt 2 t (length t - 4)
 -- the T-4 bytes before the CRC
 abbrev pub covered : List ℕ → List ℕ
 covered t = take (length t - 4) t
-
--- the two bytes that close the file
-abbrev pub closing₀ : List ℕ → ℕ
-closing₀ t = getD t (length t - 2) 0
-
-abbrev pub closing₁ : List ℕ → ℕ
-closing₁ t = getD t (length t - 1) 0
 
 -- the block rows as they stand
 unfoldable pub rowsOf : List ℕ → List Row

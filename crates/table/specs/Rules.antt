@@ -2,9 +2,9 @@
 -- Assumes nothing.
 use mathlib.Core.Bool.{Bool, true, false, _&&_, _||_}
 use mathlib.Core.List.{List, [], _∷_}
-use Prim.Native.Nat.{ℕ, _+_, _*_}
+use Prim.Native.Nat.{ℕ, _+_, _-_, _*_}
 use lib.Dec.{ltb, leb, eqb}
-use lib.ListN.{length}
+use lib.ListN.{length, getD}
 use Rattle.crc.specs.Crc.{crcOf}
 use Rattle.kinds.specs.Types.{u1, listed}
 use Rattle.kinds.specs.Marks.{unmarked, markFits}
@@ -13,7 +13,7 @@ use Rattle.rows.specs.declared.Row.{Row}
 use Rattle.table.specs.Lists.{every, neighbours}
 use Rattle.table.specs.Rows.{BlockRow, Table, ends}
 use Rattle.rows.specs.Places.{blockCount, fieldCount}
-use Rattle.table.specs.Decode.{toBlocks, toFields, crcField, covered, closing₀, closing₁, rowsOf, decode}
+use Rattle.table.specs.Decode.{toBlocks, toFields, crcField, covered, rowsOf, decode}
 
 -- The form. File and trailer.
 
@@ -43,7 +43,7 @@ crcOk t = eqb (crcField t) (crcOf (covered t))
 
 -- "the bytes 0x42 0x54"
 abbrev pub closingOk : List ℕ → Bool
-closingOk t = eqb (closing₀ t) 0x42 && eqb (closing₁ t) 0x54
+closingOk t = eqb (getD t (length t - 2) 0) 0x42 && eqb (getD t (length t - 1) 0) 0x54
 
 unfoldable pub fileOk : List ℕ → Bool
 fileOk t = sizeOk t && partsOk t && countOk t && toBlocksOk t && toFieldsOk t && crcOk t && closingOk t
