@@ -13,13 +13,13 @@ use Rattle.table.specs.Rows.{Table}
 use Rattle.record.specs.declared.Answer.{Answer}
 use Rattle.record.specs.declared.Handed.{Handed}
 use Rattle.record.specs.declared.Handed.the-variants.{Refused, Given}
-use Rattle.value.specs.Said.{Said, single, double}
+use Rattle.value.specs.Said.{FieldSaid, single, double}
 use Rattle.record.specs.Answer.{answerSays, caseFor, Answers, handedSays}
 use Rattle.record.specs.Calls.{bodyField, subField, subBlock, subBlockRefusal}
 use Rattle.answers.specs.Theorems.{OneAnswer, AllByMeaning, FloatsKept}
 use Rattle.record.proofs.Fields.{same}
 
-one : (r s : Answer) (said : Said) → Answers r said → Answers s said → r ≡ s
+one : (r s : Answer) (said : FieldSaid) → Answers r said → Answers s said → r ≡ s
 one r s said p q = p .case ∙ sym (q .case)
 
 one-handed : (r s : Handed) → handedSays r ≡ handedSays s → r ≡ s

@@ -11,28 +11,28 @@ use Rattle.kinds.specs.Types.{u1, u2, u4, u8, i1, i2, i4, i8, f4, f8}
 use Rattle.kinds.specs.Marks.{unmarked, ones, zeroes, minus2e10, least}
 use Rattle.rows.specs.declared.FieldRow.{FieldRow}
 use Rattle.table.specs.Rows.{Table}
-use Rattle.value.specs.Said.{Said, unsigned, signed, single, double, doNotUse, notInRevision, refused}
+use Rattle.value.specs.Said.{FieldSaid, unsigned, signed, single, double, doNotUse, notInRevision, fieldRefused}
 use Rattle.value.specs.Bits.{fieldValue}
 use Rattle.record.specs.Calls.{bodyField, subField, subBlock, subBlockRefusal, towRow, wncRow, stamp}
 
 -- what a case speaks of: an ID's number and revision, what a field says, a part and the number of its twin
-pub data Told : Type 0 where
-  id : ℕ → ℕ → Told
-  says : Said → Told
-  part : List ℕ → Option ℕ → Told
+pub data Subject : Type 0 where
+  id : ℕ → ℕ → Subject
+  says : FieldSaid → Subject
+  partSaid : List ℕ → Option ℕ → Subject
 
-pub record Case : Type 0 where
-  pub given : Told
-  pub expected : Told
+pub record RecordCase : Type 0 where
+  pub given : Subject
+  pub expected : Subject
 
-abbrev case : Told → Told → Case
+abbrev case : Subject → Subject → RecordCase
 case given expected = record { given = given; expected = expected }
 
 abbrev field : ℕ → ℕ → ℕ → ℕ → FieldRow
 field offset kind first mark = record { offset = offset; kind = kind; first = first; mark = mark }
 
-abbrev counts : List FieldRow
-counts = field 14 u1 0 unmarked ∷ field 15 u1 0 unmarked ∷ []
+abbrev countRows : List FieldRow
+countRows = field 14 u1 0 unmarked ∷ field 15 u1 0 unmarked ∷ []
 
 -- the block of 8 bytes that is sample (b) of framing
 abbrev sampleB : List ℕ
@@ -46,8 +46,8 @@ sampleTable =
       rows =
           record { number = 0; highest = 0; body = []; subs = [] }
           ∷ record { number = 1; highest = 1; body = field 14 u2 0 ones ∷ field 16 i2 0 least ∷ field 20 f4 0 minus2e10 ∷ field 24 u1 1 unmarked ∷ []; subs = [] }
-          ∷ record { number = 2; highest = 1; body = counts; subs = field 0 u2 0 unmarked ∷ field 2 i1 1 least ∷ [] }
-          ∷ record { number = 3; highest = 1; body = counts; subs = field 0 u1 1 unmarked ∷ [] }
+          ∷ record { number = 2; highest = 1; body = countRows; subs = field 0 u2 0 unmarked ∷ field 2 i1 1 least ∷ [] }
+          ∷ record { number = 3; highest = 1; body = countRows; subs = field 0 u1 1 unmarked ∷ [] }
           ∷ [];
     }
 
@@ -57,8 +57,8 @@ old =
     0x24 ∷ 0x40 ∷ 0xE9 ∷ 0x3C ∷ 0x01 ∷ 0x00 ∷ 0x18 ∷ 0x00 ∷ 0xFF ∷ 0xFF ∷ 0xFF ∷ 0xFF ∷ 0x02 ∷ 0x01 ∷ 0xFE ∷ 0xFF ∷ 0xFE ∷ 0xFF ∷ 0x00 ∷ 0x00 ∷ 0x01 ∷ 0x00 ∷ 0xC0 ∷ 0x7F ∷ []
 
 -- the same fields of revision 1, whose last would end at 25; TOW and WNc are 0
-abbrev pub cut : List ℕ
-cut =
+abbrev pub cutShort : List ℕ
+cutShort =
     0x24 ∷ 0x40 ∷ 0x90 ∷ 0x41 ∷ 0x01 ∷ 0x20 ∷ 0x18 ∷ 0x00 ∷ 0x00 ∷ 0x00 ∷ 0x00 ∷ 0x00 ∷ 0x00 ∷ 0x00 ∷ 0xFE ∷ 0xFF ∷ 0xFE ∷ 0xFF ∷ 0x00 ∷ 0x00 ∷ 0x01 ∷ 0x00 ∷ 0xC0 ∷ 0x7F ∷ []
 
 -- revision 5, newer than the row, L = 28
@@ -72,8 +72,8 @@ rowless =
     0x24 ∷ 0x40 ∷ 0x4B ∷ 0x8C ∷ 0x09 ∷ 0x00 ∷ 0x10 ∷ 0x00 ∷ 0x00 ∷ 0x00 ∷ 0x00 ∷ 0x00 ∷ 0x00 ∷ 0x00 ∷ 0x00 ∷ 0x00 ∷ []
 
 -- number 2, revision 0: two sub-blocks of 4 bytes, L = 24
-abbrev pub two : List ℕ
-two =
+abbrev pub twoSubs : List ℕ
+twoSubs =
     0x24 ∷ 0x40 ∷ 0x18 ∷ 0x46 ∷ 0x02 ∷ 0x00 ∷ 0x18 ∷ 0x00 ∷ 0x00 ∷ 0x00 ∷ 0x00 ∷ 0x00 ∷ 0x00 ∷ 0x00 ∷ 0x02 ∷ 0x04 ∷ 0x11 ∷ 0x22 ∷ 0x33 ∷ 0x44 ∷ 0x55 ∷ 0x66 ∷ 0x77 ∷ 0x88 ∷ []
 
 -- revision 1: sub-blocks of 2 bytes, where a carried sub-field ends at 3
@@ -82,8 +82,8 @@ narrow =
     0x24 ∷ 0x40 ∷ 0xDF ∷ 0xF4 ∷ 0x02 ∷ 0x20 ∷ 0x14 ∷ 0x00 ∷ 0x00 ∷ 0x00 ∷ 0x00 ∷ 0x00 ∷ 0x00 ∷ 0x00 ∷ 0x02 ∷ 0x02 ∷ 0x11 ∷ 0x22 ∷ 0x33 ∷ 0x44 ∷ []
 
 -- three sub-blocks of 4 bytes end past L = 24
-abbrev pub over : List ℕ
-over =
+abbrev pub overlong : List ℕ
+overlong =
     0x24 ∷ 0x40 ∷ 0x5D ∷ 0x29 ∷ 0x02 ∷ 0x00 ∷ 0x18 ∷ 0x00 ∷ 0x00 ∷ 0x00 ∷ 0x00 ∷ 0x00 ∷ 0x00 ∷ 0x00 ∷ 0x03 ∷ 0x04 ∷ 0x11 ∷ 0x22 ∷ 0x33 ∷ 0x44 ∷ 0x55 ∷ 0x66 ∷ 0x77 ∷ 0x88 ∷ []
 
 -- N zero, SBLength 255, L = 16
@@ -106,91 +106,91 @@ abbrev pub twelve : List ℕ
 twelve =
     0x24 ∷ 0x40 ∷ 0xE3 ∷ 0x0B ∷ 0x00 ∷ 0x00 ∷ 0x0C ∷ 0x00 ∷ 0x00 ∷ 0x00 ∷ 0x00 ∷ 0x00 ∷ []
 
-abbrev idOf : List ℕ → Told
-idOf s = id (numberOf (littleAt 2 s 0)) (revisionOf (littleAt 2 s 0))
+abbrev ofId : List ℕ → Subject
+ofId s = id (numberOf (littleAt 2 s 0)) (revisionOf (littleAt 2 s 0))
 
-abbrev value : List ℕ → ℕ → ℕ → Told
-value s kind mark = says (fieldValue s (field 0 kind 0 mark))
+abbrev ofValue : List ℕ → ℕ → ℕ → Subject
+ofValue s kind mark = says (fieldValue s (field 0 kind 0 mark))
 
-abbrev body : List ℕ → ℕ → Told
-body b i = says (bodyField sampleTable b i)
+abbrev ofBody : List ℕ → ℕ → Subject
+ofBody b i = says (bodyField sampleTable b i)
 
-abbrev sub : List ℕ → ℕ → ℕ → Told
-sub b k j = says (subField sampleTable b k j)
+abbrev ofSub : List ℕ → ℕ → ℕ → Subject
+ofSub b k j = says (subField sampleTable b k j)
 
-abbrev bytes : List ℕ → ℕ → Told
-bytes b k = part (subBlock sampleTable b k) (subBlockRefusal sampleTable b k)
+abbrev ofBytes : List ℕ → ℕ → Subject
+ofBytes b k = partSaid (subBlock sampleTable b k) (subBlockRefusal sampleTable b k)
 
-abbrev pub recordCases : List Case
+abbrev pub recordCases : List RecordCase
 recordCases =
     -- (d) ID bytes 37 17 are 5943 revision 0, 37 37 are 5943 revision 1, FF FF are 8191 revision 7
-    case (idOf (0x37 ∷ 0x17 ∷ [])) (id 5943 0)
-    ∷ case (idOf (0x37 ∷ 0x37 ∷ [])) (id 5943 1)
-    ∷ case (idOf (0xFF ∷ 0xFF ∷ [])) (id 8191 7)
+    case (ofId (0x37 ∷ 0x17 ∷ [])) (id 5943 0)
+    ∷ case (ofId (0x37 ∷ 0x37 ∷ [])) (id 5943 1)
+    ∷ case (ofId (0xFF ∷ 0xFF ∷ [])) (id 8191 7)
     -- (h) f4 bits D09502F9 with mark 3 are Do-Not-Use, D09502F8 a value
-    ∷ case (value (0xF9 ∷ 0x02 ∷ 0x95 ∷ 0xD0 ∷ []) f4 minus2e10) (says doNotUse)
-    ∷ case (value (0xF8 ∷ 0x02 ∷ 0x95 ∷ 0xD0 ∷ []) f4 minus2e10) (says (single 0xD09502F8))
+    ∷ case (ofValue (0xF9 ∷ 0x02 ∷ 0x95 ∷ 0xD0 ∷ []) f4 minus2e10) (says doNotUse)
+    ∷ case (ofValue (0xF8 ∷ 0x02 ∷ 0x95 ∷ 0xD0 ∷ []) f4 minus2e10) (says (single 0xD09502F8))
     -- (i) u2 65535 with mark 1 is Do-Not-Use, 65534 a value
-    ∷ case (value (0xFF ∷ 0xFF ∷ []) u2 ones) (says doNotUse)
-    ∷ case (value (0xFE ∷ 0xFF ∷ []) u2 ones) (says (unsigned 65534))
+    ∷ case (ofValue (0xFF ∷ 0xFF ∷ []) u2 ones) (says doNotUse)
+    ∷ case (ofValue (0xFE ∷ 0xFF ∷ []) u2 ones) (says (unsigned 65534))
     -- (j) a block of length 8 whose number has a row gives refusal 7
-    ∷ case (body sampleB 0) (says (refused 7))
+    ∷ case (ofBody sampleB 0) (says (fieldRefused 7))
     -- so does one of length 12, to the calls for TOW and WNc too
-    ∷ case (body twelve 0) (says (refused 7))
-    ∷ case (says (stamp towRow twelve)) (says (refused 7))
-    ∷ case (says (stamp wncRow twelve)) (says (refused 7))
+    ∷ case (ofBody twelve 0) (says (fieldRefused 7))
+    ∷ case (says (stamp towRow twelve)) (says (fieldRefused 7))
+    ∷ case (says (stamp wncRow twelve)) (says (fieldRefused 7))
     -- a sign at each width, and the least value
-    ∷ case (value (0xFF ∷ []) i1 unmarked) (says (signed (negsuc 0)))
-    ∷ case (value (0xFF ∷ 0x7F ∷ []) i2 least) (says (signed (pos 32767)))
-    ∷ case (value (0x00 ∷ 0x80 ∷ []) i2 least) (says doNotUse)
-    ∷ case (value (0x00 ∷ 0x80 ∷ []) i2 unmarked) (says (signed (negsuc 32767)))
-    ∷ case (value (0x00 ∷ 0x00 ∷ 0x00 ∷ 0x80 ∷ []) i4 unmarked) (says (signed (negsuc 2147483647)))
-    ∷ case (value (0xFE ∷ 0xFF ∷ 0xFF ∷ 0xFF ∷ 0xFF ∷ 0xFF ∷ 0xFF ∷ 0xFF ∷ []) i8 least) (says (signed (negsuc 1)))
+    ∷ case (ofValue (0xFF ∷ []) i1 unmarked) (says (signed (negsuc 0)))
+    ∷ case (ofValue (0xFF ∷ 0x7F ∷ []) i2 least) (says (signed (pos 32767)))
+    ∷ case (ofValue (0x00 ∷ 0x80 ∷ []) i2 least) (says doNotUse)
+    ∷ case (ofValue (0x00 ∷ 0x80 ∷ []) i2 unmarked) (says (signed (negsuc 32767)))
+    ∷ case (ofValue (0x00 ∷ 0x00 ∷ 0x00 ∷ 0x80 ∷ []) i4 unmarked) (says (signed (negsuc 2147483647)))
+    ∷ case (ofValue (0xFE ∷ 0xFF ∷ 0xFF ∷ 0xFF ∷ 0xFF ∷ 0xFF ∷ 0xFF ∷ 0xFF ∷ []) i8 least) (says (signed (negsuc 1)))
     -- f8 with mark 3, and all ones and zero in u8 and u4
-    ∷ case (value (0x00 ∷ 0x00 ∷ 0x00 ∷ 0x20 ∷ 0x5F ∷ 0xA0 ∷ 0x12 ∷ 0xC2 ∷ []) f8 minus2e10) (says doNotUse)
-    ∷ case (value (0x01 ∷ 0x00 ∷ 0x00 ∷ 0x20 ∷ 0x5F ∷ 0xA0 ∷ 0x12 ∷ 0xC2 ∷ []) f8 minus2e10) (says (double 0xC212A05F20000001))
-    ∷ case (value (0xFF ∷ 0xFF ∷ 0xFF ∷ 0xFF ∷ 0xFF ∷ 0xFF ∷ 0xFF ∷ 0xFF ∷ []) u8 ones) (says doNotUse)
-    ∷ case (value (0x00 ∷ 0x00 ∷ 0x00 ∷ 0x00 ∷ []) u4 zeroes) (says doNotUse)
-    ∷ case (value (0x00 ∷ 0x00 ∷ 0x00 ∷ 0x00 ∷ []) u4 ones) (says (unsigned 0))
+    ∷ case (ofValue (0x00 ∷ 0x00 ∷ 0x00 ∷ 0x20 ∷ 0x5F ∷ 0xA0 ∷ 0x12 ∷ 0xC2 ∷ []) f8 minus2e10) (says doNotUse)
+    ∷ case (ofValue (0x01 ∷ 0x00 ∷ 0x00 ∷ 0x20 ∷ 0x5F ∷ 0xA0 ∷ 0x12 ∷ 0xC2 ∷ []) f8 minus2e10) (says (double 0xC212A05F20000001))
+    ∷ case (ofValue (0xFF ∷ 0xFF ∷ 0xFF ∷ 0xFF ∷ 0xFF ∷ 0xFF ∷ 0xFF ∷ 0xFF ∷ []) u8 ones) (says doNotUse)
+    ∷ case (ofValue (0x00 ∷ 0x00 ∷ 0x00 ∷ 0x00 ∷ []) u4 zeroes) (says doNotUse)
+    ∷ case (ofValue (0x00 ∷ 0x00 ∷ 0x00 ∷ 0x00 ∷ []) u4 ones) (says (unsigned 0))
     -- body fields: values, a NaN's bits, not in this revision, no such field
-    ∷ case (body old 0) (says (unsigned 65534))
-    ∷ case (body old 1) (says (signed (negsuc 1)))
-    ∷ case (body old 2) (says (single 0x7FC00001))
-    ∷ case (body old 3) (says notInRevision)
-    ∷ case (body old 4) (says (refused 9))
-    ∷ case (sub old 0 0) (says (refused 9))
-    ∷ case (bytes old 0) (part [] (some 9))
+    ∷ case (ofBody old 0) (says (unsigned 65534))
+    ∷ case (ofBody old 1) (says (signed (negsuc 1)))
+    ∷ case (ofBody old 2) (says (single 0x7FC00001))
+    ∷ case (ofBody old 3) (says notInRevision)
+    ∷ case (ofBody old 4) (says (fieldRefused 9))
+    ∷ case (ofSub old 0 0) (says (fieldRefused 9))
+    ∷ case (ofBytes old 0) (partSaid [] (some 9))
     ∷ case (says (stamp towRow old)) (says doNotUse)
     ∷ case (says (stamp wncRow old)) (says (unsigned 0x0102))
     -- 7 comes before 9; a revision newer than the table is read by the rows it has
-    ∷ case (body cut 0) (says (refused 7))
-    ∷ case (body cut 4) (says (refused 7))
-    ∷ case (body newer 1) (says doNotUse)
-    ∷ case (body newer 2) (says doNotUse)
-    ∷ case (body newer 3) (says (unsigned 9))
+    ∷ case (ofBody cutShort 0) (says (fieldRefused 7))
+    ∷ case (ofBody cutShort 4) (says (fieldRefused 7))
+    ∷ case (ofBody newer 1) (says doNotUse)
+    ∷ case (ofBody newer 2) (says doNotUse)
+    ∷ case (ofBody newer 3) (says (unsigned 9))
     ∷ case (says (stamp wncRow newer)) (says doNotUse)
     -- 6, and 10 before it
-    ∷ case (body rowless 0) (says (refused 6))
-    ∷ case (body (0x24 ∷ rowless) 0) (says (refused 10))
+    ∷ case (ofBody rowless 0) (says (fieldRefused 6))
+    ∷ case (ofBody (0x24 ∷ rowless) 0) (says (fieldRefused 10))
     -- sub-blocks
-    ∷ case (sub two 1 0) (says (unsigned 0x6655))
-    ∷ case (sub two 1 1) (says notInRevision)
-    ∷ case (sub two 1 2) (says (refused 9))
-    ∷ case (sub two 2 0) (says (refused 9))
-    ∷ case (bytes two 1) (part (0x55 ∷ 0x66 ∷ 0x77 ∷ 0x88 ∷ []) none)
-    ∷ case (bytes two 2) (part [] (some 9))
-    ∷ case (body two 0) (says (unsigned 2))
-    ∷ case (body narrow 0) (says (refused 8))
-    ∷ case (bytes narrow 0) (part [] (some 8))
-    ∷ case (sub over 0 0) (says (refused 8))
+    ∷ case (ofSub twoSubs 1 0) (says (unsigned 0x6655))
+    ∷ case (ofSub twoSubs 1 1) (says notInRevision)
+    ∷ case (ofSub twoSubs 1 2) (says (fieldRefused 9))
+    ∷ case (ofSub twoSubs 2 0) (says (fieldRefused 9))
+    ∷ case (ofBytes twoSubs 1) (partSaid (0x55 ∷ 0x66 ∷ 0x77 ∷ 0x88 ∷ []) none)
+    ∷ case (ofBytes twoSubs 2) (partSaid [] (some 9))
+    ∷ case (ofBody twoSubs 0) (says (unsigned 2))
+    ∷ case (ofBody narrow 0) (says (fieldRefused 8))
+    ∷ case (ofBytes narrow 0) (partSaid [] (some 8))
+    ∷ case (ofSub overlong 0 0) (says (fieldRefused 8))
     -- N zero, and SBLength zero
-    ∷ case (body nosubs 1) (says (unsigned 255))
-    ∷ case (sub nosubs 0 0) (says (refused 9))
-    ∷ case (bytes flat 0) (part [] (some 8))
-    ∷ case (bytes hollow 4) (part [] none)
-    ∷ case (sub hollow 4 0) (says notInRevision)
-    ∷ case (bytes hollow 5) (part [] (some 9))
+    ∷ case (ofBody nosubs 1) (says (unsigned 255))
+    ∷ case (ofSub nosubs 0 0) (says (fieldRefused 9))
+    ∷ case (ofBytes flat 0) (partSaid [] (some 8))
+    ∷ case (ofBytes hollow 4) (partSaid [] none)
+    ∷ case (ofSub hollow 4 0) (says notInRevision)
+    ∷ case (ofBytes hollow 5) (partSaid [] (some 9))
     ∷ []
 
-abbrev pub SamplesHold : Type 0
-SamplesHold = map (λ (c : Case). c .given) recordCases ≡ map (λ (c : Case). c .expected) recordCases
+abbrev pub RecordSamplesHold : Type 0
+RecordSamplesHold = map (λ (c : RecordCase). c .given) recordCases ≡ map (λ (c : RecordCase). c .expected) recordCases

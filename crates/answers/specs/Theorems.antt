@@ -10,13 +10,13 @@ use Rattle.value.specs.declared.Value.the-variants.{Single, Double, SingleNan, 
 use Rattle.record.specs.declared.Answer.{Answer}
 use Rattle.record.specs.declared.Answer.the-variants.{Field}
 use Rattle.record.specs.declared.Handed.{Handed}
-use Rattle.value.specs.Said.{Said, single, double}
+use Rattle.value.specs.Said.{FieldSaid, single, double}
 use Rattle.record.specs.Answer.{answerSays, caseFor, Answers, handedSays}
 use Rattle.record.specs.Calls.{bodyField, subField, subBlock, subBlockRefusal}
 
 -- "one input admits one outcome": what is to be said fixes the answer, its case too
 pub record OneAnswer : Type 0 where
-  pub answers : (r s : Answer) (said : Said) → Answers r said → Answers s said → r ≡ s
+  pub answers : (r s : Answer) (said : FieldSaid) → Answers r said → Answers s said → r ≡ s
   pub handed : (r s : Handed) → handedSays r ≡ handedSays s → r ≡ s
 
 -- the answers are those of the decoded table: two tables that mean the same give the same

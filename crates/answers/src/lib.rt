@@ -1,5 +1,5 @@
 // Theorems about the answers of record calls, and document 01's samples of them. No code.
-ghost use Rattle.answers.specs.Samples.{SamplesHold};
+ghost use Rattle.answers.specs.Samples.{RecordSamplesHold};
 ghost use Rattle.answers.specs.Theorems.{OneAnswer, AllByMeaning, FloatsKept};
 
 // What is to be said fixes the answer.
@@ -19,5 +19,5 @@ pub fn floats_kept()
 
 // Document 01's samples of records hold, and the rules at their limits.
 pub fn samples_hold()
-    ensures { λ _. ⌜ SamplesHold ⌝ }
+    ensures { λ _. ⌜ RecordSamplesHold ⌝ }
 {}

@@ -13,8 +13,8 @@ use Rattle.frame.specs.Frame.{lengthAt, syncAt, allowed, endsWithin, frameAt, w
 use Rattle.refusal.specs.declared.Refusal.{Refusal}
 use Rattle.refusal.specs.declared.Refusal.the-variants.{NoRow, TooShort, BadSubBlocks, NoSuchField, NotOneFrame}
 use Rattle.rows.specs.declared.Row.{Row}
-use Rattle.table.specs.declared.Found.{Found}
-use Rattle.table.specs.declared.Found.the-variants as found
+use Rattle.table.specs.declared.RowFound.{RowFound}
+use Rattle.table.specs.declared.RowFound.the-variants as found
 use Rattle.table.specs.Lists.{tabulate, every}
 use Rattle.rows.specs.Places.{fieldCount, fieldAt}
 use Rattle.table.specs.Decode.{blockOf, decode}
@@ -23,10 +23,10 @@ use Rattle.table.specs.Lookup as lookup
 use Rattle.table.proofs.Bools.{both}
 use Rattle.table.proofs.Lists.{length-tab}
 use Rattle.block.specs.declared.Span.{Span}
-use Rattle.block.specs.declared.Looked.{Looked}
-use Rattle.block.specs.declared.Looked.the-variants.{At, Refused}
-use Rattle.block.specs.declared.SubLooked.the-variants as sub
-use Rattle.block.specs.Block.{numberIn, revisionIn, countIn, subLengthIn, endsBy, bodyFits, subSpan, subsFit, row, seenRow, seen, seenSubRow, seenSub, meant, Fine, FineIfAny, Looking, SubFine, SubLooking}
+use Rattle.block.specs.declared.Matched.{Matched}
+use Rattle.block.specs.declared.Matched.the-variants.{At, Refused}
+use Rattle.block.specs.declared.SubMatched.the-variants as sub
+use Rattle.block.specs.Block.{numberIn, revisionIn, countIn, subLengthIn, endsBy, bodyFits, subSpan, subsFit, row, seenRow, seen, seenSubRow, seenSub, matchedSays, Fine, FineIfAny, Matching, SubFine, SubMatching}
 use Rattle.block.specs.Code.{Judging, ByAnyRow}
 
 -- the product of two bytes
@@ -96,33 +96,33 @@ module _ (t b : List ℕ) (r : Row) where
 
 -- refusals 10 and 6
 module _ (t b : List ℕ) where
-  pub look-10 : wholeFrame b ≡ false → Looking t b (Refused NotOneFrame)
+  pub look-10 : wholeFrame b ≡ false → Matching t b (Refused NotOneFrame)
   unfolding seen
   look-10 e = record { is = rw e; fine = tt }
 
-  module _ (whole : wholeFrame b ≡ true) (n : ℕ) (f : Found) (d : Finding t n f) (g : n ≡ numberIn b) where
-    seen-by : seen (decode t) b ≡ seenRow b (lookup.meant t f)
+  module _ (whole : wholeFrame b ≡ true) (n : ℕ) (f : RowFound) (d : Finding t n f) (g : n ≡ numberIn b) where
+    seen-by : seen (decode t) b ≡ seenRow b (lookup.rowSays t f)
     unfolding seen
     seen-by = rw (whole, ← g, ← d .is)
 
-    pub look-6 : f ≡ found.Nothing → Looking t b (Refused NoRow)
+    pub look-6 : f ≡ found.Nothing → Matching t b (Refused NoRow)
     unfolding seenRow
-    look-6 h = record { is = sym (seen-by ∙ ap (λ (x : Found). seenRow b (lookup.meant t x)) h); fine = tt }
+    look-6 h = record { is = sym (seen-by ∙ ap (λ (x : RowFound). seenRow b (lookup.rowSays t x)) h); fine = tt }
 
-    pub look-at : {r : Row} {l : Looked} → f ≡ found.At r → Judging t b r l → Looking t b l
-    look-at h j = record { is = j .is ∙ sym (seen-by ∙ ap (λ (x : Found). seenRow b (lookup.meant t x)) h); fine = j .fine }
+    pub look-at : {r : Row} {l : Matched} → f ≡ found.At r → Judging t b r l → Matching t b l
+    look-at h j = record { is = j .is ∙ sym (seen-by ∙ ap (λ (x : RowFound). seenRow b (lookup.rowSays t x)) h); fine = j .fine }
 
-pub stands-at : (t : List ℕ) {n : ℕ} {f : Found} {r : Row} → Finding t n f → f ≡ found.At r → r .start + r .bodies + r .subs ≤ fieldCount t
+pub stands-at : (t : List ℕ) {n : ℕ} {f : RowFound} {r : Row} → Finding t n f → f ≡ found.At r → r .start + r .bodies + r .subs ≤ fieldCount t
 stands-at t {n} {f} {r} d h = let s : Stands t r = subst (StandsIfAny t) h (d .stands) in s .inside
 
-pub fine-at : (t b : List ℕ) {l : Looked} {r : Row} → Looking t b l → l ≡ At r → Fine t b r
+pub fine-at : (t b : List ℕ) {l : Matched} {r : Row} → Matching t b l → l ≡ At r → Fine t b r
 fine-at t b d h = subst (FineIfAny t b) h (d .fine)
 
 -- sub-blocks: refusal 9
-module _ (t b : List ℕ) {l : Looked} (d : Looking t b l) (k : ℕ) where
-  pub sub-refused : {x : Refusal} → l ≡ Refused x → SubLooking t b k (sub.Refused x)
+module _ (t b : List ℕ) {l : Matched} (d : Matching t b l) (k : ℕ) where
+  pub sub-refused : {x : Refusal} → l ≡ Refused x → SubMatching t b k (sub.Refused x)
   unfolding seenSub seenSubRow
-  sub-refused h = record { is = ap (seenSubRow b k) (sym (ap (meant t) h) ∙ d .is); fine = tt }
+  sub-refused h = record { is = ap (seenSubRow b k) (sym (ap (matchedSays t) h) ∙ d .is); fine = tt }
 
   module _ (r : Row) (h : l ≡ At r) where
     passed : Fine t b r
@@ -130,14 +130,14 @@ module _ (t b : List ℕ) {l : Looked} (d : Looking t b l) (k : ℕ) where
 
     sub-seen : seenSub (decode t) b k ≡ seenSubRow b k (row (blockOf t r))
     unfolding seenSub
-    sub-seen = ap (seenSubRow b k) (sym (d .is) ∙ ap (meant t) h)
+    sub-seen = ap (seenSubRow b k) (sym (d .is) ∙ ap (matchedSays t) h)
 
-    pub sub-none : r .subs ≡ 0 → SubLooking t b k (sub.Refused NoSuchField)
+    pub sub-none : r .subs ≡ 0 → SubMatching t b k (sub.Refused NoSuchField)
     unfolding seenSubRow blockOf
     sub-none e = record { is = sym (sub-seen ∙ rw (length-tab (fieldAt t) (r .start + r .bodies) (r .subs), e, le-ltb k 0 (omega arith))); fine = tt }
 
     module _ (some-subs : r .subs ≡ 0 → ⊥) {n : ℕ} (g : n ≡ countIn b) where
-      pub sub-past : n ≤ k → SubLooking t b k (sub.Refused NoSuchField)
+      pub sub-past : n ≤ k → SubMatching t b k (sub.Refused NoSuchField)
       unfolding seenSubRow blockOf
       sub-past i =
           let j : countIn b ≤ k = omega arith in
@@ -172,7 +172,7 @@ module _ (t b : List ℕ) {l : Looked} (d : Looking t b l) (k : ℕ) where
             fields = subst (λ (x : Span). every (endsBy (revisionIn b) (x .size)) (blockOf t r .subs) ≡ true) (sym e) (inner j .0);
           }
 
-      pub sub-at : k < n → n < 256 → {s : Span} → ByAnyRow b k s → SubLooking t b k (sub.At r s)
+      pub sub-at : k < n → n < 256 → {s : Span} → ByAnyRow b k s → SubMatching t b k (sub.At r s)
       unfolding seenSubRow blockOf
       sub-at i z p =
           let j : k < countIn b = omega arith in

@@ -17,10 +17,10 @@ use Rattle.rows.specs.Places.{fieldCount}
 use Rattle.table.specs.Decode.{blockOf, decode}
 use Rattle.table.specs.Lookup.{carried, findRow}
 use Rattle.block.specs.declared.Span.{Span}
-use Rattle.block.specs.declared.Looked.{Looked}
-use Rattle.block.specs.declared.Looked.the-variants as looked
-use Rattle.block.specs.declared.SubLooked.{SubLooked}
-use Rattle.block.specs.declared.SubLooked.the-variants as subLooked
+use Rattle.block.specs.declared.Matched.{Matched}
+use Rattle.block.specs.declared.Matched.the-variants as matched
+use Rattle.block.specs.declared.SubMatched.{SubMatched}
+use Rattle.block.specs.declared.SubMatched.the-variants as subMatched
 
 -- "The low thirteen bits of the ID are the block number, the top three its revision."
 abbrev pub numberIn : List ℕ → ℕ
@@ -90,13 +90,13 @@ unfoldable pub seenSub : Table → List ℕ → ℕ → Seen
 seenSub tab b k = seenSubRow b k (seen tab b)
 
 -- the row or the number that the code's answer means
-abbrev pub meant : List ℕ → Looked → Seen
-meant t (looked.At r) = row (blockOf t r)
-meant t (looked.Refused x) = refusedBy (numberFor x)
+abbrev pub matchedSays : List ℕ → Matched → Seen
+matchedSays t (matched.At r) = row (blockOf t r)
+matchedSays t (matched.Refused x) = refusedBy (numberFor x)
 
-abbrev pub subMeant : List ℕ → SubLooked → Seen
-subMeant t (subLooked.At r s) = row (blockOf t r)
-subMeant t (subLooked.Refused x) = refusedBy (numberFor x)
+abbrev pub subMatchedSays : List ℕ → SubMatched → Seen
+subMatchedSays t (subMatched.At r s) = row (blockOf t r)
+subMatchedSays t (subMatched.Refused x) = refusedBy (numberFor x)
 
 -- what a caller may use of a row that was found: its field rows are there, N and SBLength too, and the block passed
 pub record Fine (t b : List ℕ) (r : Row) : Type 0 where
@@ -105,12 +105,12 @@ pub record Fine (t b : List ℕ) (r : Row) : Type 0 where
   pub body : bodyFits b (blockOf t r) ≡ true
   pub subs : subsFit b (blockOf t r) ≡ true
 
-abbrev pub FineIfAny : List ℕ → List ℕ → Looked → Type 0
-FineIfAny t b (looked.At r) = Fine t b r
-FineIfAny t b (looked.Refused x) = Unit
+abbrev pub FineIfAny : List ℕ → List ℕ → Matched → Type 0
+FineIfAny t b (matched.At r) = Fine t b r
+FineIfAny t b (matched.Refused x) = Unit
 
-pub record Looking (t b : List ℕ) (l : Looked) : Type 0 where
-  pub is : meant t l ≡ seen (decode t) b
+pub record Matching (t b : List ℕ) (l : Matched) : Type 0 where
+  pub is : matchedSays t l ≡ seen (decode t) b
   pub fine : FineIfAny t b l
 
 -- of a sub-block that is there: where it stands, in the block, and its carried fields lie in it
@@ -122,10 +122,10 @@ pub record SubFine (t b : List ℕ) (k : ℕ) (r : Row) (s : Span) : Type 0 wher
   pub within : s .at + s .size ≤ length b
   pub fields : every (endsBy (revisionIn b) (s .size)) (blockOf t r .subs) ≡ true
 
-abbrev pub SubFineIfAny : List ℕ → List ℕ → ℕ → SubLooked → Type 0
-SubFineIfAny t b k (subLooked.At r s) = SubFine t b k r s
-SubFineIfAny t b k (subLooked.Refused x) = Unit
+abbrev pub SubFineIfAny : List ℕ → List ℕ → ℕ → SubMatched → Type 0
+SubFineIfAny t b k (subMatched.At r s) = SubFine t b k r s
+SubFineIfAny t b k (subMatched.Refused x) = Unit
 
-pub record SubLooking (t b : List ℕ) (k : ℕ) (l : SubLooked) : Type 0 where
-  pub is : subMeant t l ≡ seenSub (decode t) b k
+pub record SubMatching (t b : List ℕ) (k : ℕ) (l : SubMatched) : Type 0 where
+  pub is : subMatchedSays t l ≡ seenSub (decode t) b k
   pub fine : SubFineIfAny t b k l

@@ -8,12 +8,12 @@ use Rattle.rows.specs.declared.Row.{Row}
 use Rattle.table.specs.Rows.{BlockRow}
 use Rattle.table.specs.Decode.{blockOf}
 use Rattle.block.specs.declared.Span.{Span}
-use Rattle.block.specs.declared.Looked.{Looked}
-use Rattle.block.specs.Block.{subSpan, seenRow, meant, FineIfAny}
+use Rattle.block.specs.declared.Matched.{Matched}
+use Rattle.block.specs.Block.{subSpan, seenRow, matchedSays, FineIfAny}
 
 -- of a row whose block is a whole frame: what refusals 7 and 8 make of it
-pub record Judging (t b : List ℕ) (r : Row) (l : Looked) : Type 0 where
-  pub is : meant t l ≡ seenRow b (some (blockOf t r))
+pub record Judging (t b : List ℕ) (r : Row) (l : Matched) : Type 0 where
+  pub is : matchedSays t l ≡ seenRow b (some (blockOf t r))
   pub fine : FineIfAny t b l
 
 -- where sub-block k stands by any row: the bytes of the block decide

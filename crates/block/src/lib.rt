@@ -7,16 +7,16 @@ ghost use Rattle.table.specs.Lists.{tabulate, every};
 ghost use Rattle.rows.specs.Places.{fieldCount, fieldAt};
 ghost use Rattle.table.specs.Decode.{blockOf};
 ghost use Rattle.table.specs.Rules.{tableOk};
-ghost use Rattle.block.specs.Block.{numberIn, revisionIn, endsBy, bodyFits, subsFit, Looking, SubLooking};
+ghost use Rattle.block.specs.Block.{numberIn, revisionIn, endsBy, bodyFits, subsFit, Matching, SubMatching};
 ghost use Rattle.block.specs.Code.{Judging, ByAnyRow};
 ghost use Rattle.frame.specs.Frame.{wholeFrame};
 use refusal::Refusal;
 use rows::FieldRow;
 use rows::Row;
-use table::Found;
+use table::RowFound;
 
 // The row that a block is read by, or why it is refused.
-pub enum Looked {
+pub enum Matched {
     At(Row),
     Refused(Refusal),
 }
@@ -28,7 +28,7 @@ pub struct Span {
 }
 
 // The row that a sub-block is read by and where it stands, or why it is refused.
-pub enum SubLooked {
+pub enum SubMatched {
     At(Row, Span),
     Refused(Refusal),
 }
@@ -113,49 +113,49 @@ fn subs_fit(t: &[u8], row: Row, block: &[u8]) -> bool
 }
 
 // Refusals 7 and 8, in this order.
-fn judged(t: &[u8], row: Row, block: &[u8]) -> Looked
+fn fitted(t: &[u8], row: Row, block: &[u8]) -> Matched
     requires { ⌜ (wholeFrame (now block) ≡ true) × (row .start + row .bodies + row .subs ≤ fieldCount (now t)) ⌝ }
     ensures { λ l. ⌜ Judging (now (t .entry)) (now (block .entry)) row l ⌝ }
 {
     if !body_fits(t, row, block) {
-        return Looked::Refused(Refusal::TooShort);
+        return Matched::Refused(Refusal::TooShort);
     }
     if !subs_fit(t, row, block) {
-        return Looked::Refused(Refusal::BadSubBlocks);
+        return Matched::Refused(Refusal::BadSubBlocks);
     }
-    Looked::At(row)
+    Matched::At(row)
 }
 
 // The row that a block is read by, or the first refusal of 10, 6, 7 and 8.
-pub fn row_of(t: &[u8], block: &[u8]) -> Looked
+pub fn row_of(t: &[u8], block: &[u8]) -> Matched
     requires { ⌜ tableOk (now t) ≡ true ⌝ }
-    ensures { λ l. ⌜ Looking (now (t .entry)) (now (block .entry)) l ⌝ }
+    ensures { λ l. ⌜ Matching (now (t .entry)) (now (block .entry)) l ⌝ }
 {
     if !frame::is_frame(block) {
-        return Looked::Refused(Refusal::NotOneFrame);
+        return Matched::Refused(Refusal::NotOneFrame);
     }
     match table::find(t, number(block)) {
-        Found::At(row) => judged(t, row, block),
-        Found::Nothing => Looked::Refused(Refusal::NoRow),
+        RowFound::At(row) => fitted(t, row, block),
+        RowFound::Nothing => Matched::Refused(Refusal::NoRow),
     }
 }
 
 // The same for sub-block k and where it stands, with refusal 9 after them.
-pub fn sub_row_of(t: &[u8], block: &[u8], k: usize) -> SubLooked
+pub fn sub_row_of(t: &[u8], block: &[u8], k: usize) -> SubMatched
     requires { ⌜ tableOk (now t) ≡ true ⌝ }
-    ensures { λ l. ⌜ SubLooking (now (t .entry)) (now (block .entry)) k l ⌝ }
+    ensures { λ l. ⌜ SubMatching (now (t .entry)) (now (block .entry)) k l ⌝ }
 {
     match row_of(t, block) {
-        Looked::At(row) => {
+        Matched::At(row) => {
             let m = row.subs;
             if m == 0 {
-                return SubLooked::Refused(Refusal::NoSuchField);
+                return SubMatched::Refused(Refusal::NoSuchField);
             }
             if rows::wide(block[14]) <= k {
-                return SubLooked::Refused(Refusal::NoSuchField);
+                return SubMatched::Refused(Refusal::NoSuchField);
             }
-            SubLooked::At(row, sub_span(block, k))
+            SubMatched::At(row, sub_span(block, k))
         }
-        Looked::Refused(x) => SubLooked::Refused(x),
+        Matched::Refused(x) => SubMatched::Refused(x),
     }
 }

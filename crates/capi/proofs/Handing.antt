@@ -11,7 +11,7 @@ use lib.Seq.{length-take-le}
 use Rattle.table.specs.Decode.{decode}
 use Rattle.block.specs.declared.Span.{Span}
 use Rattle.block.specs.Block.{Seen, refusedBy, row, seenSub}
-use Rattle.record.specs.Calls.{subBytes, numberBy, partBy, subBlock, subBlockRefusal}
+use Rattle.record.specs.Calls.{subSlice, numberBy, partBy, subBlock, subBlockRefusal}
 use Rattle.record.proofs.Parts.{part-long}
 use Rattle.reader.specs.State.{sound}
 use Rattle.reader.specs.declared.State.{State}
@@ -91,7 +91,7 @@ module _ (t : State) (force block : List ℕ) (k : ℕ) where
   sub-none n e = part-none (askRefusal t force) _ n _ e (λ f. refused-row (seenSub (decode (tableInForce t force)) block k) n f block k)
 
   pub sub-cut : take (subPlaceOf t force block k .size) (drop (subPlaceOf t force block k .at) block) ≡ subBytesOf t force block k
-  unfolding subBytes
+  unfolding subSlice
   sub-cut = place-bytes t force block k
 
   -- of the place that the call answered, which lies in the block

@@ -5,7 +5,7 @@ use mathlib.Core.Bool.{false}
 use mathlib.Core.List.{List, []}
 use mathlib.Core.Option.{some}
 use Prim.Native.Nat.{ℕ}
-use Rattle.record.specs.Answer as field
+use Rattle.record.specs.Answer.{fieldRefused}
 use Rattle.reader.specs.declared.State.{State}
 use Rattle.reader.specs.State.{sound}
 use Rattle.reader.specs.Said.{refused}
@@ -44,11 +44,11 @@ module _ (t : State) (e : sound t ≡ false) where
   unfolding askRefusal
   ask-one force = rw e
 
-  pub body-one : (force block : List ℕ) (i : ℕ) → bodyOf t force block i ≡ field.refused 1
+  pub body-one : (force block : List ℕ) (i : ℕ) → bodyOf t force block i ≡ fieldRefused 1
   unfolding bodyOf
   body-one force block i = rw (ask-one force)
 
-  pub sub-one : (force block : List ℕ) (k j : ℕ) → subOf t force block k j ≡ field.refused 1
+  pub sub-one : (force block : List ℕ) (k j : ℕ) → subOf t force block k j ≡ fieldRefused 1
   unfolding subOf
   sub-one force block k j = rw (ask-one force)
 
@@ -56,10 +56,10 @@ module _ (t : State) (e : sound t ≡ false) where
   unfolding subBytesRefusal
   sub-bytes-one force block k = rw (ask-one force)
 
-  pub tow-one : (block : List ℕ) → towOf t block ≡ field.refused 1
+  pub tow-one : (block : List ℕ) → towOf t block ≡ fieldRefused 1
   unfolding stampOf
   tow-one block = rw e
 
-  pub wnc-one : (block : List ℕ) → wncOf t block ≡ field.refused 1
+  pub wnc-one : (block : List ℕ) → wncOf t block ≡ fieldRefused 1
   unfolding stampOf
   wnc-one block = rw e

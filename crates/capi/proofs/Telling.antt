@@ -3,7 +3,7 @@
 use mathlib.Core.Path.{_≡_, ap, _∙_}
 use mathlib.Core.Bool.{false}
 use mathlib.Core.Option.{Option, none, some}
-use Rattle.record.specs.Answer.{Said, refused, answerSays, Answers}
+use Rattle.record.specs.Answer.{FieldSaid, fieldRefused, answerSays, Answers}
 use Rattle.record.specs.declared.Answer.{Answer}
 use Rattle.reader.specs.State.{sound}
 use Rattle.reader.specs.declared.State.{State}
@@ -12,7 +12,7 @@ use Rattle.cform.specs.Answer.{fieldC}
 use Rattle.cform.specs.declared.CField.{CField}
 use Rattle.capi.specs.Calls.{tells}
 
-module _ (call : State → Said) (refuses : (t : State) → sound t ≡ false → call t ≡ refused 1) where
+module _ (call : State → FieldSaid) (refuses : (t : State) → sound t ≡ false → call t ≡ fieldRefused 1) where
   tells-by : (o : Option State) (t : State) → Reads o t → fieldC (call t) ≡ tells call o
   tells-by none t k = ap fieldC (refuses t k)
   tells-by (some u) t k = ap (λ (v : State). fieldC (call v)) k

@@ -4,7 +4,7 @@ use Prim.Native.Nat.{ℕ}
 use mathlib.Core.List.{List, []}
 use mathlib.Core.Option.{Option, none, some}
 use lib.ListN.{length, take, drop}
-use Rattle.record.specs.Answer as field
+use Rattle.record.specs.Answer.{FieldSaid, fieldRefused}
 use Rattle.reader.specs.declared.State.{State}
 use Rattle.reader.specs.Said.{Said, refused}
 use Rattle.runs.specs.Refusals.{bytesRefusal}
@@ -52,8 +52,8 @@ withdrawC s = goesOn withdrawOf s [] (stateOf s)
 
 -- ---- fields
 
-abbrev pub tells : (State → field.Said) → Option State → CField
-tells call none = fieldC (field.refused 1)
+abbrev pub tells : (State → FieldSaid) → Option State → CField
+tells call none = fieldC (fieldRefused 1)
 tells call (some t) = fieldC (call t)
 
 unfoldable pub bodyC : CState → List ℕ → List ℕ → ℕ → CField

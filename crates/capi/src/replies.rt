@@ -14,7 +14,7 @@ pub extern "C" fn alderflute_open(s: CState, in_force: &mut [u8], waiting: &[u8]
     let o = tables::open(t, in_force, waiting);
     let next = o.state;
     let answer = o.answer;
-    cform::replies::reply(s, next, cform::replies::opened(answer))
+    cform::replies::reply(s, next, cform::replies::opened_c(answer))
 }
 
 #[no_mangle]
@@ -25,7 +25,7 @@ pub extern "C" fn alderflute_feed(s: CState, hold: &mut [u8], piece: &[u8]) -> C
     let o = runs::feed(t, hold, piece);
     let next = o.state;
     let answer = o.answer;
-    cform::replies::reply(s, next, cform::replies::fed(answer))
+    cform::replies::reply(s, next, cform::replies::fed_c(answer))
 }
 
 #[no_mangle]
@@ -36,7 +36,7 @@ pub extern "C" fn alderflute_finish(s: CState, hold: &mut [u8]) -> CReply
     let o = runs::finish(t, hold);
     let next = o.state;
     let answer = o.answer;
-    cform::replies::reply(s, next, cform::replies::finished(answer))
+    cform::replies::reply(s, next, cform::replies::finished_c(answer))
 }
 
 #[no_mangle]
@@ -47,7 +47,7 @@ pub extern "C" fn alderflute_stage(s: CState, waiting: &mut [u8], table: &[u8]) 
     let o = tables::stage(t, waiting, table);
     let next = o.state;
     let answer = o.answer;
-    cform::replies::reply(s, next, cform::replies::staged(answer))
+    cform::replies::reply(s, next, cform::replies::staged_c(answer))
 }
 
 #[no_mangle]
@@ -58,5 +58,5 @@ pub extern "C" fn alderflute_withdraw(s: CState) -> CReply
     let o = tables::withdraw(t);
     let next = o.state;
     let answer = o.answer;
-    cform::replies::reply(s, next, cform::replies::withdrawn(answer))
+    cform::replies::reply(s, next, cform::replies::withdrawn_c(answer))
 }

@@ -5,7 +5,7 @@ use mathlib.Core.Bool.{true, false}
 use mathlib.Core.Option.{Option, none, some}
 use Prim.Native.Nat.{ℕ, zero, suc, _<_}
 use native.Mathlib.Omega.{arith}
-use Rattle.record.specs.Answer as field
+use Rattle.record.specs.Answer.{FieldSaid, doNotUse, double, fieldRefused, notInRevision, signed, single, unsigned}
 use Rattle.reader.specs.declared.Phase.{Phase}
 use Rattle.reader.specs.declared.Phase.the-variants.{Closed, Feeding, Finishing}
 use Rattle.reader.specs.declared.State.{State}
@@ -70,14 +70,14 @@ withdrawn-back (withdrawn.Waited true) = refl
 withdrawn-back (withdrawn.Waited false) = refl
 withdrawn-back (withdrawn.Refused x) = refl
 
-field-back : (a : field.Said) → fieldBack (fieldC a) ≡ a
-field-back (field.unsigned n) = refl
-field-back (field.signed z) = refl
-field-back (field.single b) = refl
-field-back (field.double b) = refl
-field-back field.doNotUse = refl
-field-back field.notInRevision = refl
-field-back (field.refused n) = refl
+field-back : (a : FieldSaid) → fieldBack (fieldC a) ≡ a
+field-back (unsigned n) = refl
+field-back (signed z) = refl
+field-back (single b) = refl
+field-back (double b) = refl
+field-back doNotUse = refl
+field-back notInRevision = refl
+field-back (fieldRefused n) = refl
 
 pub nothing-lost : NothingLost
 nothing-lost =

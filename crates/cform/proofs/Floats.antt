@@ -6,7 +6,7 @@ use Prim.Native.Nat.{ℕ}
 use lib.Dec.{T}
 use lib.Ieee.{Format, binary32, binary64, nanBits, isNan, ofBits}
 use lib.Ieee.Bits.{nanBits-is}
-use Rattle.record.specs.Answer.{Said, unsigned, signed, single, double, doNotUse, notInRevision, refused, singleCase, doubleCase, caseFor, Answers}
+use Rattle.record.specs.Answer.{FieldSaid, unsigned, signed, single, double, doNotUse, notInRevision, fieldRefused, singleCase, doubleCase, caseFor, Answers}
 use Rattle.record.specs.declared.Answer.{Answer}
 use Rattle.cform.specs.Answer.{NoNan, NoNanIn}
 
@@ -21,14 +21,14 @@ double-by : (b : ℕ) (x : Bool) → nanBits binary64 b ≡ x → NoNan (doubleC
 double-by b true e = rw e tt
 double-by b false e = rw e (float binary64 b e)
 
-case-by : (a : Said) → NoNanIn (caseFor a)
+case-by : (a : FieldSaid) → NoNanIn (caseFor a)
 case-by (unsigned n) = tt
 case-by (signed z) = tt
 case-by (single b) = single-by b (nanBits binary32 b) refl
 case-by (double b) = double-by b (nanBits binary64 b) refl
 case-by doNotUse = tt
 case-by notInRevision = tt
-case-by (refused n) = tt
+case-by (fieldRefused n) = tt
 
-pub no-nan : {r : Answer} {a : Said} → Answers r a → NoNanIn r
+pub no-nan : {r : Answer} {a : FieldSaid} → Answers r a → NoNanIn r
 no-nan {r} {a} h = subst NoNanIn (sym (h .case)) (case-by a)

@@ -6,7 +6,7 @@ use mathlib.Core.Option.{Option, none, some}
 use lib.Dec.{T}
 use lib.Ieee.{isNan}
 use lib.IntN.{ℤ, pos}
-use Rattle.record.specs.Answer as field
+use Rattle.record.specs.Answer.{FieldSaid, doNotUse, double, fieldRefused, notInRevision, signed, single, unsigned}
 use Rattle.record.specs.declared.Answer.{Answer}
 use Rattle.record.specs.declared.Answer.the-variants as answer
 use Rattle.value.specs.declared.Value.{Value}
@@ -58,14 +58,14 @@ abbrev pub tell : ℕ → ℕ → ℕ → ℤ → ℕ → CField
 tell n k u z b = record { refusal = n; kind = k; number = u; signed = z; bits = b }
 
 -- kinds: 0 refused, 1 unsigned, 2 signed, 3 single float, 4 double float, 5 Do-Not-Use, 6 not in this revision
-abbrev pub fieldC : field.Said → CField
-fieldC (field.unsigned n) = tell 0 1 n (pos 0) 0
-fieldC (field.signed z) = tell 0 2 0 z 0
-fieldC (field.single b) = tell 0 3 0 (pos 0) b
-fieldC (field.double b) = tell 0 4 0 (pos 0) b
-fieldC field.doNotUse = tell 0 5 0 (pos 0) 0
-fieldC field.notInRevision = tell 0 6 0 (pos 0) 0
-fieldC (field.refused n) = tell n 0 0 (pos 0) 0
+abbrev pub fieldC : FieldSaid → CField
+fieldC (unsigned n) = tell 0 1 n (pos 0) 0
+fieldC (signed z) = tell 0 2 0 z 0
+fieldC (single b) = tell 0 3 0 (pos 0) b
+fieldC (double b) = tell 0 4 0 (pos 0) b
+fieldC doNotUse = tell 0 5 0 (pos 0) 0
+fieldC notInRevision = tell 0 6 0 (pos 0) 0
+fieldC (fieldRefused n) = tell n 0 0 (pos 0) 0
 
 -- a float that an answer carries is no NaN: a NaN comes in a case of its own
 abbrev pub NoNan : Value → Type 0

@@ -21,13 +21,13 @@ phaseOf n = cond (eqb n 0) (some Closed) (cond (eqb n 1) (some Feeding) (cond (e
 abbrev pub countsC : Counts → CCounts
 countsC c = record { taken = c .taken; blocks = c .blocks; skipped = c .skipped }
 
-abbrev pub countsOf : CCounts → Counts
-countsOf c = record { taken = c .taken; blocks = c .blocks; skipped = c .skipped }
+abbrev pub countsBack : CCounts → Counts
+countsBack c = record { taken = c .taken; blocks = c .blocks; skipped = c .skipped }
 
 abbrev pub inPhase : CState → Phase → State
 inPhase s p =
     record {
-      run = record { phase = p; held = s .held; standing = s .standing; counts = countsOf (s .counts) };
+      run = record { phase = p; held = s .held; standing = s .standing; counts = countsBack (s .counts) };
       «in_force» = s .«in_force»;
       waiting = s .waiting;
     }

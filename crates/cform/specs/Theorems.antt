@@ -5,7 +5,7 @@ use mathlib.Core.Path.{_≡_}
 use mathlib.Core.Bool.{Bool, true, false, cond}
 use mathlib.Core.Option.{none, some}
 use lib.Dec.{eqb}
-use Rattle.record.specs.Answer as field
+use Rattle.record.specs.Answer.{FieldSaid, doNotUse, double, fieldRefused, notInRevision, signed, single, unsigned}
 use Rattle.reader.specs.declared.State.{State}
 use Rattle.tables.specs.declared.Opened.{Opened}
 use Rattle.runs.specs.declared.Fed.{Fed}
@@ -15,7 +15,7 @@ use Rattle.tables.specs.declared.Withdrawn.{Withdrawn}
 use Rattle.reader.specs.Said.{Report, Said, refused, version, took, found, ended, waited}
 use Rattle.tables.specs.Said.{saidOpened, saidStaged, saidWithdrawn}
 use Rattle.runs.specs.Said.{saidFed, saidFinished}
-use Rattle.cform.specs.State.{countsOf, stateOf, stateC}
+use Rattle.cform.specs.State.{countsBack, stateOf, stateC}
 use Rattle.cform.specs.Answer.{answerC, fieldC}
 use Rattle.cform.specs.declared.CState.{CState}
 use Rattle.cform.specs.declared.CBlock.{CBlock}
@@ -32,16 +32,16 @@ answerBack finish a =
     (cond (eqb (a .kind) 1) (version (a .version))
     (cond (eqb (a .kind) 2) (cond finish (found (reportBack (a .block))) (took (a .taken) (some (reportBack (a .block)))))
     (cond (eqb (a .kind) 3) (took (a .taken) none)
-    (cond (eqb (a .kind) 4) (ended (countsOf (a .end))) (waited (eqb (a .waited) 1))))))
+    (cond (eqb (a .kind) 4) (ended (countsBack (a .end))) (waited (eqb (a .waited) 1))))))
 
 -- a field's answer by its kind
-abbrev pub fieldBack : CField → field.Said
+abbrev pub fieldBack : CField → FieldSaid
 fieldBack f =
-    cond (eqb (f .kind) 0) (field.refused (f .refusal))
-    (cond (eqb (f .kind) 1) (field.unsigned (f .number))
-    (cond (eqb (f .kind) 2) (field.signed (f .signed))
-    (cond (eqb (f .kind) 3) (field.single (f .bits))
-    (cond (eqb (f .kind) 4) (field.double (f .bits)) (cond (eqb (f .kind) 5) field.doNotUse field.notInRevision)))))
+    cond (eqb (f .kind) 0) (fieldRefused (f .refusal))
+    (cond (eqb (f .kind) 1) (unsigned (f .number))
+    (cond (eqb (f .kind) 2) (signed (f .signed))
+    (cond (eqb (f .kind) 3) (single (f .bits))
+    (cond (eqb (f .kind) 4) (double (f .bits)) (cond (eqb (f .kind) 5) doNotUse notInRevision)))))
 
 pub record NothingLost : Type 0 where
   -- the next call goes on with the state that this one left; a state stands for none exactly where its phase is over 2
@@ -53,4 +53,4 @@ pub record NothingLost : Type 0 where
   pub finished : (a : Finished) → answerBack true (answerC (saidFinished a)) ≡ saidFinished a
   pub staged : (a : Staged) → answerBack false (answerC (saidStaged a)) ≡ saidStaged a
   pub withdrawn : (a : Withdrawn) → answerBack false (answerC (saidWithdrawn a)) ≡ saidWithdrawn a
-  pub fields : (a : field.Said) → fieldBack (fieldC a) ≡ a
+  pub fields : (a : FieldSaid) → fieldBack (fieldC a) ≡ a

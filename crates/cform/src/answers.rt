@@ -11,7 +11,7 @@ use reader::Counts;
 use refusal::Refusal;
 
 // An answer that has no block and no counts.
-pub fn plain(refusal: u32, kind: u32, version: u16, waited: u16, taken: usize) -> CAnswer
+pub fn no_block(refusal: u32, kind: u32, version: u16, waited: u16, taken: usize) -> CAnswer
     ensures { λ r. ⌜ r ≡ say refusal kind version waited taken noBlock noEnd ⌝ }
 {
     CAnswer {
@@ -35,7 +35,7 @@ pub fn plain(refusal: u32, kind: u32, version: u16, waited: u16, taken: usize) -
 }
 
 // A block, with the count taken.
-pub fn reported(taken: usize, b: Block) -> CAnswer
+pub fn block_c(taken: usize, b: Block) -> CAnswer
     ensures { λ r. ⌜ r ≡ say 0 2 0 0 taken (blockC (reportOf b)) noEnd ⌝ }
 {
     CAnswer {
@@ -82,10 +82,10 @@ pub fn at_end(c: Counts) -> CAnswer
     }
 }
 
-pub fn refused_by(x: Refusal) -> CAnswer
+pub fn refused_c(x: Refusal) -> CAnswer
     ensures { λ r. ⌜ r ≡ answerC (refused (numberFor x)) ⌝ }
 {
-    plain(refusal::number(x), 0, 0, 0, 0)
+    no_block(refusal::number(x), 0, 0, 0, 0)
 }
 
 // Whether a table waited.
@@ -93,8 +93,8 @@ pub fn whether_waited(w: bool) -> CAnswer
     ensures { λ r. ⌜ r ≡ answerC (waited w) ⌝ }
 {
     if w {
-        plain(0, 5, 0, 1, 0)
+        no_block(0, 5, 0, 1, 0)
     } else {
-        plain(0, 5, 0, 0, 0)
+        no_block(0, 5, 0, 0, 0)
     }
 }

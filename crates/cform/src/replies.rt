@@ -16,50 +16,50 @@ use tables::Opened;
 use tables::Staged;
 use tables::Withdrawn;
 
-pub fn opened(a: Opened) -> CAnswer
+pub fn opened_c(a: Opened) -> CAnswer
     ensures { λ r. ⌜ r ≡ answerC (saidOpened a) ⌝ }
 {
     match a {
-        Opened::Version(v) => answers::plain(0, 1, v, 0, 0),
-        Opened::Refused(x) => answers::refused_by(x),
+        Opened::Version(v) => answers::no_block(0, 1, v, 0, 0),
+        Opened::Refused(x) => answers::refused_c(x),
     }
 }
 
-pub fn fed(a: Fed) -> CAnswer
+pub fn fed_c(a: Fed) -> CAnswer
     ensures { λ r. ⌜ r ≡ answerC (saidFed a) ⌝ }
 {
     match a {
-        Fed::Block(n, b) => answers::reported(n, b),
-        Fed::More(n) => answers::plain(0, 3, 0, 0, n),
-        Fed::Refused(x) => answers::refused_by(x),
+        Fed::Block(n, b) => answers::block_c(n, b),
+        Fed::More(n) => answers::no_block(0, 3, 0, 0, n),
+        Fed::Refused(x) => answers::refused_c(x),
     }
 }
 
-pub fn finished(a: Finished) -> CAnswer
+pub fn finished_c(a: Finished) -> CAnswer
     ensures { λ r. ⌜ r ≡ answerC (saidFinished a) ⌝ }
 {
     match a {
-        Finished::Block(b) => answers::reported(0, b),
+        Finished::Block(b) => answers::block_c(0, b),
         Finished::End(c) => answers::at_end(c),
-        Finished::Refused(x) => answers::refused_by(x),
+        Finished::Refused(x) => answers::refused_c(x),
     }
 }
 
-pub fn staged(a: Staged) -> CAnswer
+pub fn staged_c(a: Staged) -> CAnswer
     ensures { λ r. ⌜ r ≡ answerC (saidStaged a) ⌝ }
 {
     match a {
-        Staged::Version(v) => answers::plain(0, 1, v, 0, 0),
-        Staged::Refused(x) => answers::refused_by(x),
+        Staged::Version(v) => answers::no_block(0, 1, v, 0, 0),
+        Staged::Refused(x) => answers::refused_c(x),
     }
 }
 
-pub fn withdrawn(a: Withdrawn) -> CAnswer
+pub fn withdrawn_c(a: Withdrawn) -> CAnswer
     ensures { λ r. ⌜ r ≡ answerC (saidWithdrawn a) ⌝ }
 {
     match a {
         Withdrawn::Waited(w) => answers::whether_waited(w),
-        Withdrawn::Refused(x) => answers::refused_by(x),
+        Withdrawn::Refused(x) => answers::refused_c(x),
     }
 }
 

@@ -49,7 +49,7 @@ fn gather(line: &mut [u8; 270000], so_far: usize, piece: &[u8], from: usize) -> 
 
 // A place in the piece that was read, and how many bytes the piece has; how long the line is so far, and whether it was found;
 // whether reading goes on.
-pub struct Reading {
+pub struct LineReading {
     pub at: usize,
     pub count: usize,
     pub length: usize,
@@ -58,10 +58,10 @@ pub struct Reading {
 }
 
 // Before the first line.
-pub fn start() -> Reading
+pub fn start() -> LineReading
     ensures { λ r. ⌜ (r .at ≤ r .count) × (r .count ≤ 65536) ⌝ }
 {
-    Reading {
+    LineReading {
         at: 0,
         count: 0,
         length: 0,
@@ -79,7 +79,7 @@ fn is_last(length: usize, course: Course) -> bool {
 }
 
 // Reads the piece on to the line's end, or to its own.
-fn read_line(r: Reading, buf: &[u8; 65536], line: &mut [u8; 270000]) -> Reading
+fn read_line(r: LineReading, buf: &[u8; 65536], line: &mut [u8; 270000]) -> LineReading
     requires { ⌜ (r .at < r .count) × (r .count ≤ 65536) × (r .length ≤ 270001) ⌝ }
     ensures { λ s. ⌜ (s .at ≤ s .count) × (s .count ≤ 65536) × (s .length ≤ 270001) ⌝ }
 {
@@ -87,7 +87,7 @@ fn read_line(r: Reading, buf: &[u8; 65536], line: &mut [u8; 270000]) -> Reading
     let course = r.course;
     let all: &[u8] = buf;
     let g = gather(line, r.length, &all[..count], r.at);
-    Reading {
+    LineReading {
         at: g.next,
         count,
         length: g.length,
@@ -97,7 +97,7 @@ fn read_line(r: Reading, buf: &[u8; 65536], line: &mut [u8; 270000]) -> Reading
 }
 
 // Reads the next piece where this one is read.
-fn read_on(r: Reading, buf: &mut [u8; 65536], line: &mut [u8; 270000]) -> Reading
+fn read_on(r: LineReading, buf: &mut [u8; 65536], line: &mut [u8; 270000]) -> LineReading
     requires { ⌜ (r .at ≤ r .count) × (r .count ≤ 65536) × (r .length ≤ 270001) ⌝ }
     ensures { λ s. ⌜ (s .at ≤ s .count) × (s .count ≤ 65536) × (s .length ≤ 270001) ⌝ }
 {
@@ -106,7 +106,7 @@ fn read_on(r: Reading, buf: &mut [u8; 65536], line: &mut [u8; 270000]) -> Readin
     }
     let piece = crate::read(buf);
     let course = piece.course;
-    Reading {
+    LineReading {
         at: 0,
         count: piece.count,
         length: r.length,
@@ -115,7 +115,7 @@ fn read_on(r: Reading, buf: &mut [u8; 65536], line: &mut [u8; 270000]) -> Readin
     }
 }
 
-fn goes_on(r: Reading) -> bool {
+fn goes_on(r: LineReading) -> bool {
     let course = r.course;
     if r.found {
         return false;
@@ -124,12 +124,12 @@ fn goes_on(r: Reading) -> bool {
 }
 
 // A line begins where the last one ended.
-pub fn next_line(r: Reading, buf: &mut [u8; 65536], line: &mut [u8; 270000]) -> Reading
+pub fn next_line(r: LineReading, buf: &mut [u8; 65536], line: &mut [u8; 270000]) -> LineReading
     requires { ⌜ (r .at ≤ r .count) × (r .count ≤ 65536) ⌝ }
     ensures { λ s. ⌜ (s .at ≤ s .count) × (s .count ≤ 65536) × (s .length ≤ 270001) ⌝ }
 {
     let course = r.course;
-    let mut now = Reading {
+    let mut now = LineReading {
         at: r.at,
         count: r.count,
         length: 0,

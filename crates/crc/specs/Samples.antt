@@ -20,5 +20,5 @@ samples =
     ∷ sample (0x00 ∷ 0x00 ∷ 0x08 ∷ 0x00 ∷ []) 0x89A9
     ∷ []
 
-abbrev pub SamplesHold : Type 0
-SamplesHold = map (λ (s : Sample). crcOf (s .bytes)) samples ≡ map (λ (s : Sample). s .crc) samples
+abbrev pub CrcSamplesHold : Type 0
+CrcSamplesHold = map (λ (s : Sample). crcOf (s .bytes)) samples ≡ map (λ (s : Sample). s .crc) samples

@@ -2,10 +2,10 @@
 ghost use mathlib.Core.Path.{_≡_};
 ghost use mathlib.Core.List.{_++_};
 ghost use Rattle.crc.specs.Crc.{crcFrom, crcOf};
-ghost use Rattle.crc.specs.Samples.{SamplesHold};
+ghost use Rattle.crc.specs.Samples.{CrcSamplesHold};
 
 // Entry k is the remainder of the byte k: eight bits of k x 256.
-const TABLE: [u16; 256] = [
+const REMAINDERS: [u16; 256] = [
     0x0000,
     0x1021,
     0x2042,
@@ -269,7 +269,7 @@ const TABLE: [u16; 256] = [
 pub fn update(crc: u16, a: &[u8], b: &[u8]) -> u16
     ensures { λ r. ⌜ r ≡ crcFrom crc (now (a .entry) ++ now (b .entry)) ⌝ }
 {
-    let t = &TABLE;
+    let t = &REMAINDERS;
     let mut c = crc;
     let mut i: usize = 0;
     while i < a.len() {
@@ -305,5 +305,5 @@ pub extern "C" fn alderflute_crc(s: &[u8]) -> u16
 
 // The check values hold of the rule on bits.
 pub fn samples_hold()
-    ensures { λ _. ⌜ SamplesHold ⌝ }
+    ensures { λ _. ⌜ CrcSamplesHold ⌝ }
 {}

@@ -9,8 +9,8 @@ use mathlib.Core.Option.{Option, none, some}
 use lib.ListN.{length, take, drop, length-append}
 use lib.Seq.{length-take-le, drop-append-le, drop-drop}
 use Rattle.scan.specs.Settle.{settle}
-use Rattle.scan.specs.Feed.{Feeding, feedLit, stop, size}
-use Rattle.framing.specs.ReadRun.{Block, readRun}
+use Rattle.scan.specs.Feed.{Intake, feedLit, stop, size}
+use Rattle.framing.specs.ReadRun.{ReadBlock, readRun}
 use Rattle.frame.specs.Judge.{judged, judgedLast}
 use Rattle.scan.proofs.Stable.{judging, last-fits}
 use Rattle.scan.proofs.Settling.{settle-rest, settle-front}
@@ -30,10 +30,10 @@ use Rattle.demands.specs.Sequence.{tookOf, inHold}
 use Rattle.demands.specs.Demand2.{MayFollow}
 use Rattle.demands.proofs.Steps.{refusal, done, clash}
 use Rattle.demands.proofs.Reached.{Good}
-use Rattle.demands.proofs.Going.{kept, place, going, within, kept-length, Fits, kept-after, place-after, in-hold, finish-report}
+use Rattle.demands.proofs.Going.{kept, place, going, within, kept-length, FitsHold, kept-after, place-after, in-hold, finish-report}
 
 -- the run so far took the bytes t and reported the blocks b; with what follows it reads as these, and then from the place on
-pub record Reads (t : List ℕ) (b : List Block) (w : World) : Type 0 where
+pub record ReadsAs (t : List ℕ) (b : List ReadBlock) (w : World) : Type 0 where
   pub count : w .state .run .counts .taken ≡ length t
   pub sum : w .state .run .counts .blocks ≡ length b
   pub places : List ℕ
@@ -62,8 +62,8 @@ length-blocks (some n) p v = refl
 
 -- ---- a call that goes on in the run
 
-module _ (x : Phase) (w : World) (bs : List ℕ) (f : Feeding) (blk : List Block)
-    (g : Good w) (h : Fits w f) (n : f .taken ≡ length bs) (a : blk ≡ blocksOf (f .standing) (place w + length (f .passed)) (f .held))
+module _ (x : Phase) (w : World) (bs : List ℕ) (f : Intake) (blk : List ReadBlock)
+    (g : Good w) (h : FitsHold w f) (n : f .taken ≡ length bs) (a : blk ≡ blocksOf (f .standing) (place w + length (f .passed)) (f .held))
     (d : f .held ≡ drop (length (f .passed)) (kept w ++ bs)) where
   -- what is left is what was left and is new, without what was skipped and the block
   rest-after : (ts : List ℕ) → w .state .run .counts .taken ≡ length ts → kept w ≡ drop (place w) ts → kept (going x w f) ≡ drop (place (going x w f)) (ts ++ bs)
@@ -76,10 +76,10 @@ module _ (x : Phase) (w : World) (bs : List ℕ) (f : Feeding) (blk : List Block
       ∙ drop-drop o (place w + length (f .passed)) (ts ++ bs)
       ∙ ap (λ (i : ℕ). drop i (ts ++ bs)) (sym (place-after x w f g h))
 
-  go : {ts : List ℕ} {b : List Block} → ((zs : List ℕ) → MayFollow x zs → MayFollow (w .state .run .phase) (bs ++ zs))
+  go : {ts : List ℕ} {b : List ReadBlock} → ((zs : List ℕ) → MayFollow x zs → MayFollow (w .state .run .phase) (bs ++ zs))
       → ((zs : List ℕ) → MayFollow x zs
       → readRun (place w) (kept w ++ (bs ++ zs)) ≡ both (answer (f .standing) (place w) (length (f .passed)) (f .held)) (readRun (place w + length (f .passed) + size (f .standing)) (drop (size (f .standing)) (f .held) ++ zs)))
-      → Reads ts b w → Reads (ts ++ bs) (b ++ blk) (going x w f)
+      → ReadsAs ts b w → ReadsAs (ts ++ bs) (b ++ blk) (going x w f)
   go {ts} {b} fol e r =
       record {
         count = omega (arith, r .count, length-append ts bs, n);
@@ -92,7 +92,7 @@ module _ (x : Phase) (w : World) (bs : List ℕ) (f : Feeding) (blk : List Block
             ∙ r .so (bs ++ zs) (fol zs y)
             ∙ ap (both (record { blocks = b; skipped = r .places })) (e zs y)
             ∙ both-both (record { blocks = b; skipped = r .places }) (answer (f .standing) (place w) (length (f .passed)) (f .held)) (readRun (place w + length (f .passed) + size (f .standing)) (drop (size (f .standing)) (f .held) ++ zs))
-            ∙ ap (λ (i : List Block). both (record { blocks = b ++ i; skipped = r .places ++ placesFrom (place w) (length (f .passed)) }) (readRun (place w + length (f .passed) + size (f .standing)) (drop (size (f .standing)) (f .held) ++ zs))) (sym a)
+            ∙ ap (λ (i : List ReadBlock). both (record { blocks = b ++ i; skipped = r .places ++ placesFrom (place w) (length (f .passed)) }) (readRun (place w + length (f .passed) + size (f .standing)) (drop (size (f .standing)) (f .held) ++ zs))) (sym a)
             ∙ ap₂ (λ (i : ℕ) (j : List ℕ). both (record { blocks = b ++ blk; skipped = r .places ++ placesFrom (place w) (length (f .passed)) }) (readRun i (j ++ zs)))
             (sym (place-after x w f g h)) (sym (kept-after x w f g h));
       }
@@ -100,16 +100,16 @@ module _ (x : Phase) (w : World) (bs : List ℕ) (f : Feeding) (blk : List Block
 -- ---- Feed
 
 -- what it took and reported, with the result of the call
-abbrev pub Next : Call → List ℕ → List Block → Step → Type 0
-Next c ts b x = Reads (ts ++ tookOf c (x .answer)) (b ++ inHold (told (x .answer) .block) (x .world)) (x .world)
+abbrev pub Next : Call → List ℕ → List ReadBlock → Step → Type 0
+Next c ts b x = ReadsAs (ts ++ tookOf c (x .answer)) (b ++ inHold (told (x .answer) .block) (x .world)) (x .world)
 
-pub feed-fits : (w : World) (piece : List ℕ) → Good w → Fits w (feedingOf (w .state) (w .hold) piece)
+pub feed-fits : (w : World) (piece : List ℕ) → Good w → FitsHold w (feedingOf (w .state) (w .hold) piece)
 unfolding feedingOf
 feed-fits w piece g =
     let c = calls.call judged (judging .fits) (kept w) piece (limit - w .state .run .counts .taken) in
     record { whole = fed-whole (kept w) piece (limit - w .state .run .counts .taken); front = c .front; sum = omega (arith, c .sum, kept-length w g) }
 
-pub reads-feed : (w : World) {ts : List ℕ} {b : List Block} (piece : List ℕ) → Good w → refusal (feed piece) w ≡ none → Reads ts b w → Next (feed piece) ts b (done (feed piece) w)
+pub reads-feed : (w : World) {ts : List ℕ} {b : List ReadBlock} (piece : List ℕ) → Good w → refusal (feed piece) w ≡ none → ReadsAs ts b w → Next (feed piece) ts b (done (feed piece) w)
 unfolding feedingOf feedRefusal
 reads-feed w piece g e r =
     let room = limit - w .state .run .counts .taken in
@@ -139,7 +139,7 @@ follow-finish : (o : Option ℕ) (zs : List ℕ) → MayFollow (phaseAfter o) zs
 follow-finish none zs e = e
 follow-finish (some n) zs e = e
 
-pub finish-fits : (w : World) → Good w → Fits w (finishingOf (w .state) (w .hold))
+pub finish-fits : (w : World) → Good w → FitsHold w (finishingOf (w .state) (w .hold))
 unfolding finishingOf
 finish-fits w g =
     record {
@@ -148,8 +148,8 @@ finish-fits w g =
       sum = omega (arith, kept-length w g, calls.settle-sum judgedLast (kept w));
     }
 
-pub reads-finish : (w : World) {ts : List ℕ} {b : List Block} → Good w → refusal finish w ≡ none → Reads ts b w
-    → Reads (ts ++ []) (b ++ inHold (told (done finish w .answer) .block) (done finish w .world)) (done finish w .world)
+pub reads-finish : (w : World) {ts : List ℕ} {b : List ReadBlock} → Good w → refusal finish w ≡ none → ReadsAs ts b w
+    → ReadsAs (ts ++ []) (b ++ inHold (told (done finish w .answer) .block) (done finish w .world)) (done finish w .world)
 unfolding finishingOf
 reads-finish w g e r =
     let f = stop (settle judgedLast (kept w)) in

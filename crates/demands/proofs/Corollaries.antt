@@ -6,7 +6,7 @@ use mathlib.Core.List.{List, [], _∷_, _++_}
 use mathlib.Core.Option.{Option, none, some}
 use lib.ListN.{length, take}
 use lib.Seq.{take-length}
-use Rattle.record.specs.Answer as fields
+use Rattle.record.specs.Answer.{FieldSaid, doNotUse, double, fieldRefused, notInRevision, signed, single, unsigned}
 use Rattle.reader.specs.Said.{Report, Said, refused, version, took, found, ended, waited}
 use Rattle.tables.specs.Calls.{openOf, stageOf, withdrawOf}
 use Rattle.runs.specs.Calls.{feedOf, finishOf, front, reported, finishSaid, finishingBy, finishingOf}
@@ -14,8 +14,8 @@ use Rattle.table.specs.Rows.{Table}
 use Rattle.reader.specs.declared.Counts.{Counts}
 use Rattle.reader.specs.declared.Run.{Run}
 use Rattle.reader.specs.declared.State.{State}
-use Rattle.demands.specs.World.{World, stage, withdraw, Look, Call, openRun, feed, finish, table, look, Answer, said, part, value, fieldRefusal, told, Step, step, end, Line, trace}
-use Rattle.demands.specs.Sequence.{AllFed, NoEnd, Within, Closes, opened, taken, blocks, shownBlocks}
+use Rattle.demands.specs.World.{World, stage, withdraw, Look, Call, openRun, feed, finish, table, look, Reply, said, part, value, fieldRefusal, told, Step, step, end, Line, trace}
+use Rattle.demands.specs.Sequence.{AllFed, NoEnd, Within, Closes, atOpen, taken, blocks, shownBlocks}
 use Rattle.demands.specs.Demand2.{ReadsBy}
 use Rattle.demands.specs.Demand3.{countsOf, RunOf, Offers, foundBy}
 use Rattle.demands.proofs.Steps.{How, isnt, is, how}
@@ -33,16 +33,16 @@ said-refused (found r) n e = nothing-there e
 said-refused (ended c) n e = nothing-there e
 said-refused (waited b) n e = nothing-there e
 
-pub field-refused : (a : fields.Said) (n : ℕ) → fieldRefusal a ≡ some n → a ≡ fields.refused n
-field-refused (fields.unsigned m) n e = nothing-there e
-field-refused (fields.signed z) n e = nothing-there e
-field-refused (fields.single b) n e = nothing-there e
-field-refused (fields.double b) n e = nothing-there e
-field-refused fields.doNotUse n e = nothing-there e
-field-refused fields.notInRevision n e = nothing-there e
-field-refused (fields.refused m) n e = let q : m ≡ n = cc in ap fields.refused q
+pub field-refused : (a : FieldSaid) (n : ℕ) → fieldRefusal a ≡ some n → a ≡ fieldRefused n
+field-refused (unsigned m) n e = nothing-there e
+field-refused (signed z) n e = nothing-there e
+field-refused (single b) n e = nothing-there e
+field-refused (double b) n e = nothing-there e
+field-refused doNotUse n e = nothing-there e
+field-refused notInRevision n e = nothing-there e
+field-refused (fieldRefused m) n e = let q : m ≡ n = cc in ap fieldRefused q
 
-pub said-end : (a : Answer) (c : Counts) → told a .end ≡ some c → a ≡ said (ended c)
+pub said-end : (a : Reply) (c : Counts) → told a .end ≡ some c → a ≡ said (ended c)
 said-end (said (refused n)) c e = nothing-there e
 said-end (said (version v)) c e = nothing-there e
 said-end (said (took n r)) c e = nothing-there e
@@ -110,28 +110,28 @@ pub record SameRun (w : World) (mid : List Call) (u : World) (other : List Call)
   pub counts : step finish (end mid w) .answer ≡ step finish (end other u) .answer
 
 pub however-cut : (w u : World) (before mid first other : List Call) → Within w before mid → Within u first other → Closes w before mid → Closes u first other
-    → taken mid (opened w before) ≡ taken other (opened u first) → SameRun (opened w before) mid (opened u first) other
+    → taken mid (atOpen w before) ≡ taken other (atOpen u first) → SameRun (atOpen w before) mid (atOpen u first) other
 however-cut w u before mid first other h k e f t =
-    let run = taken other (opened u first) in
-    let a = demand-3 .whole (taken other (opened u first)) w before mid h e t in
-    let b = demand-3 .whole (taken other (opened u first)) u first other k f refl in
+    let run = taken other (atOpen u first) in
+    let a = demand-3 .whole (taken other (atOpen u first)) w before mid h e t in
+    let b = demand-3 .whole (taken other (atOpen u first)) u first other k f refl in
     record {
       all = a .all ∙ sym (b .all);
       shown = a .shown ∙ sym (b .shown);
-      counts = said-end (step finish (end mid (opened w before)) .answer) (countsOf run) (a .counts)
-          ∙ sym (said-end (step finish (end other (opened u first)) .answer) (countsOf run) (b .counts));
+      counts = said-end (step finish (end mid (atOpen w before)) .answer) (countsOf run) (a .counts)
+          ∙ sym (said-end (step finish (end other (atOpen u first)) .answer) (countsOf run) (b .counts));
     }
 
 -- ---- a run that took all of a stream has its blocks and its counts
 
-pub of-the-stream : (s : List ℕ) (w : World) (before mid : List Call) → Within w before mid → Closes w before mid → Offers s mid (opened w before)
-    → length (taken mid (opened w before)) ≡ length s → RunOf s (opened w before) mid
+pub of-the-stream : (s : List ℕ) (w : World) (before mid : List Call) → Within w before mid → Closes w before mid → Offers s mid (atOpen w before)
+    → length (taken mid (atOpen w before)) ≡ length s → RunOf s (atOpen w before) mid
 of-the-stream s w before mid h e o n =
-    demand-3 .whole s w before mid h e (demand-3 .offered s mid (opened w before) o ∙ ap (λ (k : ℕ). take k s) n ∙ take-length s)
+    demand-3 .whole s w before mid h e (demand-3 .offered s mid (atOpen w before) o ∙ ap (λ (k : ℕ). take k s) n ∙ take-length s)
 
 -- ---- every record of a run is read by the table that it was opened with
 
-abbrev pub CallReadsBy : Table → Call → Answer → Type 0
+abbrev pub CallReadsBy : Table → Call → Reply → Type 0
 CallReadsBy tab openRun a = Unit {0}
 CallReadsBy tab (feed piece) a = Unit {0}
 CallReadsBy tab finish a = Unit {0}
@@ -166,7 +166,7 @@ within-front w before xs ys mid e h =
       fedBefore = h .fedBefore;
       fed = fed-front xs ys (subst⁻¹ AllFed e (h .fed));
       opens = h .opens;
-      noEnd = no-end-front xs ys (opened w before) (subst⁻¹ (λ (cs : List Call). NoEnd cs (opened w before)) e (h .noEnd));
+      noEnd = no-end-front xs ys (atOpen w before) (subst⁻¹ (λ (cs : List Call). NoEnd cs (atOpen w before)) e (h .noEnd));
     }
 
 read-by : (tab : Table) (c : Call) (w : World) → ((l : Look) → ReadsBy tab l (step (look l) w .answer)) → CallReadsBy tab c (step c w .answer)
@@ -176,8 +176,8 @@ read-by tab finish w h = tt
 read-by tab (table t) w h = tt
 read-by tab (look l) w h = h l
 
-pub one-table : (w : World) (before mid : List Call) → Within w before mid → AllBy (foundBy (end before w)) (trace mid (opened w before))
+pub one-table : (w : World) (before mid : List Call) → Within w before mid → AllBy (foundBy (end before w)) (trace mid (atOpen w before))
 one-table w before mid h =
     let tab = foundBy (end before w) in
-    all-by (foundBy (end before w)) mid (opened w before)
-    (λ xs ys c e. read-by tab c (end xs (opened w before)) (demand-3 .records w before xs (within-front w before xs (c ∷ ys) mid e h)))
+    all-by (foundBy (end before w)) mid (atOpen w before)
+    (λ xs ys c e. read-by tab c (end xs (atOpen w before)) (demand-3 .records w before xs (within-front w before xs (c ∷ ys) mid e h)))

@@ -6,7 +6,7 @@ use mathlib.Core.Path.{_≡_, sym, ap, ap₂, _∙_, subst, subst⁻¹}
 use mathlib.Core.List.{List, [], _∷_, _++_, append-nil, append-assoc}
 use mathlib.Core.Option.{Option, none}
 use lib.ListN.{drop}
-use Rattle.scan.specs.Feed.{Feeding, feedLit, size}
+use Rattle.scan.specs.Feed.{Intake, feedLit, size}
 use Rattle.frame.specs.Judge.{judged}
 use Rattle.frame.specs.declared.Verdict.the-variants.{Undecided}
 use Rattle.framing.proofs.Calls.{more-decides-all}
@@ -18,7 +18,7 @@ use Rattle.records.specs.Calls.{tableInForce}
 use Rattle.runs.specs.Calls.{feedingOf, front}
 use Rattle.reader.specs.declared.Phase.the-variants as phase
 use Rattle.demands.specs.World.{World, Look, Call, feed, look, said, Step, step, end}
-use Rattle.demands.specs.Sequence.{Within, opened, tookOf, taken}
+use Rattle.demands.specs.Sequence.{Within, atOpen, tookOf, taken}
 use Rattle.demands.specs.Demand2.{ReadsBy, placeNow, Demand2}
 use Rattle.demands.proofs.Steps.{How, isnt, is, how, done}
 use Rattle.demands.proofs.Reached.{Good, good-end}
@@ -54,24 +54,24 @@ left-undecided w piece n g (is e) f =
     ∙ more-decides-all (kept w) piece room q .1
 
 more-decided : (w : World) (before mid : List Call) (piece : List ℕ) (n : ℕ) → Within w before mid
-    → step (feed piece) (end mid (opened w before)) .answer ≡ said (took n none)
-    → judged (drop (placeNow (end (mid ++ feed piece ∷ []) (opened w before))) (taken (mid ++ feed piece ∷ []) (opened w before))) ≡ Undecided
+    → step (feed piece) (end mid (atOpen w before)) .answer ≡ said (took n none)
+    → judged (drop (placeNow (end (mid ++ feed piece ∷ []) (atOpen w before))) (taken (mid ++ feed piece ∷ []) (atOpen w before))) ≡ Undecided
 more-decided w before mid piece n h e =
     let s = stands w before mid h in
-    let u = end mid (opened w before) in
-    let g = good-end mid (opened w before) (h .fed) (s .good) in
-    let r = reads-by (feed piece) u g (live-end mid (opened w before) (s .live) (h .noEnd)) (reads-within w before mid h) (how (feed piece) u) in
-    ap₂ (λ (x : World) (t : List ℕ). judged (drop (place x) t)) (end-one mid (feed piece) (opened w before)) (taken-append mid (feed piece) (opened w before))
+    let u = end mid (atOpen w before) in
+    let g = good-end mid (atOpen w before) (h .fed) (s .good) in
+    let r = reads-by (feed piece) u g (live-end mid (atOpen w before) (s .live) (h .noEnd)) (reads-within w before mid h) (how (feed piece) u) in
+    ap₂ (λ (x : World) (t : List ℕ). judged (drop (place x) t)) (end-one mid (feed piece) (atOpen w before)) (taken-append mid (feed piece) (atOpen w before))
     ∙ ap judged (sym (r .rest)) ∙ left-undecided u piece n g (how (feed piece) u) e
 
 by-the-table : (w : World) (before mid : List Call) → Within w before mid → (l : Look)
-    → ReadsBy (decode (tableInForce (end mid (opened w before) .state) (end mid (opened w before) .force))) l (step (look l) (end mid (opened w before)) .answer)
+    → ReadsBy (decode (tableInForce (end mid (atOpen w before) .state) (end mid (atOpen w before) .force))) l (step (look l) (end mid (atOpen w before)) .answer)
 by-the-table w before mid h l =
     let s = stands w before mid h in
-    let u = end mid (opened w before) in
+    let u = end mid (atOpen w before) in
     let t = nextTable (end before w .state) (end before w .force) (end before w .wait) in
-    let r = read-end t mid (opened w before) (s .live) (h .noEnd) (found w before mid h) in
-    subst⁻¹ (λ (x : List ℕ). ReadsBy (decode x) l (step (look l) u .answer)) (r .is) (look-by t l u (good-end mid (opened w before) (h .fed) (s .good)) r)
+    let r = read-end t mid (atOpen w before) (s .live) (h .noEnd) (found w before mid h) in
+    subst⁻¹ (λ (x : List ℕ). ReadsBy (decode x) l (step (look l) u .answer)) (r .is) (look-by t l u (good-end mid (atOpen w before) (h .fed) (s .good)) r)
 
 pub demand-2 : Demand2
 demand-2 = record { first = first-ones; more = more-decided; records = by-the-table }

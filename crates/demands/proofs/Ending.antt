@@ -22,8 +22,8 @@ use Rattle.runs.specs.Refusals.{feedRefusal, finishRefusal}
 use Rattle.runs.specs.Calls.{reportIf, feedingOf, finishingOf, finishSaid, phaseAfter, front}
 use Rattle.reader.proofs.Laws.{passes, with-hold}
 use Rattle.runs.proofs.Feeding.{Whole, WholeIf, end-whole}
-use Rattle.demands.specs.World.{World, Call, feed, finish, Answer, said, told, Step, step, end}
-use Rattle.demands.specs.Sequence.{Within, opened}
+use Rattle.demands.specs.World.{World, Call, feed, finish, Reply, said, told, Step, step, end}
+use Rattle.demands.specs.Sequence.{Within, atOpen}
 use Rattle.demands.specs.Progress.{EndsAfter, Progress}
 use Rattle.demands.proofs.Steps.{How, isnt, is, how, refusal, done, unlessRefused, by-refusal}
 use Rattle.demands.proofs.Reached.{Good, no-bytes, good-sound, good-step, good-end}
@@ -93,7 +93,7 @@ Reaches w k = (n : ℕ) × ((n ≤ k) × EndsAfter n w)
 
 reach-now : (k : ℕ) (w : World) → settle judgedLast (kept w) .standing ≡ none → Good w → Live w → 65536 ≤ length (w .hold) → Reaches w k
 unfolding EndsAfter
-reach-now k w q g v l = (0, (omega arith, subst⁻¹ (λ (a : Answer). IsSome (told a .end)) (said-finish w g v l none q) tt))
+reach-now k w q g v l = (0, (omega arith, subst⁻¹ (λ (a : Reply). IsSome (told a .end)) (said-finish w g v l none q) tt))
 
 reach-more : (k : ℕ) (w : World) → IsSome (told (step finish w .answer) .block) → Reaches (step finish w .world) k → Reaches w (suc k)
 unfolding EndsAfter
@@ -111,20 +111,20 @@ reach-suc k rec w none q n g v l = reach-now (suc k) w q g v l
 reach-suc k rec w (some m) q n g v l =
     let e = said-finish w g v l (some m) q in
     let less : length (kept (step finish w .world)) < length (kept w) = subst⁻¹ (λ (r : Step). length (kept (r .world)) < length (kept w)) (finish-done w g v l) (fewer w m g q) in
-    reach-more k w (subst⁻¹ (λ (a : Answer). IsSome (told a .block)) e tt)
-    (rec (step finish w .world) (omega arith) (good-step finish w no-bytes g) (live-step finish w v (ap (λ (a : Answer). told a .end) e)) (still-long w g v l))
+    reach-more k w (subst⁻¹ (λ (a : Reply). IsSome (told a .block)) e tt)
+    (rec (step finish w .world) (omega arith) (good-step finish w no-bytes g) (live-step finish w v (ap (λ (a : Reply). told a .end) e)) (still-long w g v l))
 
 reach : (k : ℕ) → Reached k
 reach zero w n g v l = reach-zero w (settle judgedLast (kept w) .standing) refl n g v l
 reach (suc k) w n g v l = reach-suc k (reach k) w (settle judgedLast (kept w) .standing) refl n g v l
 
-finish-ends : (w : World) (before mid : List Call) → Within w before mid → 65536 ≤ length (end mid (opened w before) .hold)
-    → Reaches (end mid (opened w before)) (end mid (opened w before) .state .run .held)
+finish-ends : (w : World) (before mid : List Call) → Within w before mid → 65536 ≤ length (end mid (atOpen w before) .hold)
+    → Reaches (end mid (atOpen w before)) (end mid (atOpen w before) .state .run .held)
 finish-ends w before mid h l =
     let s = stands w before mid h in
-    let u = end mid (opened w before) in
-    let g = good-end mid (opened w before) (h .fed) (s .good) in
-    reach (u .state .run .held) u (omega (arith, kept-length u g)) g (live-end mid (opened w before) (s .live) (h .noEnd)) l
+    let u = end mid (atOpen w before) in
+    let g = good-end mid (atOpen w before) (h .fed) (s .good) in
+    reach (u .state .run .held) u (omega (arith, kept-length u g)) g (live-end mid (atOpen w before) (s .live) (h .noEnd)) l
 
 pub progress : Progress
 progress = record { more = λ w piece n e. more-by w piece n (how (feed piece) w) e; ends = finish-ends }

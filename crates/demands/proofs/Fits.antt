@@ -18,7 +18,7 @@ use Rattle.table.specs.Rules.{tableOk}
 use Rattle.table.specs.Lookup.{hasNumber, findRow}
 use Rattle.table.proofs.Laws.{one-row}
 use Rattle.block.specs.Block.{endsBy, bodyFits, subsFit, subCount}
-use Rattle.demands.specs.Refusals.{OneFrame, number, revision, L, N, SBLength, RowOf, OfRow, EndsPast, NotInTable, TooShort, SubsDoNotFit, NoField, NoSubBlock}
+use Rattle.demands.specs.Refusals.{OneFrame, number, revision, L, N, SBLength, RowOf, OfRow, EndsPast, NotInTable, EndsPastL, SubsDoNotFit, NoField, NoSubBlock}
 use Rattle.demands.proofs.Exact.{Tells, both, within, orelse, empty-tells}
 use Rattle.demands.proofs.Listed.{first-there, first-none, every-tells}
 
@@ -79,7 +79,7 @@ pub of-length : (b : List ℕ) → OneFrame b → (P : ℕ → Type 0) {c : Bool
 of-length b frame P {c} u = subst (λ (n : ℕ). Tells c (P n)) (sym (frame .all)) u
 
 module _ (t : Table) (b : List ℕ) (r : BlockRow) (mine : RowOf t b r) (one : (q : BlockRow) → RowOf t b q → q ≡ r) (frame : OneFrame b) where
-  pub seven-tells : Tells (bodyFits b r) (TooShort t b)
+  pub seven-tells : Tells (bodyFits b r) (EndsPastL t b)
   unfolding bodyFits
   seven-tells =
       swap

@@ -16,7 +16,7 @@ use Rattle.tables.specs.Calls.{nextTable, opening}
 use Rattle.feed.specs.Hold.{over}
 use Rattle.records.specs.Calls.{tableInForce, askRefusal, bodyOf, subOf, subBytesOf, subBytesRefusal, stampOf}
 use Rattle.demands.specs.World.{World, TableCall, stage, withdraw, Look, bytes, body, sub, subBytes, tow, wnc, Call, openRun, feed, finish, table, look, Step, looked, step, end}
-use Rattle.demands.specs.Sequence.{NoEnd, Within, opened}
+use Rattle.demands.specs.Sequence.{NoEnd, Within, atOpen}
 use Rattle.demands.specs.Demand2.{ReadsBy}
 use Rattle.demands.specs.Demand3.{foundBy}
 use Rattle.demands.proofs.Steps.{How, isnt, is, how, refusal, leftForce, done}
@@ -108,7 +108,7 @@ found-by false w g m e =
 
 -- on it stands the run
 pub found : (w : World) (before mid : List Call) → Within w before mid
-    → ReadBy (nextTable (end before w .state) (end before w .force) (end before w .wait)) (opened w before)
+    → ReadBy (nextTable (end before w .state) (end before w .force) (end before w .wait)) (atOpen w before)
 found w before mid h =
     let s = stands w before mid h in
     let t = nextTable (end before w .state) (end before w .force) (end before w .wait) in
@@ -120,9 +120,9 @@ read-end t [] w l n r = r
 read-end t (c ∷ cs) w l n r = read-end t cs (step c w .world) (live-step c w l (n .0)) (n .1) (kept-by t w (step c w .world) (same-by c w l (how c w)) r)
 
 -- at every moment of it a record is read by that table
-pub one-table : (w : World) (before mid : List Call) → Within w before mid → (l : Look) → ReadsBy (foundBy (end before w)) l (step (look l) (end mid (opened w before)) .answer)
+pub one-table : (w : World) (before mid : List Call) → Within w before mid → (l : Look) → ReadsBy (foundBy (end before w)) l (step (look l) (end mid (atOpen w before)) .answer)
 one-table w before mid h l =
     let s = stands w before mid h in
     let t = nextTable (end before w .state) (end before w .force) (end before w .wait) in
-    look-by t l (end mid (opened w before)) (good-end mid (opened w before) (h .fed) (s .good))
-    (read-end t mid (opened w before) (s .live) (h .noEnd) (found w before mid h))
+    look-by t l (end mid (atOpen w before)) (good-end mid (atOpen w before) (h .fed) (s .good))
+    (read-end t mid (atOpen w before) (s .live) (h .noEnd) (found w before mid h))

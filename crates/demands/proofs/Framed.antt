@@ -10,7 +10,7 @@ use borrow.Author.Tests.{leb-true, eqb-true, le-leb, eq-eqb}
 use Rattle.crc.specs.Crc.{crcOf}
 use Rattle.frame.specs.Frame.{syncAt, crcAt, lengthAt, allowed, endsWithin, crcRight, frameAt, wholeFrame}
 use Rattle.frame.proofs.Tests.{both-left, both-right, both-true, never}
-use Rattle.demands.specs.Refusals.{FrameStands, OneFrame, NotOneFrame}
+use Rattle.demands.specs.Refusals.{FrameStands, OneFrame, NoWholeFrame}
 use Rattle.demands.proofs.Exact.{Tells}
 
 stands : (w : List ℕ) (p : ℕ) → frameAt w p ≡ true → FrameStands w p
@@ -55,5 +55,5 @@ one-frame b e =
       all = eqb-true (lengthAt b 0) (length b) (both-right (frameAt b 0) (eqb (lengthAt b 0) (length b)) e);
     }
 
-pub frame-tells : (b : List ℕ) → Tells (wholeFrame b) (NotOneFrame b)
+pub frame-tells : (b : List ℕ) → Tells (wholeFrame b) (NoWholeFrame b)
 frame-tells b = record { fine = λ e f. f (one-frame b e); holds = λ e f. never (is-whole b f) e }

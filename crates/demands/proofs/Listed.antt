@@ -9,7 +9,7 @@ use mathlib.Core.Logic.{_⊎_, inl, inr, ⊎-elim}
 use mathlib.Core.Option.{none, some}
 use lib.ListN.{length}
 use Rattle.frame.proofs.Tests.{never}
-use Rattle.table.specs.Lists.{every, first, pick}
+use Rattle.table.specs.Lists.{every, firstThat, pick}
 use Rattle.demands.specs.Refusals.{Among}
 use Rattle.demands.proofs.Exact.{Tells, both}
 
@@ -17,26 +17,26 @@ pub nothing-there : {A X : Type 0} {x : A} → none ≡ some x → X
 nothing-there e = let z : _≡_ {A = ℕ} 0 1 = cc in let f : ⊥ = omega arith in absurd f
 
 -- x has P, and is among them
-abbrev pub One : {A : Type 0} → List A → (A → Type 0) → Type 0
-One {A} xs P = (x : A) × (Among xs x × P x)
+abbrev pub AnyOf : {A : Type 0} → List A → (A → Type 0) → Type 0
+AnyOf {A} xs P = (x : A) × (Among xs x × P x)
 
 module _ {A : Type 0} where
   -- the first that p holds of is among them, and p holds of it
-  pub first-there : (p : A → Bool) (xs : List A) → {x : A} → first p xs ≡ some x → Among xs x × (p x ≡ true)
-  unfolding first pick
+  pub first-there : (p : A → Bool) (xs : List A) → {x : A} → firstThat p xs ≡ some x → Among xs x × (p x ≡ true)
+  unfolding firstThat pick
   first-there p [] e = nothing-there e
   first-there p (y ∷ ys) {x} e = by (p y) refl e (λ f. first-there p ys f) where
-    by : (c : Bool) → p y ≡ c → cond c (some y) (first p ys) ≡ some x → (first p ys ≡ some x → Among ys x × (p x ≡ true)) → Among (y ∷ ys) x × (p x ≡ true)
+    by : (c : Bool) → p y ≡ c → cond c (some y) (firstThat p ys) ≡ some x → (firstThat p ys ≡ some x → Among ys x × (p x ≡ true)) → Among (y ∷ ys) x × (p x ≡ true)
     by true q f go = let s : y ≡ x = cc in ((0, f), rw (← s) q)
     by false q f go = let r = go f in ((suc (r .0 .0), r .0 .1), r .1)
 
   -- where there is none, p holds of none
-  pub first-none : (p : A → Bool) (xs : List A) → first p xs ≡ none → (i : ℕ) {x : A} → pick xs i ≡ some x → p x ≡ true → ⊥
-  unfolding first pick
+  pub first-none : (p : A → Bool) (xs : List A) → firstThat p xs ≡ none → (i : ℕ) {x : A} → pick xs i ≡ some x → p x ≡ true → ⊥
+  unfolding firstThat pick
   first-none p [] e i f t = nothing-there f
   first-none p (y ∷ ys) e i {x} f t = by (p y) refl e i f (λ g k h. first-none p ys g k h t) where
-    by : (c : Bool) → p y ≡ c → cond c (some y) (first p ys) ≡ none → (i : ℕ) → pick (y ∷ ys) i ≡ some x
-        → (first p ys ≡ none → (k : ℕ) → pick ys k ≡ some x → ⊥) → ⊥
+    by : (c : Bool) → p y ≡ c → cond c (some y) (firstThat p ys) ≡ none → (i : ℕ) → pick (y ∷ ys) i ≡ some x
+        → (firstThat p ys ≡ none → (k : ℕ) → pick ys k ≡ some x → ⊥) → ⊥
     by true q g i f go = nothing-there (sym g)
     by false q g zero f go = let s : y ≡ x = cc in never t (rw (← s) q)
     by false q g (suc i) f go = go g i f
@@ -54,20 +54,20 @@ module _ {A : Type 0} where
   pick-none (y ∷ ys) (suc i) e = let h = pick-none ys i e in omega arith
 
   module _ (P : A → Type 0) (y : A) (ys : List A) where
-    here : P y → One (y ∷ ys) P
+    here : P y → AnyOf (y ∷ ys) P
     unfolding pick
     here h = (y, ((0, refl), h))
 
-    later : One ys P → One (y ∷ ys) P
+    later : AnyOf ys P → AnyOf (y ∷ ys) P
     unfolding pick
     later h = (h .0, ((suc (h .1 .0 .0), h .1 .0 .1), h .1 .1))
 
-    which : (x : A) (i : ℕ) → pick (y ∷ ys) i ≡ some x → P x → P y ⊎ One ys P
+    which : (x : A) (i : ℕ) → pick (y ∷ ys) i ≡ some x → P x → P y ⊎ AnyOf ys P
     unfolding pick
     which x zero f h = let s : x ≡ y = cc in inl (rw (← s) h)
     which x (suc i) f h = inr (x, ((i, f), h))
 
-    more-tells : {c : Bool} → Tells c (P y ⊎ One ys P) → Tells c (One (y ∷ ys) P)
+    more-tells : {c : Bool} → Tells c (P y ⊎ AnyOf ys P) → Tells c (AnyOf (y ∷ ys) P)
     more-tells u =
         record {
           fine = λ e g. u .fine e (which (g .0) (g .1 .0 .0) (g .1 .0 .1) (g .1 .1));
@@ -75,7 +75,7 @@ module _ {A : Type 0} where
         }
 
   -- a test of every one tells whether its condition holds of one
-  pub every-tells : (p : A → Bool) (P : A → Type 0) → ((x : A) → Tells (p x) (P x)) → (xs : List A) → Tells (every p xs) (One xs P)
+  pub every-tells : (p : A → Bool) (P : A → Type 0) → ((x : A) → Tells (p x) (P x)) → (xs : List A) → Tells (every p xs) (AnyOf xs P)
   unfolding every pick
   every-tells p P t [] = record { fine = λ e g. nothing-there (g .1 .0 .1); holds = λ e. never refl e }
   every-tells p P t (y ∷ ys) = more-tells P y ys (both (t y) (every-tells p P t ys))

@@ -15,7 +15,7 @@ use Rattle.reader.specs.declared.Run.{Run}
 use Rattle.reader.proofs.Laws.{passes}
 use Rattle.tables.proofs.Accepted.{OpenPassed, open-passed}
 use Rattle.demands.specs.World.{World, TableCall, stage, withdraw, Call, openRun, feed, finish, table, look, said, told, Step, step, end}
-use Rattle.demands.specs.Sequence.{NoEnd, Within, opened}
+use Rattle.demands.specs.Sequence.{NoEnd, Within, atOpen}
 use Rattle.demands.proofs.Steps.{How, isnt, is, how, refusal, leftForce, done, clash}
 use Rattle.demands.proofs.Listed.{nothing-there}
 use Rattle.demands.proofs.Reached.{Good, no-bytes, good-step, good-end, good-new}
@@ -80,20 +80,20 @@ live-end (c ∷ cs) w l n = live-end cs (step c w .world) (live-step c w l (n .0
 
 -- ---- an Open that answered a version
 
-pub record Opened (w : World) (r : Step) : Type 0 where
+pub record DidOpen (w : World) (r : Step) : Type 0 where
   pub may : MayOpen w
   pub is : r .world ≡ leftForce w (opening (w .state) (w .force) (w .wait)) .world
 
-opened-by : (w : World) {r : Step} → How openRun w r → IsSome (told (r .answer) .version) → Opened w r
+opened-by : (w : World) {r : Step} → How openRun w r → IsSome (told (r .answer) .version) → DidOpen w r
 opened-by w (isnt k e) f = absurd f
 opened-by w (is e) f = record { may = may-open w e; is = refl }
 
 -- what a run within a sequence stands on
 pub record Stand (w : World) (before : List Call) : Type 0 where
   pub start : Good (end before w)
-  pub opens : Opened (end before w) (step openRun (end before w))
-  pub good : Good (opened w before)
-  pub live : Live (opened w before)
+  pub opens : DidOpen (end before w) (step openRun (end before w))
+  pub good : Good (atOpen w before)
+  pub live : Live (atOpen w before)
 
 pub stands : (w : World) (before mid : List Call) → Within w before mid → Stand w before
 stands w before mid h =

@@ -4,8 +4,8 @@ use mathlib.Core.Path.{_≡_, refl, sym, ap, ap₂, _∙_}
 use mathlib.Core.Bool.{Bool, true, false, not, cond}
 use mathlib.Core.List.{List, [], _∷_, _++_}
 use borrow.Author.Tests.{not-true}
-use Rattle.demands.specs.World.{World, TableCall, Call, openRun, feed, finish, table, look, Answer, Step, step, end, Line, _⇒_, trace}
-use Rattle.demands.specs.Sequence.{AllFed, NoEnd, Within, opened}
+use Rattle.demands.specs.World.{World, TableCall, Call, openRun, feed, finish, table, look, Reply, Step, step, end, Line, _⇒_, trace}
+use Rattle.demands.specs.Sequence.{AllFed, NoEnd, Within, atOpen}
 use Rattle.demands.specs.Demand3.{isTable, those, tables, others, Same}
 use Rattle.demands.proofs.Steps.{how}
 use Rattle.demands.proofs.Reached.{Good, no-bytes, good-step, good-end}
@@ -219,7 +219,7 @@ module _ (w : World) (mid after : List Call) (b : AllFed mid) (g : Good w) (l : 
       ∙ ap₂ (λ (i : List Line) (k : World). i ++ trace after k) same-tables rest in
       trace-append (others mid) (finish ∷ (tables mid ++ after)) w
       ∙ ap₂ (λ (i k : List Line). i ++ k) (sym (o .answers))
-      (ap₂ (λ (a : Answer) (k : List Line). finish ⇒ a ∷ k) (ap (λ (r : Step). r .answer) fin) more)
+      (ap₂ (λ (a : Reply) (k : List Line). finish ⇒ a ∷ k) (ap (λ (r : Step). r .answer) fin) more)
 
   moved-table : tableAnswers (trace (mid ++ (finish ∷ after)) w) ≡ tableAnswers (trace (others mid ++ (finish ∷ (tables mid ++ after))) w)
   unfolding those
@@ -262,4 +262,4 @@ moved w before mid after h =
     let s = stands w before mid h in
     same-after before (openRun ∷ (mid ++ (finish ∷ after))) (openRun ∷ (others mid ++ (finish ∷ (tables mid ++ after)))) w
     (same-after (openRun ∷ []) (mid ++ (finish ∷ after)) (others mid ++ (finish ∷ (tables mid ++ after))) (end before w)
-    (moved-run (opened w before) mid after (h .fed) (s .good) (s .live) (h .noEnd)))
+    (moved-run (atOpen w before) mid after (h .fed) (s .good) (s .live) (h .noEnd)))

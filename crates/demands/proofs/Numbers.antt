@@ -13,7 +13,7 @@ use Rattle.rows.specs.declared.FieldRow.{FieldRow}
 use Rattle.table.specs.Lists.{pick}
 use Rattle.table.specs.Lookup.{carried, findRow}
 use Rattle.table.specs.Rows.{BlockRow, Table}
-use Rattle.record.specs.Answer.{Said, doNotUse, notInRevision, refused}
+use Rattle.record.specs.Answer.{FieldSaid, doNotUse, notInRevision, fieldRefused}
 use Rattle.kinds.specs.Marks.{isDoNotUse}
 use Rattle.value.specs.Bits.{readAs, valueOf, fieldValue}
 use Rattle.block.specs.Block.{revisionIn, subCount, bodyFits, subsFit, Seen, refusedBy, row, seenRow, seen, seenSubRow}
@@ -42,7 +42,7 @@ read-none (suc (suc (suc (suc (suc (suc (suc (suc (suc zero))))))))) x = refl
 read-none (suc (suc (suc (suc (suc (suc (suc (suc (suc (suc zero)))))))))) x = refl
 read-none (suc (suc (suc (suc (suc (suc (suc (suc (suc (suc (suc k))))))))))) x = refl
 
-cond-none : (c : Bool) (a b : Said) → fieldRefusal a ≡ none → fieldRefusal b ≡ none → fieldRefusal (cond c a b) ≡ none
+cond-none : (c : Bool) (a b : FieldSaid) → fieldRefusal a ≡ none → fieldRefusal b ≡ none → fieldRefusal (cond c a b) ≡ none
 cond-none true a b e f = e
 cond-none false a b e f = f
 
@@ -120,7 +120,7 @@ row-need b r f = then-cond (bodyFits b r) _ 7 f ∙ ap (need (bodyFits b r) 7) (
 pub stamp-need : (f : FieldRow) (b : List ℕ) → fieldRefusal (stamp f b) ≡ need (wholeFrame b) 10 (need (leb 14 (length b)) 7 none)
 unfolding stamp
 stamp-need f b = by (wholeFrame b) (leb 14 (length b)) where
-  by : (c d : Bool) → fieldRefusal (cond c (cond d (fieldValue b f) (refused 7)) (refused 10)) ≡ need c 10 (need d 7 none)
+  by : (c d : Bool) → fieldRefusal (cond c (cond d (fieldValue b f) (fieldRefused 7)) (fieldRefused 10)) ≡ need c 10 (need d 7 none)
   by true true = value-none b f
   by true false = refl
   by false d = refl
@@ -130,6 +130,6 @@ pub first-need : (c : Bool) (n : ℕ) (o rest : Option ℕ) → firstOf (need c 
 first-need true n o rest = refl
 first-need false n o rest = refl
 
-pub number-unless : (o : Option ℕ) (a : Said) → fieldRefusal (saidUnless o a) ≡ firstOf o (fieldRefusal a)
+pub number-unless : (o : Option ℕ) (a : FieldSaid) → fieldRefusal (saidUnless o a) ≡ firstOf o (fieldRefusal a)
 number-unless none a = refl
 number-unless (some n) a = refl

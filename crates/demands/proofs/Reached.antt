@@ -7,7 +7,7 @@ use mathlib.Core.Bool.{true}
 use mathlib.Core.List.{List, [], _∷_, _++_}
 use lib.ListN.{length, take, drop, length-append}
 use Rattle.scan.specs.Settle.{settle}
-use Rattle.scan.specs.Feed.{Feeding, feedLit}
+use Rattle.scan.specs.Feed.{Intake, feedLit}
 use Rattle.feed.proofs.Bounds.{append-bytes, take-bytes, drop-bytes}
 use Rattle.frame.specs.Judge.{judged, judgedLast}
 use Rattle.scan.proofs.Settling.{settle-rest}
@@ -39,10 +39,10 @@ no-bytes i = omega arith
 
 -- ---- the hold
 
-over-hold : (f : Feeding) (hold : List ℕ) → length (f .held) ≤ length (holdOf f hold)
+over-hold : (f : Intake) (hold : List ℕ) → length (f .held) ≤ length (holdOf f hold)
 over-hold f hold = omega (arith, length-append (f .held) (drop (length (f .held)) hold))
 
-clean-hold : (f : Feeding) (hold : List ℕ) → Bytes (f .held) → Bytes hold → Bytes (holdOf f hold)
+clean-hold : (f : Intake) (hold : List ℕ) → Bytes (f .held) → Bytes hold → Bytes (holdOf f hold)
 clean-hold f hold a b = append-bytes (f .held) (drop (length (f .held)) hold) a (drop-bytes hold (length (f .held)) b)
 
 fed-clean : (s : State) (hold piece : List ℕ) → Bytes hold → Bytes piece → Bytes (feedingOf s hold piece .held)

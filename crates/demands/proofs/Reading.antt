@@ -8,8 +8,8 @@ use mathlib.Core.Option.{Option, none, some, Option·getD, IsSome}
 use lib.ListN.{length, take, drop, length-append}
 use Rattle.frame.specs.Judge.{judgedLast}
 use Rattle.scan.specs.Settle.{settle}
-use Rattle.scan.specs.Feed.{Feeding, stop, size}
-use Rattle.framing.specs.ReadRun.{Block, Reading, readRun}
+use Rattle.scan.specs.Feed.{Intake, stop, size}
+use Rattle.framing.specs.ReadRun.{ReadBlock, Reading, readRun}
 use Rattle.framing.proofs.Reading.{both, read-end, last-empty}
 use Rattle.reader.specs.State.{sound}
 use Rattle.reader.specs.Said.{Report, ended}
@@ -22,29 +22,29 @@ use Rattle.reader.specs.declared.Phase.{Phase}
 use Rattle.reader.specs.declared.Counts.{Counts}
 use Rattle.reader.proofs.Laws.{passes, with-hold}
 use Rattle.feed.specs.Hold.{restOf}
-use Rattle.demands.specs.World.{World, TableCall, stage, withdraw, Look, bytes, body, sub, subBytes, tow, wnc, Call, openRun, feed, finish, table, look, Answer, said, told, Step, looked, step, end}
-use Rattle.demands.specs.Sequence.{Bytes, pieceOf, AllFed, NoEnd, Within, Closes, opened, tookOf, inHold, shown, taken, blocks, shownBlocks}
+use Rattle.demands.specs.World.{World, TableCall, stage, withdraw, Look, bytes, body, sub, subBytes, tow, wnc, Call, openRun, feed, finish, table, look, Reply, said, told, Step, looked, step, end}
+use Rattle.demands.specs.Sequence.{Bytes, pieceOf, AllFed, NoEnd, Within, Closes, atOpen, tookOf, inHold, shown, taken, blocks, shownBlocks}
 use Rattle.demands.specs.Demand2.{MayFollow, ReadSoFar}
 use Rattle.demands.specs.Demand3.{countsOf, RunOf}
 use Rattle.demands.proofs.Steps.{How, isnt, is, how, refusal, leftForce, done, tableDone}
 use Rattle.demands.proofs.Reached.{Good, good-step, good-end}
 use Rattle.demands.proofs.Live.{Live, not-open, live-step, stands}
-use Rattle.demands.proofs.Going.{kept, place, going, kept-after, Fits, finish-report, shown-is}
-use Rattle.demands.proofs.Calls.{Reads, Next, reads-feed, reads-finish, finish-fits}
+use Rattle.demands.proofs.Going.{kept, place, going, kept-after, FitsHold, finish-report, shown-is}
+use Rattle.demands.proofs.Calls.{ReadsAs, Next, reads-feed, reads-finish, finish-fits}
 
 -- ---- calls that take and report nothing
 
-nil : {ts : List ℕ} {b : List Block} {w : World} → Reads ts b w → Reads (ts ++ []) (b ++ []) w
-nil {ts} {b} {w} r = subst⁻¹ (λ (x : List ℕ). Reads x (b ++ []) w) (append-nil ts) (subst⁻¹ (λ (x : List Block). Reads ts x w) (append-nil b) r)
+nil : {ts : List ℕ} {b : List ReadBlock} {w : World} → ReadsAs ts b w → ReadsAs (ts ++ []) (b ++ []) w
+nil {ts} {b} {w} r = subst⁻¹ (λ (x : List ℕ). ReadsAs x (b ++ []) w) (append-nil ts) (subst⁻¹ (λ (x : List ReadBlock). ReadsAs ts x w) (append-nil b) r)
 
 -- another waiting place is not looked at
-table-reads : (t : TableCall) (w : World) {ts : List ℕ} {b : List Block} → Reads ts b w → Next (table t) ts b (tableDone t w)
+table-reads : (t : TableCall) (w : World) {ts : List ℕ} {b : List ReadBlock} → ReadsAs ts b w → Next (table t) ts b (tableDone t w)
 table-reads (stage t) w {ts} {b} r =
     nil {ts = ts} {b = b} (record { count = r .count; sum = r .sum; places = r .places; skips = r .skips; rest = r .rest; so = r .so })
 table-reads withdraw w {ts} {b} r =
     nil {ts = ts} {b = b} (record { count = r .count; sum = r .sum; places = r .places; skips = r .skips; rest = r .rest; so = r .so })
 
-look-reads : (l : Look) (w : World) {ts : List ℕ} {b : List Block} → Reads ts b w → Next (look l) ts b (record { answer = looked l w; world = w })
+look-reads : (l : Look) (w : World) {ts : List ℕ} {b : List ReadBlock} → ReadsAs ts b w → Next (look l) ts b (record { answer = looked l w; world = w })
 look-reads bytes w r = nil r
 look-reads (body x i) w r = nil r
 look-reads (sub x k j) w r = nil r
@@ -57,47 +57,47 @@ no-piece : (n : ℕ) → take {A = ℕ} n [] ≡ []
 no-piece zero = refl
 no-piece (suc n) = refl
 
-reads-done : (c : Call) (w : World) {ts : List ℕ} {b : List Block} → Good w → Live w → refusal c w ≡ none → Reads ts b w → Next c ts b (done c w)
+reads-done : (c : Call) (w : World) {ts : List ℕ} {b : List ReadBlock} → Good w → Live w → refusal c w ≡ none → ReadsAs ts b w → Next c ts b (done c w)
 reads-done openRun w g l e r = not-open w l e
 reads-done (feed piece) w g l e r = reads-feed w piece g e r
 reads-done finish w {ts} {b} g l e r =
-    subst⁻¹ (λ (x : List ℕ). Reads (ts ++ x) (b ++ inHold (told (done finish w .answer) .block) (done finish w .world)) (done finish w .world))
+    subst⁻¹ (λ (x : List ℕ). ReadsAs (ts ++ x) (b ++ inHold (told (done finish w .answer) .block) (done finish w .world)) (done finish w .world))
     (no-piece (Option·getD (told (done finish w .answer) .taken) 0)) (reads-finish w g e r)
 reads-done (table t) w g l e r = table-reads t w r
 reads-done (look k) w g l e r = look-reads k w r
 
-pub reads-by : (c : Call) (w : World) {ts : List ℕ} {b : List Block} → Good w → Live w → Reads ts b w → {x : Step} → How c w x → Next c ts b x
+pub reads-by : (c : Call) (w : World) {ts : List ℕ} {b : List ReadBlock} → Good w → Live w → ReadsAs ts b w → {x : Step} → How c w x → Next c ts b x
 reads-by c w g l r (isnt n e) = nil r
 reads-by c w g l r (is e) = reads-done c w g l e r
 
-pub reads-end : (cs : List Call) (w : World) {ts : List ℕ} {b : List Block} → AllFed cs → Good w → Live w → NoEnd cs w → Reads ts b w
-    → Reads (ts ++ taken cs w) (b ++ blocks cs w) (end cs w)
+pub reads-end : (cs : List Call) (w : World) {ts : List ℕ} {b : List ReadBlock} → AllFed cs → Good w → Live w → NoEnd cs w → ReadsAs ts b w
+    → ReadsAs (ts ++ taken cs w) (b ++ blocks cs w) (end cs w)
 unfolding end AllFed NoEnd taken blocks
 reads-end [] w f g l n r = nil r
 reads-end (c ∷ cs) w {ts} {b} f g l n r =
     let bk = inHold (told (step c w .answer) .block) (step c w .world) in
     let k = reads-end cs (step c w .world) (f .1) (good-step c w (f .0) g) (live-step c w l (n .0)) (n .1) (reads-by c w g l r (how c w)) in
-    subst (λ (x : List ℕ). Reads x (b ++ (bk ++ blocks cs (step c w .world))) (end cs (step c w .world))) (append-assoc ts (tookOf c (step c w .answer)) (taken cs (step c w .world)))
-    (subst (λ (x : List Block). Reads (ts ++ tookOf c (step c w .answer) ++ taken cs (step c w .world)) x (end cs (step c w .world))) (append-assoc b bk (blocks cs (step c w .world))) k)
+    subst (λ (x : List ℕ). ReadsAs x (b ++ (bk ++ blocks cs (step c w .world))) (end cs (step c w .world))) (append-assoc ts (tookOf c (step c w .answer)) (taken cs (step c w .world)))
+    (subst (λ (x : List ReadBlock). ReadsAs (ts ++ tookOf c (step c w .answer) ++ taken cs (step c w .world)) x (end cs (step c w .world))) (append-assoc b bk (blocks cs (step c w .world))) k)
 
 -- ---- from the run's start to a moment of it
 
-reads-open : (w : World) → Reads [] [] (leftForce w (opening (w .state) (w .force) (w .wait)) .world)
+reads-open : (w : World) → ReadsAs [] [] (leftForce w (opening (w .state) (w .force) (w .wait)) .world)
 unfolding restOf
 reads-open w = record { count = refl; sum = refl; places = []; skips = refl; rest = refl; so = λ zs y. refl }
 
-pub reads-within : (w : World) (before mid : List Call) → Within w before mid → Reads (taken mid (opened w before)) (blocks mid (opened w before)) (end mid (opened w before))
+pub reads-within : (w : World) (before mid : List Call) → Within w before mid → ReadsAs (taken mid (atOpen w before)) (blocks mid (atOpen w before)) (end mid (atOpen w before))
 reads-within w before mid h =
     let s = stands w before mid h in
-    reads-end mid (opened w before) (h .fed) (s .good) (s .live) (h .noEnd) (subst⁻¹ (Reads [] []) (s .opens .is) (reads-open (end before w)))
+    reads-end mid (atOpen w before) (h .fed) (s .good) (s .live) (h .noEnd) (subst⁻¹ (ReadsAs [] []) (s .opens .is) (reads-open (end before w)))
 
-pub first-ones : (w : World) (before mid : List Call) → Within w before mid → ReadSoFar (opened w before) mid
+pub first-ones : (w : World) (before mid : List Call) → Within w before mid → ReadSoFar (atOpen w before) mid
 first-ones w before mid h =
     let r = reads-within w before mid h in
-    let u = end mid (opened w before) in
-    let t = taken mid (opened w before) in
-    let so : (zs : List ℕ) → MayFollow (u .state .run .phase) zs → readRun 0 (t ++ zs) ≡ both (record { blocks = blocks mid (opened w before); skipped = r .places }) (readRun (place u) (drop (place u) t ++ zs)) =
-    λ zs y. r .so zs y ∙ ap (λ (k : List ℕ). both (record { blocks = blocks mid (opened w before); skipped = r .places }) (readRun (place u) (k ++ zs))) (r .rest) in
+    let u = end mid (atOpen w before) in
+    let t = taken mid (atOpen w before) in
+    let so : (zs : List ℕ) → MayFollow (u .state .run .phase) zs → readRun 0 (t ++ zs) ≡ both (record { blocks = blocks mid (atOpen w before); skipped = r .places }) (readRun (place u) (drop (place u) t ++ zs)) =
+    λ zs y. r .so zs y ∙ ap (λ (k : List ℕ). both (record { blocks = blocks mid (atOpen w before); skipped = r .places }) (readRun (place u) (k ++ zs))) (r .rest) in
     record {
       follows = λ zs y. ap (λ (x : Reading). x .blocks) (so zs y);
       skips = λ zs y. ap (λ (x : Reading). length (x .skipped)) (so zs y) ∙ length-append (r .places) (readRun (place u) (drop (place u) t ++ zs) .skipped)
@@ -108,10 +108,10 @@ first-ones w before mid h =
 
 -- ---- End
 
-un-nil : {ts : List ℕ} {b : List Block} {w : World} → Reads (ts ++ []) (b ++ []) w → Reads ts b w
-un-nil {ts} {b} {w} r = subst (λ (x : List ℕ). Reads x b w) (append-nil ts) (subst (λ (x : List Block). Reads (ts ++ []) x w) (append-nil b) r)
+un-nil : {ts : List ℕ} {b : List ReadBlock} {w : World} → ReadsAs (ts ++ []) (b ++ []) w → ReadsAs ts b w
+un-nil {ts} {b} {w} r = subst (λ (x : List ℕ). ReadsAs x b w) (append-nil ts) (subst (λ (x : List ReadBlock). ReadsAs (ts ++ []) x w) (append-nil b) r)
 
-record Whole (ts : List ℕ) (b : List Block) (a : Answer) : Type 0 where
+record Whole (ts : List ℕ) (b : List ReadBlock) (a : Reply) : Type 0 where
   pub all : b ≡ readRun 0 ts .blocks
   pub counts : told a .end ≡ some (countsOf ts)
 
@@ -119,14 +119,14 @@ abbrev counting : ℕ → ℕ → ℕ → Counts
 counting t b s = record { taken = t; blocks = b; skipped = s }
 
 -- a closed run holds nothing, so all is read
-closed-reads : (w : World) {ts : List ℕ} {b : List Block} → w .state .run .phase ≡ phase.Closed → kept w ≡ [] → Reads ts b w
+closed-reads : (w : World) {ts : List ℕ} {b : List ReadBlock} → w .state .run .phase ≡ phase.Closed → kept w ≡ [] → ReadsAs ts b w
     → Whole ts b (said (ended (w .state .run .counts)))
 closed-reads w {ts} {b} c k r =
     let so : readRun 0 ts ≡ record { blocks = b; skipped = r .places } =
     ap (readRun 0) (sym (append-nil ts)) ∙ r .so [] (subst⁻¹ (λ (x : Phase). MayFollow x []) c refl)
     ∙ ap (λ (j : List ℕ). both (record { blocks = b; skipped = r .places }) (readRun (place w) (j ++ []))) k
     ∙ ap (both (record { blocks = b; skipped = r .places })) (read-end (place w))
-    ∙ ap₂ (λ (i : List Block) (j : List ℕ). record { blocks = i; skipped = j }) (append-nil b) (append-nil (r .places)) in
+    ∙ ap₂ (λ (i : List ReadBlock) (j : List ℕ). record { blocks = i; skipped = j }) (append-nil b) (append-nil (r .places)) in
     let all : b ≡ readRun 0 ts .blocks = ap (λ (x : Reading). x .blocks) (sym so) in
     record {
       all = all;
@@ -135,15 +135,15 @@ closed-reads w {ts} {b} c k r =
           (r .skips ∙ ap (λ (x : Reading). length (x .skipped)) (sym so));
     }
 
-ended-reads : (w : World) {ts : List ℕ} {b : List Block} (o : Option ℕ) (f : Feeding) → f .standing ≡ o → Good w → Fits w f → (o ≡ none → f .held ≡ [])
+ended-reads : (w : World) {ts : List ℕ} {b : List ReadBlock} (o : Option ℕ) (f : Intake) → f .standing ≡ o → Good w → FitsHold w f → (o ≡ none → f .held ≡ [])
     → IsSome (told (said (finishSaid o (runOn (phaseAfter o) (w .state .run) f) (f .held))) .end)
-    → Reads (ts ++ []) (b ++ inHold (told (said (finishSaid o (runOn (phaseAfter o) (w .state .run) f) (f .held))) .block) (going (phaseAfter o) w f)) (going (phaseAfter o) w f)
+    → ReadsAs (ts ++ []) (b ++ inHold (told (said (finishSaid o (runOn (phaseAfter o) (w .state .run) f) (f .held))) .block) (going (phaseAfter o) w f)) (going (phaseAfter o) w f)
     → Whole ts b (said (finishSaid o (runOn (phaseAfter o) (w .state .run) f) (f .held)))
 ended-reads w none f q g h d e r =
     closed-reads (going phase.Closed w f) refl (kept-after phase.Closed w f g h ∙ ap (λ (o : Option ℕ). drop (size o) (f .held)) q ∙ d refl) (un-nil r)
 ended-reads w (some n) f q g h d e r = absurd e
 
-whole-by : (w : World) {ts : List ℕ} {b : List Block} → Good w → Reads ts b w → {x : Step} → How finish w x → IsSome (told (x .answer) .end) → Whole ts b (x .answer)
+whole-by : (w : World) {ts : List ℕ} {b : List ReadBlock} → Good w → ReadsAs ts b w → {x : Step} → How finish w x → IsSome (told (x .answer) .end) → Whole ts b (x .answer)
 unfolding finishingOf
 whole-by w g r (isnt k e) n = absurd n
 whole-by w g r (is e) n =
@@ -200,19 +200,19 @@ unfolding AllFed shownBlocks blocks
 shown-all [] w b g = refl
 shown-all (c ∷ cs) w b g =
     let k = good-step c w (b .0) g in
-    ap₂ (λ (x y : List Block). x ++ y) (shown-by c w (b .0) g (how c w) k) (shown-all cs (step c w .world) (b .1) k)
+    ap₂ (λ (x y : List ReadBlock). x ++ y) (shown-by c w (b .0) g (how c w) k) (shown-all cs (step c w .world) (b .1) k)
 
 -- ---- the theorems
 
-pub of-the-whole : (run : List ℕ) (w : World) (before mid : List Call) → Within w before mid → Closes w before mid → taken mid (opened w before) ≡ run
-    → RunOf run (opened w before) mid
+pub of-the-whole : (run : List ℕ) (w : World) (before mid : List Call) → Within w before mid → Closes w before mid → taken mid (atOpen w before) ≡ run
+    → RunOf run (atOpen w before) mid
 of-the-whole run w before mid h e q =
     let s = stands w before mid h in
-    let u = end mid (opened w before) in
-    let t = whole-by u (good-end mid (opened w before) (h .fed) (s .good)) (reads-within w before mid h) (how finish u) e in
-    let all : blocks mid (opened w before) ≡ readRun 0 run .blocks = t .all ∙ ap (λ (x : List ℕ). readRun 0 x .blocks) q in
+    let u = end mid (atOpen w before) in
+    let t = whole-by u (good-end mid (atOpen w before) (h .fed) (s .good)) (reads-within w before mid h) (how finish u) e in
+    let all : blocks mid (atOpen w before) ≡ readRun 0 run .blocks = t .all ∙ ap (λ (x : List ℕ). readRun 0 x .blocks) q in
     record {
       all = all;
-      shown = shown-all mid (opened w before) (h .fed) (s .good) ∙ all;
+      shown = shown-all mid (atOpen w before) (h .fed) (s .good) ∙ all;
       counts = t .counts ∙ ap (λ (x : List ℕ). some (countsOf x)) q;
     }

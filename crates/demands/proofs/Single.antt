@@ -3,7 +3,7 @@
 use mathlib.Core.Path.{_≡_, sym, ap, _∙_}
 use mathlib.Core.List.{List}
 use Prim.Native.Nat.{ℕ}
-use Rattle.record.specs.Answer as record-answer
+use Rattle.record.specs.Answer.{FieldSaid}
 use Rattle.answers.proofs.Theorems.{one-answer}
 use Rattle.reader.specs.Said.{Said}
 use Rattle.tables.specs.Said.{saidOpened, saidStaged, saidWithdrawn}
@@ -23,7 +23,7 @@ one-by said apart o a b s t l m p q =
 one-part : (v : List ℕ) → OnePart v
 one-part v x y p q = p ∙ sym q
 
-one-field : (said : record-answer.Said) → OneField said
+one-field : (said : FieldSaid) → OneField said
 one-field said a b p q = one-answer .answers a b said p q
 
 pub one : OneOutcome

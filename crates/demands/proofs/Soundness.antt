@@ -11,7 +11,7 @@ use lib.ListN.{length, drop}
 use lib.Dec.{ltb}
 use borrow.Author.Tests.{le-leb}
 use Rattle.scan.specs.Settle.{settle}
-use Rattle.scan.specs.Feed.{Feeding, feedLit, stop, size}
+use Rattle.scan.specs.Feed.{Intake, feedLit, stop, size}
 use Rattle.frame.proofs.Tests.{both-true}
 use Rattle.feed.proofs.Bounds.{take-bytes, drop-bytes, fed-held}
 use Rattle.frame.specs.Judge.{judged, judgedLast}
@@ -105,7 +105,7 @@ whole-le none v w = omega arith
 whole-le (some n) v w = w .there
 
 -- the run goes on by what was taken, skipped and kept
-went-on : (x : Phase) (s : State) (b n : ℕ) (F : Feeding) → Sound s b → n ≡ s .run .held - s .run .standing → n + F .taken ≡ length (F .passed) + length (F .held)
+went-on : (x : Phase) (s : State) (b n : ℕ) (F : Intake) → Sound s b → n ≡ s .run .held - s .run .standing → n + F .taken ≡ length (F .passed) + length (F .held)
     → length (F .held) ≤ 65532 → F .taken ≤ limit - s .run .counts .taken → WholeIf (F .standing) (F .held)
     → Sound (withRun s (runOn x (s .run) F)) (b + size (F .standing))
 went-on x s b n F h e sum l t w =

@@ -10,7 +10,7 @@ use lib.ListN.{length, take, drop}
 use lib.Seq.{take-append-seam}
 use lib.Dec.{ltb}
 use borrow.Author.Tests.{le-leb, lt-ltb}
-use Rattle.scan.specs.Feed.{Feeding, size}
+use Rattle.scan.specs.Feed.{Intake, size}
 use Rattle.feed.specs.Hold.{over, holdOf}
 use Rattle.table.specs.Decode.{decode}
 use Rattle.table.specs.Rules.{tableOk}
@@ -100,7 +100,7 @@ told-feed w piece p e h =
       stands = stands-by (f .standing) (front (runOn phase.Feeding (w .state .run) f)) (f .held) (holdOf f (w .hold));
     }
 
-told-finish-by : (w : World) (p : Past) (o : Option ℕ) (f : Feeding) (r : Run) (v : List ℕ) → f .standing ≡ o → AsTold w p
+told-finish-by : (w : World) (p : Past) (o : Option ℕ) (f : Intake) (r : Run) (v : List ℕ) → f .standing ≡ o → AsTold w p
     → AsTold (going (phaseAfter o) w f) (after finish (told (said (finishSaid o r v))) (holdOf f (w .hold)) p)
 told-finish-by w p none f r v q h =
     record { phase = refl; waiting = h .waiting; force = h .force; stands = ap (λ (o : Option ℕ). take (size o) (holdOf f (w .hold))) q }

@@ -14,7 +14,7 @@ use Rattle.runs.specs.Refusals.{feedRefusal, finishRefusal, bytesRefusal}
 use Rattle.runs.specs.Calls.{feedingOf, finishingOf, bytesOf}
 use Rattle.records.specs.Calls.{askRefusal, bodyOf, subOf, subBytesOf, subBytesRefusal, stampOf}
 use Rattle.tables.proofs.Accepted.{stage-passed}
-use Rattle.demands.specs.World.{World, TableCall, stage, withdraw, Look, bytes, body, sub, subBytes, tow, wnc, Call, openRun, feed, finish, table, look, Answer, Step, looked, step, end}
+use Rattle.demands.specs.World.{World, TableCall, stage, withdraw, Look, bytes, body, sub, subBytes, tow, wnc, Call, openRun, feed, finish, table, look, Reply, Step, looked, step, end}
 use Rattle.demands.specs.Demand3.{isTable}
 use Rattle.demands.proofs.Steps.{How, isnt, is, how, refusal, tableRefusals, done, tableDone, unlessRefused, by-refusal, clash}
 use Rattle.demands.proofs.Reached.{Good, good-sound}
@@ -111,7 +111,7 @@ apart-done none openRun w p g l e h = absurd (h refl refl)
 apart-done none (feed piece) w p g l e h = refl
 apart-done none finish w p g l e h = refl
 apart-done none (table t) w p g l e h = clash e
-apart-done none (look k) w p g l e h = ap (λ (a : Answer). record { answer = a; world = with w p }) (look-apart k w p g l)
+apart-done none (look k) w p g l e h = ap (λ (a : Reply). record { answer = a; world = with w p }) (look-apart k w p g l)
 
 apart-refusal : (c : Call) (w : World) (p : Waiting) → isTable c ≡ false → Good w → Live w → Fit p (waits w) → refusal c (with w p) ≡ refusal c w
 unfolding openRefusal feedRefusal finishRefusal

@@ -16,8 +16,8 @@ use Rattle.reader.specs.Said.{took}
 use Rattle.records.specs.Calls.{tableInForce}
 use Rattle.reader.specs.declared.Phase.{Phase}
 use Rattle.reader.specs.declared.Phase.the-variants.{Closed, Feeding, Finishing}
-use Rattle.demands.specs.World.{World, Look, bytes, body, sub, subBytes, tow, wnc, Call, feed, look, Answer, said, part, value, step, end}
-use Rattle.demands.specs.Sequence.{Within, opened, taken, blocks}
+use Rattle.demands.specs.World.{World, Look, bytes, body, sub, subBytes, tow, wnc, Call, feed, look, Reply, said, part, value, step, end}
+use Rattle.demands.specs.Sequence.{Within, atOpen, taken, blocks}
 
 -- what may follow: "After the first Finish no bytes are fed"
 abbrev pub MayFollow : Phase → List ℕ → Type 0
@@ -42,7 +42,7 @@ pub record ReadSoFar (w : World) (mid : List Call) : Type 0 where
   pub counted : end mid w .state .run .counts .blocks ≡ length (blocks mid w)
 
 -- the answer of a record call is the one under this table; of Bytes nothing is asked
-abbrev pub ReadsBy : Table → Look → Answer → Type 0
+abbrev pub ReadsBy : Table → Look → Reply → Type 0
 ReadsBy tab bytes a = Unit {0}
 ReadsBy tab (body b i) a = a ≡ value (bodyField tab b i)
 ReadsBy tab (sub b k j) a = a ≡ value (subField tab b k j)
@@ -52,11 +52,11 @@ ReadsBy tab (wnc b) a = a ≡ value (stamp wncRow b)
 
 pub record Demand2 : Type 0 where
   -- "exactly those that the framing rules .. give for the run's bytes, taken from the left"
-  pub first : (w : World) (before mid : List Call) → Within w before mid → ReadSoFar (opened w before) mid
+  pub firstOnes : (w : World) (before mid : List Call) → Within w before mid → ReadSoFar (atOpen w before) mid
   -- "one that answers More has decided all it can": the bytes taken leave the place undecided where reading goes on
   pub more : (w : World) (before mid : List Call) (piece : List ℕ) (n : ℕ) → Within w before mid
-      → step (feed piece) (end mid (opened w before)) .answer ≡ said (took n none)
-      → judged (drop (placeNow (end (mid ++ feed piece ∷ []) (opened w before))) (taken (mid ++ feed piece ∷ []) (opened w before))) ≡ Undecided
+      → step (feed piece) (end mid (atOpen w before)) .answer ≡ said (took n none)
+      → judged (drop (placeNow (end (mid ++ feed piece ∷ []) (atOpen w before))) (taken (mid ++ feed piece ∷ []) (atOpen w before))) ≡ Undecided
   -- a record call at a moment of a run is answered by the table in force at that moment
   pub records : (w : World) (before mid : List Call) → Within w before mid → (l : Look)
-      → ReadsBy (decode (tableInForce (end mid (opened w before) .state) (end mid (opened w before) .force))) l (step (look l) (end mid (opened w before)) .answer)
+      → ReadsBy (decode (tableInForce (end mid (atOpen w before) .state) (end mid (atOpen w before) .force))) l (step (look l) (end mid (atOpen w before)) .answer)

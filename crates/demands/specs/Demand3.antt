@@ -12,7 +12,7 @@ use Rattle.table.specs.Rows.{Table}
 use Rattle.reader.specs.declared.Counts.{Counts}
 use Rattle.tables.specs.Calls.{nextTable}
 use Rattle.demands.specs.World.{World, Look, Call, openRun, feed, finish, table, look, told, step, end, Line, trace}
-use Rattle.demands.specs.Sequence.{pieceOf, Within, Closes, opened, tookOf, taken, blocks, shownBlocks}
+use Rattle.demands.specs.Sequence.{pieceOf, Within, Closes, atOpen, tookOf, taken, blocks, shownBlocks}
 use Rattle.demands.specs.Demand2.{ReadsBy}
 
 -- the counts of a run's whole bytes
@@ -67,13 +67,13 @@ pub record Demand3 : Type 0 where
   -- "For each run that was closed by End": whose whole bytes are `run`, "however its bytes were cut between calls, and wherever table calls
   -- (Stage and Withdraw) stood among them"
   pub whole : (run : List ℕ) (w : World) (before mid : List Call) → Within w before mid → Closes w before mid
-      → taken mid (opened w before) ≡ run
-      → RunOf run (opened w before) mid
+      → taken mid (atOpen w before) ≡ run
+      → RunOf run (atOpen w before) mid
   -- "with unread bytes offered again first": the bytes taken are the front of the caller's stream
   pub offered : (s : List ℕ) (cs : List Call) (w : World) → Offers s cs w → taken cs w ≡ take (length (taken cs w)) s
   -- "all records read while it was open are those of the bytes given to the record call, under the table in force at its opening"
   pub records : (w : World) (before mid : List Call) → Within w before mid → (l : Look)
-      → ReadsBy (foundBy (end before w)) l (step (look l) (end mid (opened w before)) .answer)
+      → ReadsBy (foundBy (end before w)) l (step (look l) (end mid (atOpen w before)) .answer)
   -- "Moving those table calls, in their order, to just after the run's end changes no call's answer, nor the final state and lent bytes."
   pub moved : (w : World) (before mid after : List Call) → Within w before mid
       → Same w (before ++ (openRun ∷ (mid ++ (finish ∷ after)))) (before ++ (openRun ∷ (others mid ++ (finish ∷ (tables mid ++ after)))))

@@ -5,7 +5,7 @@ use Prim.Native.Nat.{ℕ}
 use mathlib.Core.Path.{_≡_}
 use mathlib.Core.List.{List}
 use Rattle.record.specs.Answer.{Answers, handedSays}
-use Rattle.record.specs.Answer as record-answer
+use Rattle.record.specs.Answer.{FieldSaid}
 use Rattle.record.specs.declared.Answer.{Answer}
 use Rattle.record.specs.declared.Handed.{Handed}
 use Rattle.reader.specs.Said.{Said, refusalOf}
@@ -28,7 +28,7 @@ abbrev pub OnePart : List ℕ → Type 0
 OnePart part = (v w : List ℕ) → v ≡ part → w ≡ part → v ≡ w
 
 -- two answers of a field that say this are one, its case too
-abbrev pub OneField : record-answer.Said → Type 0
+abbrev pub OneField : FieldSaid → Type 0
 OneField said = (a b : Answer) → Answers a said → Answers b said → a ≡ b
 
 pub record OneOutcome : Type 0 where

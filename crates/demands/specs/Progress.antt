@@ -10,7 +10,7 @@ use lib.ListN.{length}
 use Rattle.reader.specs.State.{limit}
 use Rattle.reader.specs.Said.{took}
 use Rattle.demands.specs.World.{World, Call, feed, finish, said, told, step, end}
-use Rattle.demands.specs.Sequence.{Within, opened}
+use Rattle.demands.specs.Sequence.{Within, atOpen}
 
 -- Finish answers Block n times, and then End
 unfoldable pub EndsAfter : ℕ → World → Type 0
@@ -22,5 +22,5 @@ pub record Progress : Type 0 where
   pub more : (w : World) (piece : List ℕ) (n : ℕ) → step (feed piece) w .answer ≡ said (took n none)
       → (n ≡ length piece) ⊎ (step (feed piece) w .world .state .run .counts .taken ≡ limit)
   -- a run's Finish calls reach End after at most as many blocks as there are held bytes
-  pub ends : (w : World) (before mid : List Call) → Within w before mid → 65536 ≤ length (end mid (opened w before) .hold)
-      → (n : ℕ) × ((n ≤ end mid (opened w before) .state .run .held) × EndsAfter n (end mid (opened w before)))
+  pub ends : (w : World) (before mid : List Call) → Within w before mid → 65536 ≤ length (end mid (atOpen w before) .hold)
+      → (n : ℕ) × ((n ≤ end mid (atOpen w before) .state .run .held) × EndsAfter n (end mid (atOpen w before)))

@@ -120,8 +120,8 @@ abbrev pub NotInTable : Table → List ℕ → Type 0
 NotInTable t b = (r : BlockRow) → RowOf t b r → ⊥
 
 -- 7: "a body field that its revision carries ends past L, or L is below 14"
-abbrev pub TooShort : Table → List ℕ → Type 0
-TooShort t b = OfRow t b (λ r. EndsPast (r .body) b (L b)) ⊎ (L b < 14)
+abbrev pub EndsPastL : Table → List ℕ → Type 0
+EndsPastL t b = OfRow t b (λ r. EndsPast (r .body) b (L b)) ⊎ (L b < 14)
 
 -- 8: "the block's row has sub-fields, and either N is over 0 and a carried sub-field ends past SBLength, or 16 + N x SBLength is over L"
 abbrev pub SubsDoNotFit : Table → List ℕ → Type 0
@@ -137,8 +137,8 @@ abbrev pub NoSubBlock : List ℕ → ℕ → BlockRow → Type 0
 NoSubBlock b k r = (length (r .subs) ≡ 0) ⊎ (N b ≤ k)
 
 -- 10: "the bytes given to a record call are not one whole frame"
-abbrev pub NotOneFrame : List ℕ → Type 0
-NotOneFrame b = OneFrame b → ⊥
+abbrev pub NoWholeFrame : List ℕ → Type 0
+NoWholeFrame b = OneFrame b → ⊥
 
 -- ---- the numbers of a call in their order: one is given where its condition holds and none before it does
 
@@ -170,16 +170,16 @@ recordOrder w b Nine =
     1 when (BadState (w .state) ⊎ ShortStore (w .force))
     ∷ 5 when (w .state .«in_force» ≡ 0)
     ∷ 4 when Breaks (tableInForce (w .state) (w .force))
-    ∷ 10 when NotOneFrame b
+    ∷ 10 when NoWholeFrame b
     ∷ 6 when NotInTable t b
-    ∷ 7 when TooShort t b
+    ∷ 7 when EndsPastL t b
     ∷ 8 when SubsDoNotFit t b
     ∷ 9 when OfRow t b Nine
     ∷ []
 
 -- "the TOW and WNc calls read no table and give only 1, 10 and, for L below 14, 7"
 abbrev pub stampOrder : World → List ℕ → Order
-stampOrder w b = 1 when BadState (w .state) ∷ 10 when NotOneFrame b ∷ 7 when (L b < 14) ∷ []
+stampOrder w b = 1 when BadState (w .state) ∷ 10 when NoWholeFrame b ∷ 7 when (L b < 14) ∷ []
 
 -- "Order: Open 1, 2, 5, 4. Feed 1, 2, 3. Finish 1, 2. Bytes and Withdraw 1. Stage 1, 4."
 abbrev pub order : Call → World → Order

@@ -5,10 +5,10 @@ use mathlib.Core.Path.{_≡_}
 use mathlib.Core.List.{List, [], _∷_, _++_}
 use mathlib.Core.Option.{Option, none, some, Option·getD, IsSome}
 use lib.ListN.{getD, take}
-use Rattle.framing.specs.ReadRun.{Block}
+use Rattle.framing.specs.ReadRun.{ReadBlock}
 use Rattle.reader.specs.State.{newState}
 use Rattle.reader.specs.Said.{Report}
-use Rattle.demands.specs.World.{World, bytes, Call, openRun, feed, finish, table, look, Answer, told, partOf, step, end}
+use Rattle.demands.specs.World.{World, bytes, Call, openRun, feed, finish, table, look, Reply, told, partOf, step, end}
 
 -- what is lent and fed is bytes
 abbrev pub Bytes : List ℕ → Type 0
@@ -37,8 +37,8 @@ NoEnd [] w = Unit {0}
 NoEnd (c ∷ cs) w = (told (step c w .answer) .end ≡ none) × NoEnd cs (step c w .world)
 
 -- the world in which a run stands that was opened after `before`
-abbrev pub opened : World → List Call → World
-opened w before = step openRun (end before w) .world
+abbrev pub atOpen : World → List Call → World
+atOpen w before = step openRun (end before w) .world
 
 -- a moment of a run: on a new reader, Open answered a version after `before`, and then no call of `mid` answered End
 pub record Within (w : World) (before mid : List Call) : Type 0 where
@@ -46,14 +46,14 @@ pub record Within (w : World) (before mid : List Call) : Type 0 where
   pub fedBefore : AllFed before
   pub fed : AllFed mid
   pub opens : IsSome (told (step openRun (end before w) .answer) .version)
-  pub noEnd : NoEnd mid (opened w before)
+  pub noEnd : NoEnd mid (atOpen w before)
 
 -- "closed by End": the Finish that follows `mid` answers End
 abbrev pub Closes : World → List Call → List Call → Type 0
-Closes w before mid = IsSome (told (step finish (end mid (opened w before)) .answer) .end)
+Closes w before mid = IsSome (told (step finish (end mid (atOpen w before)) .answer) .end)
 
 -- the bytes of its piece that a call took
-abbrev pub tookOf : Call → Answer → List ℕ
+abbrev pub tookOf : Call → Reply → List ℕ
 tookOf c a = take (Option·getD (told a .taken) 0) (pieceOf c)
 
 -- "its whole bytes": all that Feeds took, in their order
@@ -62,24 +62,24 @@ taken [] w = []
 taken (c ∷ cs) w = tookOf c (step c w .answer) ++ taken cs (step c w .world)
 
 -- a report with the bytes of its block
-abbrev pub blockOf : Report → List ℕ → Block
-blockOf r b = record { place = r .place; number = r .number; revision = r .revision; size = r .size; bytes = b }
+abbrev pub withBytes : Report → List ℕ → ReadBlock
+withBytes r b = record { place = r .place; number = r .number; revision = r .revision; size = r .size; bytes = b }
 
 -- the first L bytes of the hold after the call that reported it
-abbrev pub inHold : Option Report → World → List Block
+abbrev pub inHold : Option Report → World → List ReadBlock
 inHold none w = []
-inHold (some r) w = blockOf r (take (r .size) (w .hold)) ∷ []
+inHold (some r) w = withBytes r (take (r .size) (w .hold)) ∷ []
 
 -- what Bytes then shows
-abbrev pub shown : Option Report → World → List Block
+abbrev pub shown : Option Report → World → List ReadBlock
 shown none w = []
-shown (some r) w = blockOf r (partOf (step (look bytes) w .answer)) ∷ []
+shown (some r) w = withBytes r (partOf (step (look bytes) w .answer)) ∷ []
 
 -- all blocks that calls reported, in their order
-unfoldable pub blocks : List Call → World → List Block
+unfoldable pub blocks : List Call → World → List ReadBlock
 blocks [] w = []
 blocks (c ∷ cs) w = inHold (told (step c w .answer) .block) (step c w .world) ++ blocks cs (step c w .world)
 
-unfoldable pub shownBlocks : List Call → World → List Block
+unfoldable pub shownBlocks : List Call → World → List ReadBlock
 shownBlocks [] w = []
 shownBlocks (c ∷ cs) w = shown (told (step c w .answer) .block) (step c w .world) ++ shownBlocks cs (step c w .world)

@@ -4,7 +4,7 @@ use Prim.Native.Nat.{ℕ}
 use mathlib.Core.Bool.{Bool}
 use mathlib.Core.List.{List, [], _∷_}
 use mathlib.Core.Option.{Option, none, some, Option·getD}
-use Rattle.record.specs.Answer as fields
+use Rattle.record.specs.Answer.{FieldSaid, doNotUse, double, fieldRefused, notInRevision, signed, single, unsigned}
 use Rattle.reader.specs.Said.{Report, Said, refused, version, took, found, ended, waited}
 use Rattle.runs.specs.Refusals.{bytesRefusal}
 use Rattle.reader.specs.Outcome.{Outcome}
@@ -43,10 +43,10 @@ pub data Call : Type 0 where
   look : Look → Call
 
 -- what a call answers; a part comes with the number that its second call gives, or none
-pub data Answer : Type 0 where
-  said : Said → Answer
-  part : Option ℕ → List ℕ → Answer
-  value : fields.Said → Answer
+pub data Reply : Type 0 where
+  said : Said → Reply
+  part : Option ℕ → List ℕ → Reply
+  value : FieldSaid → Reply
 
 -- ---- what an answer tells
 
@@ -71,16 +71,16 @@ abbrev pub tells : Option ℕ → Option ℕ → Option ℕ → Option Report �
 tells n v t b e w p = record { refusal = n; version = v; taken = t; block = b; end = e; waited = w; part = p }
 
 -- "a refusal, with its number inside"
-abbrev pub fieldRefusal : fields.Said → Option ℕ
-fieldRefusal (fields.unsigned n) = none
-fieldRefusal (fields.signed z) = none
-fieldRefusal (fields.single b) = none
-fieldRefusal (fields.double b) = none
-fieldRefusal fields.doNotUse = none
-fieldRefusal fields.notInRevision = none
-fieldRefusal (fields.refused n) = some n
+abbrev pub fieldRefusal : FieldSaid → Option ℕ
+fieldRefusal (unsigned n) = none
+fieldRefusal (signed z) = none
+fieldRefusal (single b) = none
+fieldRefusal (double b) = none
+fieldRefusal doNotUse = none
+fieldRefusal notInRevision = none
+fieldRefusal (fieldRefused n) = some n
 
-abbrev pub told : Answer → Told
+abbrev pub told : Reply → Told
 told (said (refused n)) = tells (some n) none none none none none none
 told (said (version v)) = tells none (some v) none none none none none
 told (said (took n r)) = tells none none (some n) r none none none
@@ -91,14 +91,14 @@ told (part n p) = tells n none none none none none (some p)
 told (value v) = tells (fieldRefusal v) none none none none none none
 
 -- the part that is handed back, empty where the call hands back none
-abbrev pub partOf : Answer → List ℕ
+abbrev pub partOf : Reply → List ℕ
 partOf a = Option·getD (told a .part) []
 
 -- ---- what a call does
 
 -- one call: its answer, and the world that it leaves
 pub record Step : Type 0 where
-  pub answer : Answer
+  pub answer : Reply
   pub world : World
 
 -- an outcome, and the buffers after it
@@ -106,7 +106,7 @@ abbrev pub leaving : Outcome → List ℕ → List ℕ → List ℕ → Step
 leaving o hold force wait =
     record { answer = said (o .said); world = record { state = o .state; hold = hold; force = force; wait = wait } }
 
-abbrev pub looked : Look → World → Answer
+abbrev pub looked : Look → World → Reply
 looked bytes w = part (bytesRefusal (w .state) (w .hold)) (bytesOf (w .state) (w .hold))
 looked (body b i) w = value (bodyOf (w .state) (w .force) b i)
 looked (sub b k j) w = value (subOf (w .state) (w .force) b k j)
@@ -131,10 +131,10 @@ end (c ∷ cs) w = end cs (step c w .world)
 -- a call with its answer, and calls one after the other, each with its answer
 pub record Line : Type 0 where
   pub call : Call
-  pub answer : Answer
+  pub answer : Reply
 
 infix 80 _⇒_
-abbrev pub _⇒_ : Call → Answer → Line
+abbrev pub _⇒_ : Call → Reply → Line
 c ⇒ a = record { call = c; answer = a }
 
 unfoldable pub trace : List Call → World → List Line

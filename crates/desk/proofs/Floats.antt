@@ -6,7 +6,7 @@ use Prim.Native.Nat.{ℕ}
 use lib.Dec.{T}
 use lib.Ieee.{Format, binary32, binary64, nanBits, isNan, ofBits}
 use lib.Ieee.Bits.{nanBits-is}
-use Rattle.record.specs.Answer.{Said, unsigned, signed, single, double, doNotUse, notInRevision, refused, Answers, caseFor}
+use Rattle.record.specs.Answer.{FieldSaid, unsigned, signed, single, double, doNotUse, notInRevision, fieldRefused, Answers, caseFor}
 use Rattle.value.specs.declared.Value.the-variants as value
 use Rattle.record.specs.declared.Answer.{Answer}
 use Rattle.desk.specs.Plain.{noNan, noNanIn}
@@ -22,14 +22,14 @@ double-by : (x : Bool) (b : ℕ) → nanBits binary64 b ≡ x → T (noNan (cond
 double-by true b e = tt
 double-by false b e = plain binary64 b e
 
-case-plain : (s : Said) → T (noNanIn (caseFor s))
+case-plain : (s : FieldSaid) → T (noNanIn (caseFor s))
 case-plain (unsigned n) = tt
 case-plain (signed z) = tt
 case-plain (single b) = single-by (nanBits binary32 b) b refl
 case-plain (double b) = double-by (nanBits binary64 b) b refl
 case-plain doNotUse = tt
 case-plain notInRevision = tt
-case-plain (refused n) = tt
+case-plain (fieldRefused n) = tt
 
-pub answers-plain : (r : Answer) (s : Said) → Answers r s → T (noNanIn r)
+pub answers-plain : (r : Answer) (s : FieldSaid) → Answers r s → T (noNanIn r)
 answers-plain r s a = subst (λ (x : Answer). T (noNanIn x)) (sym (a .case)) (case-plain s)

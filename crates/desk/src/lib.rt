@@ -11,7 +11,7 @@ use reader::State;
 use record::Answer;
 use refusal::Refusal;
 use script::Buffer;
-use script::Part;
+use script::StateNumber;
 
 // More than any buffer has: all of it is lent.
 const WHOLE: usize = 0xffff_ffff_ffff_ffff;
@@ -30,14 +30,14 @@ pub enum RunReply {
     Staged(u16),
     Withdrawn(bool),
     More(usize),
-    Fed(usize, Block),
+    FedBlock(usize, Block),
     Found(Block),
     End(reader::Counts),
     Refused(Refusal),
 }
 
 // Bytes that were handed back: how many, and their CRC.
-pub struct Bytes {
+pub struct PartCrc {
     pub count: usize,
     pub crc: u16,
 }
@@ -45,7 +45,7 @@ pub struct Bytes {
 // What a call replies that is lent nothing to write.
 pub enum AskReply {
     Field(Answer),
-    Bytes(Bytes),
+    Bytes(PartCrc),
     Refused(Refusal),
 }
 
@@ -117,18 +117,18 @@ fn with_phase(b: Desk, phase: Phase) -> Desk {
 }
 
 // `poke`: a number of the state is set, whether the reader would or not.
-pub fn poked(b: Desk, part: Part, v: usize) -> Desk {
+pub fn poked(b: Desk, part: StateNumber, v: usize) -> Desk {
     let mut next = b;
     match part {
-        Part::Phase => return with_phase(b, phase_of(v)),
-        Part::InForce => next.state.in_force = v,
-        Part::Waiting => next.state.waiting = v,
-        Part::Held => next.state.run.held = v,
-        Part::Standing => next.state.run.standing = v,
-        Part::Taken => next.state.run.counts.taken = v,
-        Part::Blocks => next.state.run.counts.blocks = v,
-        Part::Skipped => next.state.run.counts.skipped = v,
-        Part::Unknown => {}
+        StateNumber::Phase => return with_phase(b, phase_of(v)),
+        StateNumber::InForce => next.state.in_force = v,
+        StateNumber::Waiting => next.state.waiting = v,
+        StateNumber::Held => next.state.run.held = v,
+        StateNumber::Standing => next.state.run.standing = v,
+        StateNumber::Taken => next.state.run.counts.taken = v,
+        StateNumber::Blocks => next.state.run.counts.blocks = v,
+        StateNumber::Skipped => next.state.run.counts.skipped = v,
+        StateNumber::Unknown => {}
     }
     next
 }

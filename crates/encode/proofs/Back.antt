@@ -10,7 +10,7 @@ use Rattle.rows.specs.Places.{blocksAt, fieldAt, rowFrom, rowAt}
 use Rattle.table.specs.Lists.{tabulate}
 use Rattle.table.specs.Rows.{BlockRow}
 use Rattle.table.specs.Decode.{blockOf}
-use Rattle.encode.specs.Encode.{two, fieldBytes, fieldsPart, rowsPart}
+use Rattle.encode.specs.Encode.{u2Bytes, fieldBytes, fieldsPart, rowsPart}
 use Rattle.encode.proofs.Reading.{next, here, onward, beyond, two-at}
 use Rattle.encode.proofs.Lengths.{length-fields}
 use Rattle.encode.proofs.Laid.{rowFor, rowsFor}
@@ -28,14 +28,14 @@ fields-back t i (f ∷ fs) rest e =
     rw (a, b, c, d, fields-back t (i + 1) fs rest g)
 
 row-back : (t : List ℕ) (p before : ℕ) (b : BlockRow) (rest : List ℕ)
-    → drop p t ≡ two (b .number) ++ (b .highest ∷ length (b .body) ∷ (two before ++ (length (b .subs) ∷ 0 ∷ rest))) → rowFrom t p ≡ rowFor before b
-unfolding rowFrom rowFor two
+    → drop p t ≡ u2Bytes (b .number) ++ (b .highest ∷ length (b .body) ∷ (u2Bytes before ++ (length (b .subs) ∷ 0 ∷ rest))) → rowFrom t p ≡ rowFor before b
+unfolding rowFrom rowFor u2Bytes
 row-back t p before b rest e =
     rw (two-at t p (b .number) e, next t p e 2, next t p e 3, two-at t (p + 4) before (onward t p e 4), next t p e 6, next t p e 7)
 
 pub rows-back : (t : List ℕ) (before i : ℕ) (bs : List BlockRow) (rest : List ℕ) → drop (blocksAt t + 8 * i) t ≡ rowsPart before bs ++ rest
     → tabulate (rowAt t) i (length bs) ≡ rowsFor before bs
-unfolding tabulate rowAt rowsPart rowsFor two
+unfolding tabulate rowAt rowsPart rowsFor u2Bytes
 rows-back t before i [] rest e = refl
 rows-back t before i (b ∷ bs) rest e =
     let more = before + (length (b .body) + length (b .subs)) in

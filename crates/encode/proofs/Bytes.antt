@@ -14,8 +14,8 @@ use Rattle.rows.specs.declared.Row.{Row}
 use Rattle.table.specs.Lists.{tabulate, every}
 use Rattle.rows.specs.Places.{blockCount, blocksAt, fieldCount, fieldAt, rowFrom, rowAt}
 use Rattle.table.specs.Decode.{toFields, covered, rowsOf, blockOf, decode}
-use Rattle.encode.specs.Encode.{two, fieldBytes, fieldsPart, rowsPart, unsealed, encode}
-use Rattle.table.specs.Rules.{zeroOk, indexOk, counts, tableOk}
+use Rattle.encode.specs.Encode.{u2Bytes, fieldBytes, fieldsPart, rowsPart, unsealed, encode}
+use Rattle.table.specs.Rules.{zeroOk, indexOk, usedFields, tableOk}
 use Rattle.encode.specs.Theorems.{Decodes}
 use Rattle.table.proofs.Bools.{both}
 use Rattle.table.proofs.Lists.{length-tab}
@@ -25,8 +25,8 @@ use Rattle.table.proofs.Passed.{Passed, passed}
 
 module _ (t : List ℕ) (bytes : (j : ℕ) → getD t j 0 < 256) where
   -- a number's two bytes are the two bytes that it was read from
-  two-part : (p : ℕ) → p + 2 ≤ length t → two (littleAt 2 t p) ≡ part t p 2
-  unfolding two littleAt
+  two-part : (p : ℕ) → p + 2 ≤ length t → u2Bytes (littleAt 2 t p) ≡ part t p 2
+  unfolding u2Bytes littleAt
   two-part p h =
       let a = bytes p in
       let b = bytes (p + 1) in
@@ -44,27 +44,27 @@ module _ (t : List ℕ) (bytes : (j : ℕ) → getD t j 0 < 256) where
       let f = field-part (i + 1) k (omega arith) in
       sym (ap (part t (4 * i)) n ∙ parts.part-add t (4 * i) 4 (4 * k) ∙ rw (parts.four t (4 * i) (omega arith), f, m))
 
-  fields-part : (before : ℕ) (rs : List Row) → indexOk before rs ≡ true → 4 * (before + counts rs) ≤ length t
-      → fieldsPart (map (blockOf t) rs) ≡ part t (4 * before) (4 * counts rs)
-  unfolding fieldsPart indexOk counts blockOf
+  fields-part : (before : ℕ) (rs : List Row) → indexOk before rs ≡ true → 4 * (before + usedFields rs) ≤ length t
+      → fieldsPart (map (blockOf t) rs) ≡ part t (4 * before) (4 * usedFields rs)
+  unfolding fieldsPart indexOk usedFields blockOf
   fields-part before [] e h = sym (parts.part-none t (4 * before))
   fields-part before (r ∷ rs) e h =
       let a = both (eqb (r .start) before) _ e in
       let s : r .start ≡ before = eqb-true _ _ (a .0) in
-      let n : 4 * (r .bodies + r .subs + counts rs) ≡ 4 * r .bodies + (4 * r .subs + 4 * counts rs) = omega arith in
+      let n : 4 * (r .bodies + r .subs + usedFields rs) ≡ 4 * r .bodies + (4 * r .subs + 4 * usedFields rs) = omega arith in
       let p : 4 * before + 4 * r .bodies ≡ 4 * (r .start + r .bodies) = omega arith in
       let q : 4 * (r .start + r .bodies) + 4 * r .subs ≡ 4 * (before + (r .bodies + r .subs)) = omega arith in
       let o : 4 * before ≡ 4 * r .start = omega arith in
       let f = field-part (r .start) (r .bodies) (omega arith) in
       let g = field-part (r .start + r .bodies) (r .subs) (omega arith) in
       let k = fields-part (before + (r .bodies + r .subs)) rs (a .1) (omega arith) in
-      sym (ap (part t (4 * before)) n ∙ parts.part-add t (4 * before) (4 * r .bodies) (4 * r .subs + 4 * counts rs)
-      ∙ rw (p, parts.part-add t (4 * (r .start + r .bodies)) (4 * r .subs) (4 * counts rs), q, ← k, ← g, o, ← f))
+      sym (ap (part t (4 * before)) n ∙ parts.part-add t (4 * before) (4 * r .bodies) (4 * r .subs + 4 * usedFields rs)
+      ∙ rw (p, parts.part-add t (4 * (r .start + r .bodies)) (4 * r .subs) (4 * usedFields rs), q, ← k, ← g, o, ← f))
 
   -- Block rows.
   row-part : (p : ℕ) (rest : List ℕ) → p + 8 ≤ length t → rowFrom t p .zero ≡ 0
-      → (two (rowFrom t p .number)
-      ++ (rowFrom t p .highest ∷ rowFrom t p .bodies ∷ (two (rowFrom t p .start) ++ (rowFrom t p .subs ∷ 0 ∷ rest)))) ≡ part t p 8 ++ rest
+      → (u2Bytes (rowFrom t p .number)
+      ++ (rowFrom t p .highest ∷ rowFrom t p .bodies ∷ (u2Bytes (rowFrom t p .start) ++ (rowFrom t p .subs ∷ 0 ∷ rest)))) ≡ part t p 8 ++ rest
   unfolding rowFrom
   row-part p rest h z =
       let a : p + 2 + 1 ≡ p + 3 = omega arith in
@@ -74,9 +74,9 @@ module _ (t : List ℕ) (bytes : (j : ℕ) → getD t j 0 < 256) where
       let split = parts.part-add t p 2 6 in
       let split₂ = parts.part-add t (p + 2) 2 4 in
       let split₄ = parts.part-add t (p + 4) 2 2 in
-      let two₂ = parts.part-two t (p + 2) (omega arith) in
-      let two₆ = parts.part-two t (p + 6) (omega arith) in
-      sym (rw (split, split₂, b, split₄, c, ← two-part p (omega arith), ← two-part (p + 4) (omega arith), two₂, two₆, a, d, z) (simp append-assoc))
+      let u2Bytes₂ = parts.part-two t (p + 2) (omega arith) in
+      let u2Bytes₆ = parts.part-two t (p + 6) (omega arith) in
+      sym (rw (split, split₂, b, split₄, c, ← two-part p (omega arith), ← two-part (p + 4) (omega arith), u2Bytes₂, u2Bytes₆, a, d, z) (simp append-assoc))
 
   rows-part : (before i k : ℕ) → indexOk before (tabulate (rowAt t) i k) ≡ true → every zeroOk (tabulate (rowAt t) i k) ≡ true
       → blocksAt t + 8 * (i + k) ≤ length t
@@ -110,7 +110,7 @@ module _ (t : List ℕ) (bytes : (j : ℕ) → getD t j 0 < 256) where
         let f = all .file in
         let e : blocksAt t ≡ 4 * fieldCount t = omega arith in
         let n : length t - 12 ≡ 4 * fieldCount t + 8 * blockCount t = omega arith in
-        let u : counts (tabulate (rowAt t) 0 (blockCount t)) ≡ fieldCount t = all .used in
+        let u : usedFields (tabulate (rowAt t) 0 (blockCount t)) ≡ fieldCount t = all .used in
         let a = fields-part 0 (tabulate (rowAt t) 0 (blockCount t)) (all .index) (rw u (omega arith)) in
         let b = rows-part 0 0 (blockCount t) (all .index) (all .zeros) (omega arith) in
         let z : blocksAt t + 8 * 0 ≡ 0 + 4 * fieldCount t = omega arith in

@@ -6,7 +6,7 @@ use native.Mathlib.Omega.{arith}
 use borrow.Author.Tests.{eq-eqb}
 use Rattle.table.specs.Lists.{every}
 use Rattle.table.specs.Rows.{Table}
-use Rattle.table.specs.Rules.{zeroOk, indexOk, counts, formOk, meaningOk, tableOk}
+use Rattle.table.specs.Rules.{zeroOk, indexOk, usedFields, formOk, meaningOk, tableOk}
 use Rattle.encode.specs.Encode.{encode}
 use Rattle.encode.specs.Theorems.{Encodes}
 use Rattle.table.proofs.Bools.{join}
@@ -39,7 +39,7 @@ module _ (tab : Table) (r : Room tab) where
       let rows = file.rows-are tab in
       let zeros = ap (every zeroOk) rows ∙ zeros-for 0 (tab .rows) in
       let index = ap (indexOk 0) rows ∙ index-for 0 (tab .rows) in
-      let used = ap counts rows ∙ counts-for 0 (tab .rows) ∙ sym (file.fields-are tab) in
+      let used = ap usedFields rows ∙ counts-for 0 (tab .rows) ∙ sym (file.fields-are tab) in
       join (join (join (file-ok (encode tab) file-is) zeros) index) (eq-eqb _ _ used)
 
   table-passes : meaningOk tab ≡ true → tableOk (encode tab) ≡ true

@@ -10,7 +10,7 @@ use Rattle.crc.specs.Crc.{crcOf}
 use Rattle.rows.specs.Places.{versionOf, blockCount, blocksAt, fieldCount}
 use Rattle.table.specs.Rows.{Table}
 use Rattle.table.specs.Decode.{toBlocks, toFields, crcField, covered, rowsOf, decode}
-use Rattle.encode.specs.Encode.{two, fieldsPart, rowsPart, unsealed, encode}
+use Rattle.encode.specs.Encode.{u2Bytes, fieldsPart, rowsPart, unsealed, encode}
 use Rattle.encode.specs.Fits.{fieldRows}
 use Rattle.encode.proofs.Reading.{here, two-at}
 use Rattle.encode.proofs.Lengths.{length-fields-part, length-rows-part}
@@ -31,10 +31,10 @@ module _ (tab : Table) where
   count = length (tab .rows)
 
   abbrev numbers : List ℕ
-  numbers = two (tab .version) ++ (two count ++ (two (12 + 8 * count) ++ two (length (allFields ++ allRows) + 12)))
+  numbers = u2Bytes (tab .version) ++ (u2Bytes count ++ (u2Bytes (12 + 8 * count) ++ u2Bytes (length (allFields ++ allRows) + 12)))
 
   abbrev seal : List ℕ
-  seal = two (crcOf (unsealed tab)) ++ (0x42 ∷ 0x54 ∷ [])
+  seal = u2Bytes (crcOf (unsealed tab)) ++ (0x42 ∷ 0x54 ∷ [])
 
   whole : t ≡ allFields ++ allRows ++ (numbers ++ seal)
   unfolding encode unsealed
@@ -47,7 +47,7 @@ module _ (tab : Table) where
   length-rows = length-append allFields allRows ∙ rw (length-fields-part (tab .rows), length-rows-part 0 (tab .rows))
 
   pub length-file : length t ≡ 4 * fieldRows (tab .rows) + 8 * count + 12
-  unfolding two
+  unfolding u2Bytes
   length-file = ap length whole ∙ length-append (allFields ++ allRows) (numbers ++ seal) ∙ ap (λ (n : ℕ). n + 12) length-rows
 
   -- the rest from a place of the trailer
@@ -55,30 +55,30 @@ module _ (tab : Table) where
   from p k e = rw (e, whole) (drop-append-add (allFields ++ allRows) (numbers ++ seal) k)
 
   version-is : versionOf t ≡ tab .version
-  unfolding two
+  unfolding u2Bytes
   version-is = two-at t (length t - 12) (tab .version) (from (length t - 12) 0 (omega (arith, length-file, length-rows)))
 
   pub count-is : blockCount t ≡ count
-  unfolding two
+  unfolding u2Bytes
   count-is = two-at t (length t - 10) count (from (length t - 10) 2 (omega (arith, length-file, length-rows)))
 
   pub to-blocks : toBlocks t ≡ 12 + 8 * count
-  unfolding two
+  unfolding u2Bytes
   to-blocks = two-at t (length t - 8) (12 + 8 * count) (from (length t - 8) 4 (omega (arith, length-file, length-rows)))
 
   to-start : toFields t ≡ length (allFields ++ allRows) + 12
-  unfolding two
+  unfolding u2Bytes
   to-start = two-at t (length t - 6) (length (allFields ++ allRows) + 12) (from (length t - 6) 6 (omega (arith, length-file, length-rows)))
 
   pub to-fields : toFields t ≡ length t
   to-fields = omega (arith, to-start, length-file, length-rows)
 
   crc-stands : crcField t ≡ crcOf (unsealed tab)
-  unfolding two
+  unfolding u2Bytes
   crc-stands = two-at t (length t - 4) (crcOf (unsealed tab)) (from (length t - 4) 8 (omega (arith, length-file, length-rows)))
 
   covered-is : covered t ≡ unsealed tab
-  unfolding encode two
+  unfolding encode u2Bytes
   covered-is =
       let l = length-append (unsealed tab) seal in
       take-at (unsealed tab) seal (length t - 4) (omega (arith, l))
@@ -87,11 +87,11 @@ module _ (tab : Table) where
   crc-is = rw covered-is crc-stands
 
   pub low : getD t (length t - 2) 0 ≡ 0x42
-  unfolding two
+  unfolding u2Bytes
   low = here t (length t - 2) (from (length t - 2) 10 (omega (arith, length-file, length-rows)))
 
   pub high : getD t (length t - 1) 0 ≡ 0x54
-  unfolding two
+  unfolding u2Bytes
   high = here t (length t - 1) (from (length t - 1) 11 (omega (arith, length-file, length-rows)))
 
   rows-at : blocksAt t ≡ 4 * fieldRows (tab .rows)

@@ -9,7 +9,7 @@ use borrow.Author.Tests.{eq-eqb}
 use Rattle.rows.specs.declared.Row.{Row}
 use Rattle.table.specs.Lists.{every}
 use Rattle.table.specs.Rows.{BlockRow}
-use Rattle.table.specs.Rules.{zeroOk, indexOk, counts}
+use Rattle.table.specs.Rules.{zeroOk, indexOk, usedFields}
 use Rattle.encode.specs.Fits.{fieldRows}
 use Rattle.table.proofs.Bools.{join}
 
@@ -31,8 +31,8 @@ unfolding indexOk rowsFor rowFor
 index-for before [] = refl
 index-for before (b ∷ bs) = join (eq-eqb before before refl) (index-for (before + (length (b .body) + length (b .subs))) bs)
 
-pub counts-for : (before : ℕ) (bs : List BlockRow) → counts (rowsFor before bs) ≡ fieldRows bs
-unfolding counts rowsFor rowFor fieldRows
+pub counts-for : (before : ℕ) (bs : List BlockRow) → usedFields (rowsFor before bs) ≡ fieldRows bs
+unfolding usedFields rowsFor rowFor fieldRows
 counts-for before [] = refl
 counts-for before (b ∷ bs) =
     ap (λ (n : ℕ). length (b .body) + length (b .subs) + n) (counts-for (before + (length (b .body) + length (b .subs))) bs)

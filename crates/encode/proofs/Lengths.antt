@@ -7,7 +7,7 @@ use native.Mathlib.Omega.{arith}
 use lib.ListN.{length, length-append}
 use Rattle.rows.specs.declared.FieldRow.{FieldRow}
 use Rattle.table.specs.Rows.{BlockRow}
-use Rattle.encode.specs.Encode.{two, fieldBytes, fieldsPart, rowsPart}
+use Rattle.encode.specs.Encode.{u2Bytes, fieldBytes, fieldsPart, rowsPart}
 use Rattle.encode.specs.Fits.{fieldRows}
 
 pub length-fields : (fs : List FieldRow) → length (fieldBytes fs) ≡ 4 * length fs
@@ -24,6 +24,6 @@ length-fields-part (b ∷ bs) =
     omega (arith, a, c, length-fields (b .body), length-fields (b .subs), length-fields-part bs)
 
 pub length-rows-part : (before : ℕ) (bs : List BlockRow) → length (rowsPart before bs) ≡ 8 * length bs
-unfolding rowsPart two
+unfolding rowsPart u2Bytes
 length-rows-part before [] = refl
 length-rows-part before (b ∷ bs) = omega (arith, length-rows-part (before + (length (b .body) + length (b .subs))) bs)

@@ -16,7 +16,7 @@ use Rattle.table.specs.Lists.{every, neighbours}
 use Rattle.kinds.specs.Marks.{markFits}
 use Rattle.table.specs.Rows.{BlockRow, Table}
 use Rattle.table.specs.Rules.{numberOk, highestOk, offsetOk, apart, steady, firstOk, typeOk, markOk, fieldsOk, blockOk}
-use Rattle.encode.specs.Encode.{two, fieldBytes, fieldsPart, rowsPart, unsealed, encode}
+use Rattle.encode.specs.Encode.{u2Bytes, fieldBytes, fieldsPart, rowsPart, unsealed, encode}
 use Rattle.encode.specs.Fits.{fieldRows, countFits, offsetFits, blockFits}
 use Rattle.table.proofs.Bools.{both, join}
 use Rattle.kinds.proofs.Marks.{fits-none}
@@ -38,8 +38,8 @@ unfolding every
 append [] ys e f = f
 append (x ∷ xs) ys e f = let a = both (isByte x) _ e in join (a .0) (append xs ys (a .1) f)
 
-two-small : (n : ℕ) → n < 65536 → every isByte (two n) ≡ true
-unfolding every two
+two-small : (n : ℕ) → n < 65536 → every isByte (u2Bytes n) ≡ true
+unfolding every u2Bytes
 two-small n h = join (lt-ltb (n % 256) 256 (omega arith)) (join (lt-ltb (n / 256) 256 (omega arith)) refl)
 
 -- Field rows.
@@ -112,8 +112,8 @@ rows-part-small before (b ∷ bs) l n h f =
     let j = both bodies _ (i .0) in
     let next = before + (length (b .body) + length (b .subs)) in
     let rest = rows-part-small next bs (omega arith) (a .1) (c .1) (d .1) in
-    append (two (b .number)) _ (two-small (b .number) (omega arith)) (join (lt-ltb (b .highest) 256 (omega arith)) (join (j .0)
-    (append (two before) _ (two-small before (omega arith)) (join (j .1) rest))))
+    append (u2Bytes (b .number)) _ (two-small (b .number) (omega arith)) (join (lt-ltb (b .highest) 256 (omega arith)) (join (j .0)
+    (append (u2Bytes before) _ (two-small before (omega arith)) (join (j .1) rest))))
 
 -- The CRC.
 
@@ -137,14 +137,14 @@ module _ (tab : Table) (m : Meaning tab) (r : Room tab) where
       let fields = fields-part-small bs (m .highest) (m .blocks) (r .blocks) in
       let blocks = rows-part-small 0 bs (omega (arith, r .size)) (m .numbers) (m .highest) (r .blocks) in
       append rows _ (append (fieldsPart bs) (rowsPart 0 bs) fields blocks)
-      (append (two (tab .version)) _ (two-small (tab .version) (r .version)) (append (two count) _ (two-small count (omega (arith, r .size)))
-      (append (two (12 + 8 * count)) _ (two-small (12 + 8 * count) (omega (arith, r .size))) (two-small (length rows + 12) (omega (arith, r .size, length-rows tab))))))
+      (append (u2Bytes (tab .version)) _ (two-small (tab .version) (r .version)) (append (u2Bytes count) _ (two-small count (omega (arith, r .size)))
+      (append (u2Bytes (12 + 8 * count)) _ (two-small (12 + 8 * count) (omega (arith, r .size))) (two-small (length rows + 12) (omega (arith, r .size, length-rows tab))))))
 
   file-small : every isByte (encode tab) ≡ true
   unfolding encode crcOf every
   file-small =
       let u = unsealed-small in
-      append (unsealed tab) _ u (append (two (crcOf (unsealed tab))) (0x42 ∷ 0x54 ∷ []) (two-small (crcOf (unsealed tab)) (crc-small 0 (unsealed tab) (omega arith) u)) refl)
+      append (unsealed tab) _ u (append (u2Bytes (crcOf (unsealed tab))) (0x42 ∷ 0x54 ∷ []) (two-small (crcOf (unsealed tab)) (crc-small 0 (unsealed tab) (omega arith) u)) refl)
 
   pub bytes : (j : ℕ) → getD (encode tab) j 0 < 256
   bytes = bytes-at (encode tab) file-small

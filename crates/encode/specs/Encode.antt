@@ -8,8 +8,8 @@ use Rattle.rows.specs.declared.FieldRow.{FieldRow}
 use Rattle.table.specs.Rows.{BlockRow, Table}
 
 -- a u2, the low byte first
-unfoldable pub two : ℕ → List ℕ
-two n = n % 256 ∷ n / 256 ∷ []
+unfoldable pub u2Bytes : ℕ → List ℕ
+u2Bytes n = n % 256 ∷ n / 256 ∷ []
 
 -- "Field row: offset u1, type u1, first revision u1, mark u1"
 unfoldable pub fieldBytes : List FieldRow → List ℕ
@@ -27,15 +27,15 @@ unfoldable pub rowsPart : ℕ → List BlockRow → List ℕ
 rowsPart before [] = []
 rowsPart before (b ∷ bs) =
     let next = before + (length (b .body) + length (b .subs)) in
-    two (b .number) ++ (b .highest ∷ length (b .body) ∷ (two before ++ (length (b .subs) ∷ 0 ∷ rowsPart next bs)))
+    u2Bytes (b .number) ++ (b .highest ∷ length (b .body) ∷ (u2Bytes before ++ (length (b .subs) ∷ 0 ∷ rowsPart next bs)))
 
 -- all before the CRC
 unfoldable pub unsealed : Table → List ℕ
 unsealed tab =
     let rows = fieldsPart (tab .rows) ++ rowsPart 0 (tab .rows) in
     let count = length (tab .rows) in
-    rows ++ (two (tab .version) ++ (two count ++ (two (12 + 8 * count) ++ two (length rows + 12))))
+    rows ++ (u2Bytes (tab .version) ++ (u2Bytes count ++ (u2Bytes (12 + 8 * count) ++ u2Bytes (length rows + 12))))
 
 -- "CRC u2, as above, of the T-4 bytes before it; the bytes 0x42 0x54"
 unfoldable pub encode : Table → List ℕ
-encode tab = unsealed tab ++ (two (crcOf (unsealed tab)) ++ (0x42 ∷ 0x54 ∷ []))
+encode tab = unsealed tab ++ (u2Bytes (crcOf (unsealed tab)) ++ (0x42 ∷ 0x54 ∷ []))

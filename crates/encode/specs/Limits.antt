@@ -12,10 +12,10 @@ use Rattle.kinds.specs.Types.{u1, u2, u4, u8, i1, i8, f4, f8}
 use Rattle.kinds.specs.Marks.{unmarked, ones, zeroes, minus2e10, least}
 use Rattle.rows.specs.declared.FieldRow.{FieldRow}
 use Rattle.table.specs.Rows.{BlockRow, Table}
-use Rattle.encode.specs.Encode.{two, unsealed, encode}
+use Rattle.encode.specs.Encode.{u2Bytes, unsealed, encode}
 use Rattle.table.specs.Rules.{tableOk}
 
-pub record Case : Type 0 where
+pub record LimitCase : Type 0 where
   pub name : String
   pub bytes : List ℕ
   pub passes : Bool
@@ -25,67 +25,67 @@ abbrev field : ℕ → ℕ → ℕ → ℕ → FieldRow
 field offset kind first mark = record { offset = offset; kind = kind; first = first; mark = mark }
 
 -- number, highest revision, body, sub-fields
-abbrev block : ℕ → ℕ → List FieldRow → List FieldRow → BlockRow
-block number highest body subs = record { number = number; highest = highest; body = body; subs = subs }
+abbrev blockRow : ℕ → ℕ → List FieldRow → List FieldRow → BlockRow
+blockRow number highest withBody withSubs = record { number = number; highest = highest; body = withBody; subs = withSubs }
 
-abbrev table : List BlockRow → Table
-table rows = record { version = 7; rows = rows }
+abbrev tableWith : List BlockRow → Table
+tableWith rows = record { version = 7; rows = rows }
 
-abbrev ok : String → List BlockRow → Case
-ok name rows = record { name = name; bytes = encode (table rows); passes = true }
+abbrev ok : String → List BlockRow → LimitCase
+ok name rows = record { name = name; bytes = encode (tableWith rows); passes = true }
 
-abbrev bad : String → List BlockRow → Case
-bad name rows = record { name = name; bytes = encode (table rows); passes = false }
+abbrev bad : String → List BlockRow → LimitCase
+bad name rows = record { name = name; bytes = encode (tableWith rows); passes = false }
 
 -- one block with this body, and one with these sub-fields
-abbrev body : List FieldRow → List BlockRow
-body fs = block 1 3 fs [] ∷ []
+abbrev withBody : List FieldRow → List BlockRow
+withBody fs = blockRow 1 3 fs [] ∷ []
 
-abbrev subs : List FieldRow → List BlockRow
-subs fs = block 1 3 (field 14 u1 0 unmarked ∷ field 15 u1 0 unmarked ∷ []) fs ∷ []
+abbrev withSubs : List FieldRow → List BlockRow
+withSubs fs = blockRow 1 3 (field 14 u1 0 unmarked ∷ field 15 u1 0 unmarked ∷ []) fs ∷ []
 
 -- a type and a mark
 abbrev bears : ℕ → ℕ → List BlockRow
-bears kind mark = body (field 14 kind 0 mark ∷ [])
+bears kind mark = withBody (field 14 kind 0 mark ∷ [])
 
-abbrev rows : List Case
+abbrev rows : List LimitCase
 rows =
-    ok "one block without fields, 20 bytes" (body [])
+    ok "one block without fields, 20 bytes" (withBody [])
     ∷ bad "no block" []
-    ∷ ok "number 8191" (block 8191 0 [] [] ∷ [])
-    ∷ bad "number 8192" (block 8192 0 [] [] ∷ [])
-    ∷ ok "numbers 0 and 1" (block 0 0 [] [] ∷ block 1 0 [] [] ∷ [])
-    ∷ bad "a number twice" (block 1 0 [] [] ∷ block 1 0 [] [] ∷ [])
-    ∷ bad "numbers falling" (block 2 0 [] [] ∷ block 1 0 [] [] ∷ [])
-    ∷ ok "highest 7" (block 1 7 [] [] ∷ [])
-    ∷ bad "highest 8" (block 1 8 [] [] ∷ [])
-    ∷ ok "two blocks with fields" (block 1 0 (field 14 u4 0 unmarked ∷ []) [] ∷ block 2 0 (field 14 u4 0 unmarked ∷ []) [] ∷ [])
+    ∷ ok "number 8191" (blockRow 8191 0 [] [] ∷ [])
+    ∷ bad "number 8192" (blockRow 8192 0 [] [] ∷ [])
+    ∷ ok "numbers 0 and 1" (blockRow 0 0 [] [] ∷ blockRow 1 0 [] [] ∷ [])
+    ∷ bad "a number twice" (blockRow 1 0 [] [] ∷ blockRow 1 0 [] [] ∷ [])
+    ∷ bad "numbers falling" (blockRow 2 0 [] [] ∷ blockRow 1 0 [] [] ∷ [])
+    ∷ ok "highest 7" (blockRow 1 7 [] [] ∷ [])
+    ∷ bad "highest 8" (blockRow 1 8 [] [] ∷ [])
+    ∷ ok "two blocks with fields" (blockRow 1 0 (field 14 u4 0 unmarked ∷ []) [] ∷ blockRow 2 0 (field 14 u4 0 unmarked ∷ []) [] ∷ [])
     ∷ []
 
-abbrev fields : List Case
+abbrev fields : List LimitCase
 fields =
-    bad "a body offset of 13" (body (field 13 u1 0 unmarked ∷ []))
-    ∷ ok "a body offset of 255" (body (field 255 f8 0 unmarked ∷ []))
-    ∷ ok "a field where the previous one ends" (body (field 14 u2 0 unmarked ∷ field 16 u1 0 unmarked ∷ []))
-    ∷ bad "a field before the previous one ends" (body (field 14 u2 0 unmarked ∷ field 15 u1 0 unmarked ∷ []))
-    ∷ ok "a gap" (body (field 20 u2 0 unmarked ∷ field 30 u1 0 unmarked ∷ []))
-    ∷ ok "first revisions rising to the highest" (body (field 14 u1 0 unmarked ∷ field 15 u1 3 unmarked ∷ field 16 u1 3 unmarked ∷ []))
-    ∷ bad "a first revision above the highest" (body (field 14 u1 4 unmarked ∷ []))
-    ∷ bad "first revisions falling" (body (field 14 u1 1 unmarked ∷ field 15 u1 0 unmarked ∷ []))
-    ∷ ok "sub-fields from 0" (subs (field 0 f8 0 unmarked ∷ field 8 u1 1 unmarked ∷ []))
-    ∷ bad "sub-fields that overlap" (subs (field 0 f8 0 unmarked ∷ field 7 u1 0 unmarked ∷ []))
-    ∷ bad "first revisions of sub-fields falling" (subs (field 0 u1 1 unmarked ∷ field 1 u1 0 unmarked ∷ []))
-    ∷ bad "sub-fields without N and SBLength" (block 1 0 [] (field 0 u1 0 unmarked ∷ []) ∷ [])
-    ∷ bad "N alone" (block 1 0 (field 14 u1 0 unmarked ∷ []) (field 0 u1 0 unmarked ∷ []) ∷ [])
-    ∷ bad "N, SBLength and one more" (block 1 0 (field 14 u1 0 unmarked ∷ field 15 u1 0 unmarked ∷ field 16 u1 0 unmarked ∷ []) (field 0 u1 0 unmarked ∷ []) ∷ [])
-    ∷ bad "N with a mark" (block 1 0 (field 14 u1 0 ones ∷ field 15 u1 0 unmarked ∷ []) (field 0 u1 0 unmarked ∷ []) ∷ [])
-    ∷ bad "SBLength of type i1" (block 1 0 (field 14 u1 0 unmarked ∷ field 15 i1 0 unmarked ∷ []) (field 0 u1 0 unmarked ∷ []) ∷ [])
-    ∷ bad "SBLength at 16" (block 1 0 (field 14 u1 0 unmarked ∷ field 16 u1 0 unmarked ∷ []) (field 0 u1 0 unmarked ∷ []) ∷ [])
-    ∷ bad "SBLength from revision 1" (block 1 1 (field 14 u1 0 unmarked ∷ field 15 u1 1 unmarked ∷ []) (field 0 u1 0 unmarked ∷ []) ∷ [])
+    bad "a body offset of 13" (withBody (field 13 u1 0 unmarked ∷ []))
+    ∷ ok "a body offset of 255" (withBody (field 255 f8 0 unmarked ∷ []))
+    ∷ ok "a field where the previous one ends" (withBody (field 14 u2 0 unmarked ∷ field 16 u1 0 unmarked ∷ []))
+    ∷ bad "a field before the previous one ends" (withBody (field 14 u2 0 unmarked ∷ field 15 u1 0 unmarked ∷ []))
+    ∷ ok "a gap" (withBody (field 20 u2 0 unmarked ∷ field 30 u1 0 unmarked ∷ []))
+    ∷ ok "first revisions rising to the highest" (withBody (field 14 u1 0 unmarked ∷ field 15 u1 3 unmarked ∷ field 16 u1 3 unmarked ∷ []))
+    ∷ bad "a first revision above the highest" (withBody (field 14 u1 4 unmarked ∷ []))
+    ∷ bad "first revisions falling" (withBody (field 14 u1 1 unmarked ∷ field 15 u1 0 unmarked ∷ []))
+    ∷ ok "sub-fields from 0" (withSubs (field 0 f8 0 unmarked ∷ field 8 u1 1 unmarked ∷ []))
+    ∷ bad "sub-fields that overlap" (withSubs (field 0 f8 0 unmarked ∷ field 7 u1 0 unmarked ∷ []))
+    ∷ bad "first revisions of sub-fields falling" (withSubs (field 0 u1 1 unmarked ∷ field 1 u1 0 unmarked ∷ []))
+    ∷ bad "sub-fields without N and SBLength" (blockRow 1 0 [] (field 0 u1 0 unmarked ∷ []) ∷ [])
+    ∷ bad "N alone" (blockRow 1 0 (field 14 u1 0 unmarked ∷ []) (field 0 u1 0 unmarked ∷ []) ∷ [])
+    ∷ bad "N, SBLength and one more" (blockRow 1 0 (field 14 u1 0 unmarked ∷ field 15 u1 0 unmarked ∷ field 16 u1 0 unmarked ∷ []) (field 0 u1 0 unmarked ∷ []) ∷ [])
+    ∷ bad "N with a mark" (blockRow 1 0 (field 14 u1 0 ones ∷ field 15 u1 0 unmarked ∷ []) (field 0 u1 0 unmarked ∷ []) ∷ [])
+    ∷ bad "SBLength of type i1" (blockRow 1 0 (field 14 u1 0 unmarked ∷ field 15 i1 0 unmarked ∷ []) (field 0 u1 0 unmarked ∷ []) ∷ [])
+    ∷ bad "SBLength at 16" (blockRow 1 0 (field 14 u1 0 unmarked ∷ field 16 u1 0 unmarked ∷ []) (field 0 u1 0 unmarked ∷ []) ∷ [])
+    ∷ bad "SBLength from revision 1" (blockRow 1 1 (field 14 u1 0 unmarked ∷ field 15 u1 1 unmarked ∷ []) (field 0 u1 0 unmarked ∷ []) ∷ [])
     ∷ []
 
-abbrev marks : List Case
-marks =
+abbrev markCases : List LimitCase
+markCases =
     bad "type 0" (bears 0 unmarked)
     ∷ ok "type 10" (bears f8 unmarked)
     ∷ bad "type 11" (bears 11 unmarked)
@@ -105,22 +105,22 @@ marks =
 
 -- bytes before the CRC, closed with the right one
 abbrev closed : List ℕ → List ℕ
-closed bs = bs ++ (two (crcOf bs) ++ (0x42 ∷ 0x54 ∷ []))
+closed bs = bs ++ (u2Bytes (crcOf bs) ++ (0x42 ∷ 0x54 ∷ []))
 
 -- a file of 32 bytes: a field row at 0, block rows at 4 and 12, the trailer at 20
 abbrev small : Table
-small = table (block 1 0 (field 14 u1 0 unmarked ∷ []) [] ∷ block 2 0 [] [] ∷ [])
+small = tableWith (blockRow 1 0 (field 14 u1 0 unmarked ∷ []) [] ∷ blockRow 2 0 [] [] ∷ [])
 
 -- that file with another byte, and the right CRC
-abbrev other : String → ℕ → ℕ → Case
+abbrev other : String → ℕ → ℕ → LimitCase
 other name place byte = record { name = name; bytes = closed (set (unsealed small) place byte); passes = false }
 
-abbrev files : List Case
+abbrev files : List LimitCase
 files =
     record { name = "the small file"; bytes = closed (unsealed small); passes = true }
     ∷ other "a block row that ends in no zero byte" 11 1
     ∷ other "a first index that is not the sum" 16 0
-    ∷ record { name = "counts that leave a field row"; bytes = closed (set (unsealed (table (body (field 14 u1 0 unmarked ∷ [])))) 7 0); passes = false }
+    ∷ record { name = "counts that leave a field row"; bytes = closed (set (unsealed (tableWith (withBody (field 14 u1 0 unmarked ∷ [])))) 7 0); passes = false }
     ∷ other "counts beyond the field rows" 15 1
     ∷ other "a count that is not R" 22 1
     ∷ other "another distance to the block rows" 24 29
@@ -134,8 +134,8 @@ files =
     ∷ record { name = "no bytes"; bytes = []; passes = false }
     ∷ []
 
-abbrev pub cases : List Case
-cases = rows ++ (fields ++ (marks ++ files))
+abbrev pub limitCases : List LimitCase
+limitCases = rows ++ (fields ++ (markCases ++ files))
 
 abbrev pub LimitsHold : Type 0
-LimitsHold = map (λ (c : Case). tableOk (c .bytes)) cases ≡ map (λ (c : Case). c .passes) cases
+LimitsHold = map (λ (c : LimitCase). tableOk (c .bytes)) limitCases ≡ map (λ (c : LimitCase). c .passes) limitCases

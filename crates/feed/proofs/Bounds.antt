@@ -16,7 +16,7 @@ use Rattle.frame.specs.declared.Verdict.the-variants.{Undecided}
 use Rattle.frame.proofs.Tests.{lt?}
 use Rattle.frame.proofs.View.{allows, View, waits-head, waits-body, at-sync0, at-sync1, at-length, at-bad, at-good, view}
 use Rattle.scan.specs.Settle.{Settled, settle}
-use Rattle.scan.specs.Feed.{Feeding, unlessBlock, feedBy, feedLit}
+use Rattle.scan.specs.Feed.{Intake, unlessBlock, feedBy, feedLit}
 use Rattle.scan.proofs.Settling.{Stopped, settle-rest, settle-stopped}
 
 abbrev pub Bytes : List ℕ → Type 0
@@ -63,7 +63,7 @@ left-short h b e =
     (λ q. short-of v (subst⁻¹ Bytes (r .is) (drop-bytes h (length (settle judged h .passed)) b)) (view v) q)
     (subst (λ (o : Option ℕ). Stopped judged o (settle judged h .rest)) e (settle-stopped judged h))
 
-held-by : (o : Option ℕ) (s : Settled) (next : Feeding) → s .standing ≡ o → length (s .rest) ≤ 65532 → (s .standing ≡ none → length (next .held) ≤ 65532)
+held-by : (o : Option ℕ) (s : Settled) (next : Intake) → s .standing ≡ o → length (s .rest) ≤ 65532 → (s .standing ≡ none → length (next .held) ≤ 65532)
     → length (unlessBlock o s next .held) ≤ 65532
 held-by (some n) s next e l rec = l
 held-by none s next e l rec = rec e

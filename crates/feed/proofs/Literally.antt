@@ -10,16 +10,16 @@ use lib.Seq.{length-take-le, take-all, take-at, take-append-add, drop-append-le,
 use Rattle.frame.specs.Judge.{judged, judgedLast}
 use Rattle.frame.proofs.Tests.{lt?}
 use Rattle.scan.specs.Settle.{Settled, settle}
-use Rattle.scan.specs.Feed.{Feeding, feedLit, stop, size}
-use Rattle.scan.specs.Passed.{foundOf}
-use Rattle.scan.specs.declared.Found.{Found}
+use Rattle.scan.specs.Feed.{Intake, feedLit, stop, size}
+use Rattle.scan.specs.Passed.{scannedOf}
+use Rattle.scan.specs.declared.Scanned.{Scanned}
 use Rattle.scan.proofs.Stable.{judging, last-fits}
 use Rattle.scan.proofs.Settling.{settle-rest, settle-front}
 use Rattle.scan.proofs.Marks.{passedOf-skipped}
-use Rattle.scan.proofs.Calls.{Call, call, fed-holds}
+use Rattle.scan.proofs.Calls.{CallFacts, call, fed-holds}
 use Rattle.scan.proofs.Literal.{toLit, literal}
-use Rattle.feed.specs.declared.Fed.{Fed}
-use Rattle.feed.specs.Hold.{restOf, numbersOf, holdOf, GoesOn}
+use Rattle.feed.specs.declared.HoldNumbers.{HoldNumbers}
+use Rattle.feed.specs.Hold.{restOf, numbersOf, holdOf, LeftForNext}
 use Rattle.feed.proofs.Kept.{own}
 
 -- what is looked at of the piece
@@ -43,21 +43,21 @@ rest-length hold held standing a b = length-take-le (held - standing) (drop stan
 
 -- ---- Feed
 
-module _ (hold : List ℕ) (held block : ℕ) (piece : List ℕ) (room : ℕ) (front : block ≤ held) (fits : held ≤ length hold) (f : Found)
-    (came : f ≡ foundOf (feedLit (restOf hold held block) piece room)) where
-  abbrev fed : Feeding
+module _ (hold : List ℕ) (held block : ℕ) (piece : List ℕ) (room : ℕ) (front : block ≤ held) (fits : held ≤ length hold) (f : Scanned)
+    (came : f ≡ scannedOf (feedLit (restOf hold held block) piece room)) where
+  abbrev fed : Intake
   fed = feedLit (restOf hold held block) piece room
 
   taken-is : f .taken ≡ fed .taken
-  taken-is = ap (λ (x : Found). x .taken) came
+  taken-is = ap (λ (x : Scanned). x .taken) came
 
   passed-is : f .passed .skipped ≡ length (fed .passed)
-  passed-is = ap (λ (x : Found). x .passed .skipped) came ∙ passedOf-skipped (fed .passed)
+  passed-is = ap (λ (x : Scanned). x .passed .skipped) came ∙ passedOf-skipped (fed .passed)
 
   block-is : f .block ≡ size (fed .standing)
-  block-is = ap (λ (x : Found). x .block) came
+  block-is = ap (λ (x : Scanned). x .block) came
 
-  facts : Call (restOf hold held block) piece room fed
+  facts : CallFacts (restOf hold held block) piece room fed
   facts = call judged (judging .fits) (restOf hold held block) piece room
 
   -- none is lost, no more is taken than there is room for, and the block is there whole
@@ -70,10 +70,10 @@ module _ (hold : List ℕ) (held block : ℕ) (piece : List ℕ) (room : ℕ) (f
   pub whole : f .block ≤ length (fed .held)
   whole = omega (arith, block-is, facts .front)
 
-  pub told : _≡_ {A = Fed} (record { taken = f .taken; passed = f .passed; held = held - block + f .taken - f .passed .skipped; standing = f .block }) (numbersOf fed)
-  told =
+  pub numbers-are : _≡_ {A = HoldNumbers} (record { taken = f .taken; passed = f .passed; held = held - block + f .taken - f .passed .skipped; standing = f .block }) (numbersOf fed)
+  numbers-are =
       let e : held - block + f .taken - f .passed .skipped ≡ length (fed .held) = omega (arith, sum) in
-      ap₂ (λ (x : Found) (k : ℕ). record { taken = x .taken; passed = x .passed; held = k; standing = x .block }) came e
+      ap₂ (λ (x : Scanned) (k : ℕ). record { taken = x .taken; passed = x .passed; held = k; standing = x .block }) came e
 
   pub kept : {h : List ℕ}
       → h ≡ drop (f .passed .skipped) (take (held - block + f .taken) (take (held - block) (drop block hold) ++ piece)) ++ drop (held - block + f .taken - f .passed .skipped) hold
@@ -92,13 +92,13 @@ module _ (hold : List ℕ) (held block : ℕ) (piece : List ℕ) (room : ℕ) (f
 
 -- ---- Finish
 
-module _ (h : List ℕ) (held block : ℕ) (front : block ≤ held) (fits : held ≤ length h) (f : Found)
-    (came : f ≡ foundOf (stop (settle judgedLast (restOf h held block)))) where
+module _ (h : List ℕ) (held block : ℕ) (front : block ≤ held) (fits : held ≤ length h) (f : Scanned)
+    (came : f ≡ scannedOf (stop (settle judgedLast (restOf h held block)))) where
   abbrev last : Settled
   last = settle judgedLast (restOf h held block)
 
   end-passed : f .passed .skipped ≡ length (last .passed)
-  end-passed = ap (λ (x : Found). x .passed .skipped) came ∙ passedOf-skipped (last .passed)
+  end-passed = ap (λ (x : Scanned). x .passed .skipped) came ∙ passedOf-skipped (last .passed)
 
   end-len : length (restOf h held block) ≡ held - block
   end-len = rest-length h held block front fits
@@ -111,10 +111,10 @@ module _ (h : List ℕ) (held block : ℕ) (front : block ≤ held) (fits : held
       omega (arith, ap length (settle-rest judgedLast (restOf h held block) .is), length-drop (length (last .passed)) (restOf h held block), end-len, end-passed)
 
   pub end-front : f .block ≤ held - block - f .passed .skipped
-  end-front = omega (arith, settle-front judgedLast last-fits (restOf h held block), end-length, ap (λ (x : Found). x .block) came)
+  end-front = omega (arith, settle-front judgedLast last-fits (restOf h held block), end-length, ap (λ (x : Scanned). x .block) came)
 
-  pub end-told : _≡_ {A = Fed} (record { taken = 0; passed = f .passed; held = held - block - f .passed .skipped; standing = f .block }) (numbersOf (stop last))
-  end-told = ap₂ (λ (x : Found) (k : ℕ). record { taken = 0; passed = x .passed; held = k; standing = x .block }) came end-length
+  pub end-told : _≡_ {A = HoldNumbers} (record { taken = 0; passed = f .passed; held = held - block - f .passed .skipped; standing = f .block }) (numbersOf (stop last))
+  end-told = ap₂ (λ (x : Scanned) (k : ℕ). record { taken = 0; passed = x .passed; held = k; standing = x .block }) came end-length
 
   pub end-kept : {h′ : List ℕ} → h′ ≡ paste h 0 (drop (block + f .passed .skipped) h) (held - block - f .passed .skipped) → h′ ≡ holdOf (stop last) h
   unfolding restOf
@@ -126,7 +126,7 @@ module _ (h : List ℕ) (held block : ℕ) (front : block ≤ held) (fits : held
       ∙ own h block (held - block) (f .passed .skipped) (omega arith) end-few))
       (zero-add (held - block - f .passed .skipped) ∙ end-length)
 
-pub goes-on : GoesOn
+pub goes-on : LeftForNext
 unfolding restOf
 goes-on f hold l =
     let b = size (f .standing) in

@@ -4,16 +4,16 @@ use Prim.Native.Nat.{ℕ, _-_, _≤_}
 use mathlib.Core.Path.{_≡_}
 use mathlib.Core.List.{List, _++_}
 use lib.ListN.{length, take, drop}
-use Rattle.scan.specs.Feed.{Feeding, size}
+use Rattle.scan.specs.Feed.{Intake, size}
 use Rattle.scan.specs.Passed.{passedOf}
-use Rattle.feed.specs.declared.Fed.{Fed}
+use Rattle.feed.specs.declared.HoldNumbers.{HoldNumbers}
 
 -- "drops the block last reported": the held bytes without the standing block
 unfoldable pub restOf : List ℕ → ℕ → ℕ → List ℕ
 restOf hold held standing = take (held - standing) (drop standing hold)
 
 -- the numbers that are given back; 0 for no block
-abbrev pub numbersOf : Feeding → Fed
+abbrev pub numbersOf : Intake → HoldNumbers
 numbersOf f =
     record { taken = f .taken; passed = passedOf (f .passed); held = length (f .held); standing = size (f .standing) }
 
@@ -23,17 +23,17 @@ over xs buffer = xs ++ drop (length xs) buffer
 
 -- "After each call the held bytes, a standing block first, begin at offset 0 of the hold": then the bytes that stood there
 -- before, unchanged
-abbrev pub holdOf : Feeding → List ℕ → List ℕ
+abbrev pub holdOf : Intake → List ℕ → List ℕ
 holdOf f hold = over (f .held) hold
 
 -- what a caller may count on: no more than t bytes taken, and numbers that are good for the next call
-pub record Good (r : Fed) (t : ℕ) : Type 0 where
+pub record GoodNumbers (r : HoldNumbers) (t : ℕ) : Type 0 where
   pub front : r .standing ≤ r .held
   pub few : r .held ≤ 65532
   pub taken : r .taken ≤ t
 
 -- what a call leaves in the hold is what the next one starts from: the held bytes without the standing block
-abbrev pub GoesOn : Type 0
-GoesOn =
-    (f : Feeding) (hold : List ℕ) → size (f .standing) ≤ length (f .held)
+abbrev pub LeftForNext : Type 0
+LeftForNext =
+    (f : Intake) (hold : List ℕ) → size (f .standing) ≤ length (f .held)
     → restOf (holdOf f hold) (numbersOf f .held) (numbersOf f .standing) ≡ drop (size (f .standing)) (f .held)

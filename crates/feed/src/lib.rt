@@ -7,11 +7,11 @@ ghost use lib.Seq.{paste};
 ghost use Rattle.frame.specs.Judge.{judgedLast};
 ghost use Rattle.scan.specs.Settle.{settle};
 ghost use Rattle.scan.specs.Feed.{feedLit, stop};
-ghost use Rattle.feed.specs.Hold.{restOf, numbersOf, holdOf, Good, GoesOn};
+ghost use Rattle.feed.specs.Hold.{restOf, numbersOf, holdOf, GoodNumbers, LeftForNext};
 use scan::Passed;
 
 // What a call leaves.
-pub struct Fed {
+pub struct HoldNumbers {
     // How many bytes of the piece were taken.
     pub taken: usize,
     // What is known of the bytes skipped.
@@ -63,11 +63,11 @@ fn keep(hold: &mut [u8], standing: usize, n: usize, piece: &[u8], p: usize, m: u
 }
 
 // Drops the standing block and takes at most `room` bytes of the piece; the promise is by the rule, a byte at a time.
-pub fn feed(hold: &mut [u8], held: usize, standing: usize, piece: &[u8], room: usize) -> Fed
+pub fn feed(hold: &mut [u8], held: usize, standing: usize, piece: &[u8], room: usize) -> HoldNumbers
     requires { ⌜ (standing ≤ held) × (held ≤ 65532) × (65532 ≤ length (now hold)) ⌝ }
     ensures { λ r. ⌜ r ≡ numbersOf (feedLit (restOf (now (hold .entry)) held standing) (now (piece .entry)) room) ⌝ }
     ensures { λ r. ⌜ now (hold .exit) ≡ holdOf (feedLit (restOf (now (hold .entry)) held standing) (now (piece .entry)) room) (now (hold .entry)) ⌝ }
-    ensures { λ r. ⌜ Good r (min room (length (now (piece .entry)))) ⌝ }
+    ensures { λ r. ⌜ GoodNumbers r (min room (length (now (piece .entry)))) ⌝ }
 {
     let n = held - standing;
     let t = frame::lesser(room, piece.len());
@@ -78,7 +78,7 @@ pub fn feed(hold: &mut [u8], held: usize, standing: usize, piece: &[u8], room: u
     let len = found.block;
     let m = n + taken;
     keep(hold, standing, n, piece, p, m);
-    Fed {
+    HoldNumbers {
         taken: taken,
         passed: passed,
         held: m - p,
@@ -87,11 +87,11 @@ pub fn feed(hold: &mut [u8], held: usize, standing: usize, piece: &[u8], room: u
 }
 
 // Drops the standing block; what is held is read on with nothing to follow.
-pub fn finish(hold: &mut [u8], held: usize, standing: usize) -> Fed
+pub fn finish(hold: &mut [u8], held: usize, standing: usize) -> HoldNumbers
     requires { ⌜ (standing ≤ held) × (held ≤ 65532) × (65532 ≤ length (now hold)) ⌝ }
     ensures { λ r. ⌜ r ≡ numbersOf (stop (settle judgedLast (restOf (now (hold .entry)) held standing))) ⌝ }
     ensures { λ r. ⌜ now (hold .exit) ≡ holdOf (stop (settle judgedLast (restOf (now (hold .entry)) held standing))) (now (hold .entry)) ⌝ }
-    ensures { λ r. ⌜ Good r 0 ⌝ }
+    ensures { λ r. ⌜ GoodNumbers r 0 ⌝ }
 {
     let found = scan::last(&hold[standing..held]);
     let passed = found.passed;
@@ -99,7 +99,7 @@ pub fn finish(hold: &mut [u8], held: usize, standing: usize) -> Fed
     let block = found.block;
     let k = held - standing - p;
     move_down(hold, standing + p, k);
-    Fed {
+    HoldNumbers {
         taken: 0,
         passed: passed,
         held: k,
@@ -108,6 +108,6 @@ pub fn finish(hold: &mut [u8], held: usize, standing: usize) -> Fed
 }
 
 // What a call leaves in the hold is what the next one starts from.
-pub fn goes_on()
-    ensures { λ _. ⌜ GoesOn ⌝ }
+pub fn left_for_next()
+    ensures { λ _. ⌜ LeftForNext ⌝ }
 {}

@@ -10,24 +10,24 @@ use lib.ListN.{length, take}
 use Rattle.frame.specs.Judge.{judged}
 use Rattle.frame.specs.declared.Verdict.{Verdict}
 use Rattle.scan.specs.Settle.{settle}
-use Rattle.scan.specs.Feed.{Feeding, unlessBlock, feedBy, feedLit}
+use Rattle.scan.specs.Feed.{Intake, unlessBlock, feedBy, feedLit}
 use Rattle.scan.proofs.Stable.{judging}
 use Rattle.scan.proofs.Settling.{Stopped}
 use Rattle.scan.proofs.Calls.{fed-holds, Took, fed-took, fed-stopped}
 use Rattle.framing.specs.Theorems.{MoreDecidesAll, BlockDecidesNoMore}
 
 module _ (judge : List ℕ → Verdict) where
-  abbrev Least : List ℕ → List ℕ → ℕ → Feeding → Type 0
+  abbrev Least : List ℕ → List ℕ → ℕ → Intake → Type 0
   Least h piece room f = (t : ℕ) → t < f .taken → feedBy judge h (take t piece) room .standing ≡ none
 
-  least-none : (h : List ℕ) (b : ℕ) (bs : List ℕ) (room t : ℕ) (next : Feeding) → settle judge h .standing ≡ none
+  least-none : (h : List ℕ) (b : ℕ) (bs : List ℕ) (room t : ℕ) (next : Intake) → settle judge h .standing ≡ none
       → Least (settle judge h .rest ++ b ∷ []) bs room next → t < suc (next .taken) → feedBy judge h (take t (b ∷ bs)) (suc room) .standing ≡ none
   unfolding feedBy
   least-none h b bs room zero next e rec l = e
   least-none h b bs room (suc t) next e rec l =
       ap (λ (o : Option ℕ). unlessBlock o (settle judge h) (feedBy judge (settle judge h .rest ++ b ∷ []) (take t bs) room) .standing) e ∙ rec t (omega arith)
 
-  least-by : (o : Option ℕ) (h : List ℕ) (b : ℕ) (bs : List ℕ) (room : ℕ) (next : Feeding) → settle judge h .standing ≡ o
+  least-by : (o : Option ℕ) (h : List ℕ) (b : ℕ) (bs : List ℕ) (room : ℕ) (next : Intake) → settle judge h .standing ≡ o
       → Least (settle judge h .rest ++ b ∷ []) bs room next → Least h (b ∷ bs) (suc room) (unlessBlock o (settle judge h) next)
   least-by (some n) h b bs room next e rec t l = let f : ⊥ = omega arith in absurd f
   least-by none h b bs room next e rec t l = least-none h b bs room t next e rec l

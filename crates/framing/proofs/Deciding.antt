@@ -19,7 +19,7 @@ use Rattle.frame.proofs.Cases.{short, part}
 use Rattle.frame.proofs.View.{Head, View, waits-head, waits-body, at-sync0, at-sync1, at-length, at-bad, at-good, view}
 use Rattle.scan.proofs.Stable.{judging, last-decides, frame-last, last-frame}
 use Rattle.frame.proofs.Last.{last-ends}
-use Rattle.framing.specs.Theorems.{Decided, first-wrong, second-wrong, length-wrong, all-there, DecidedExactly, Few, Past, LastRight}
+use Rattle.framing.specs.Theorems.{Decided, first-wrong, second-wrong, length-wrong, all-there, DecidedExactly, HasFew, PassesEnd, LastRight}
 
 -- ---- while the run is fed
 
@@ -116,25 +116,25 @@ last-pair v = pair-by v (view v)
 -- ---- the two reasons that only the run's end gives
 
 -- what a reason says
-abbrev pub SaysFor : List ℕ → Reason → Type 0
-SaysFor v NoSync = Unit {0}
-SaysFor v LengthNotAllowed = Unit {0}
-SaysFor v (CrcWrong n) = Unit {0}
-SaysFor v FewLeft = Few v
-SaysFor v PastEnd = Past v
+abbrev pub EndSaysFor : List ℕ → Reason → Type 0
+EndSaysFor v NoSync = Unit {0}
+EndSaysFor v LengthNotAllowed = Unit {0}
+EndSaysFor v (CrcWrong n) = Unit {0}
+EndSaysFor v FewLeft = HasFew v
+EndSaysFor v PastEnd = PassesEnd v
 
-abbrev pub Says : List ℕ → Verdict → Type 0
-Says v (NoFrame r) = SaysFor v r
-Says v (Frame n) = Unit {0}
-Says v Undecided = Unit {0}
+abbrev pub EndSays : List ℕ → Verdict → Type 0
+EndSays v (NoFrame r) = EndSaysFor v r
+EndSays v (Frame n) = Unit {0}
+EndSays v Undecided = Unit {0}
 
 says-few : (v : List ℕ) (a b : Bool) → ltb (length v) 2 ≡ a → ltb (length v) 8 ≡ b
-    → (2 ≤ length v → length v < 8 → Few v) → (8 ≤ length v → Past v) → SaysFor v (cond a NoSync (cond b FewLeft PastEnd))
+    → (2 ≤ length v → length v < 8 → HasFew v) → (8 ≤ length v → PassesEnd v) → EndSaysFor v (cond a NoSync (cond b FewLeft PastEnd))
 says-few v true b e f few past = tt
 says-few v false true e f few past = few (ltb-false (length v) 2 e) (ltb-true (length v) 8 f)
 says-few v false false e f few past = past (ltb-false (length v) 8 f)
 
-says-by : (v : List ℕ) {x : Verdict} → View v x → Says v (lastBy x v)
+says-by : (v : List ℕ) {x : Verdict} → View v x → EndSays v (lastBy x v)
 says-by v (waits-head h f s) =
     says-few v (ltb (length v) 2) (ltb (length v) 8) refl refl (λ l m. (paired v (f (omega arith)) (s (omega arith)), m))
     (λ l. let z : ⊥ = omega arith in absurd z)
@@ -147,24 +147,24 @@ says-by v (at-length h a) = tt
 says-by v (at-bad h a l q) = tt
 says-by v (at-good h a l q) = tt
 
-last-says : (v : List ℕ) {x : Verdict} → judgedLast v ≡ x → Says v x
+last-says : (v : List ℕ) {x : Verdict} → judgedLast v ≡ x → EndSays v x
 unfolding judgedLast
-last-says v e = subst (Says v) e (says-by v (view v))
+last-says v e = subst (EndSays v) e (says-by v (view v))
 
 -- while the run is fed neither is given
-abbrev pub FedFor : Reason → Type 0
-FedFor NoSync = Unit {0}
-FedFor LengthNotAllowed = Unit {0}
-FedFor (CrcWrong n) = Unit {0}
-FedFor FewLeft = ⊥
-FedFor PastEnd = ⊥
+abbrev pub WhileFedFor : Reason → Type 0
+WhileFedFor NoSync = Unit {0}
+WhileFedFor LengthNotAllowed = Unit {0}
+WhileFedFor (CrcWrong n) = Unit {0}
+WhileFedFor FewLeft = ⊥
+WhileFedFor PastEnd = ⊥
 
-abbrev pub Fed : Verdict → Type 0
-Fed (NoFrame r) = FedFor r
-Fed (Frame n) = Unit {0}
-Fed Undecided = Unit {0}
+abbrev pub WhileFed : Verdict → Type 0
+WhileFed (NoFrame r) = WhileFedFor r
+WhileFed (Frame n) = Unit {0}
+WhileFed Undecided = Unit {0}
 
-fed-by : (v : List ℕ) {x : Verdict} → View v x → Fed x
+fed-by : (v : List ℕ) {x : Verdict} → View v x → WhileFed x
 fed-by v (waits-head h f s) = tt
 fed-by v (waits-body h a l) = tt
 fed-by v (at-sync0 l a) = tt
@@ -188,10 +188,10 @@ module _ (v : List ℕ) (e : syncAt v 0 ≡ true) where
   ends : {b : Bool} → judged v ≡ Undecided → ltb (length v) 8 ≡ b → judgedLast v ≡ NoFrame (cond b FewLeft PastEnd)
   ends u f = last-ends v u (le-ltb (length v) 2 (omega (arith, two))) f
 
-few-left : (v : List ℕ) → Few v → judgedLast v ≡ NoFrame FewLeft
+few-left : (v : List ℕ) → HasFew v → judgedLast v ≡ NoFrame FewLeft
 few-left v h = ends v (h .0) (short v (two v (h .0)) (first v (h .0)) (second v (h .0)) (h .1)) (lt-ltb (length v) 8 (h .1))
 
-past-end : (v : List ℕ) → Past v → judgedLast v ≡ NoFrame PastEnd
+past-end : (v : List ℕ) → PassesEnd v → judgedLast v ≡ NoFrame PastEnd
 past-end v h =
     ends v (h .0) (part v (two v (h .0)) (first v (h .0)) (second v (h .0)) (h .1) (h .2) (h .3)) (le-ltb (length v) 8 (h .1))
 
@@ -208,6 +208,6 @@ last-right =
       few = λ v e. last-says v e;
       past-end = past-end;
       past = λ v e. last-says v e;
-      fed-not-few = λ v e. subst Fed e (fed-by v (view v));
-      fed-not-past = λ v e. subst Fed e (fed-by v (view v));
+      fed-not-few = λ v e. subst WhileFed e (fed-by v (view v));
+      fed-not-past = λ v e. subst WhileFed e (fed-by v (view v));
     }

@@ -19,12 +19,12 @@ use Rattle.frame.specs.declared.Verdict.the-variants.{NoFrame, Frame, Undecided
 use Rattle.frame.proofs.Tests.{bool?}
 use Rattle.frame.proofs.Standing.{front-judged, judged-front}
 use Rattle.scan.specs.Settle.{Settled, settleBy, settle}
-use Rattle.scan.specs.Feed.{Feeding, unlessBlock, feedBy, feedLit, size}
+use Rattle.scan.specs.Feed.{Intake, unlessBlock, feedBy, feedLit, size}
 use Rattle.scan.proofs.Judging.{There}
 use Rattle.scan.proofs.Stable.{judging, frame-last, last-frame, last-decides}
 use Rattle.scan.proofs.Settling.{Stopped, settle-stopped}
 use Rattle.scan.proofs.Calls.{fed-stopped}
-use Rattle.framing.specs.ReadRun.{Block, blockAt, Reading, nothingRead, blockThen, skipThen, readBy, readFrom, readRun}
+use Rattle.framing.specs.ReadRun.{ReadBlock, blockAt, Reading, nothingRead, blockThen, skipThen, readBy, readFrom, readRun}
 use Rattle.framing.specs.Theorems.{ReadByTheRule}
 use Rattle.framing.proofs.Standing.{frame-drops, length-drops}
 
@@ -44,7 +44,7 @@ abbrev pub skipMany : ℕ → ℕ → Reading → Reading
 skipMany p n r = record { blocks = r .blocks; skipped = placesFrom p n ++ r .skipped }
 
 -- the block at the front of v, where one stands; v begins at the place p
-abbrev pub blocksOf : Option ℕ → ℕ → List ℕ → List Block
+abbrev pub blocksOf : Option ℕ → ℕ → List ℕ → List ReadBlock
 blocksOf none p v = []
 blocksOf (some n) p v = blockAt p n v ∷ []
 
@@ -72,7 +72,7 @@ skip-skip p a b r =
 
 pub both-both : (a b c : Reading) → both a (both b c) ≡ both (both a b) c
 both-both a b c =
-    ap₂ (λ (x : List Block) (k : List ℕ). record { blocks = x; skipped = k }) (sym (append-assoc (a .blocks) (b .blocks) (c .blocks)))
+    ap₂ (λ (x : List ReadBlock) (k : List ℕ). record { blocks = x; skipped = k }) (sym (append-assoc (a .blocks) (b .blocks) (c .blocks)))
     (sym (append-assoc (a .skipped) (b .skipped) (c .skipped)))
 
 -- ---- the rule of a run
@@ -182,11 +182,11 @@ module _ (judge : List ℕ → Verdict) (zs : List ℕ) (skips : Skips judge zs)
 -- ---- one call of feed
 
 module _ (judge : List ℕ → Verdict) (zs : List ℕ) (skips : (ys : List ℕ) → Skips judge ys) where
-  abbrev FedSame : ℕ → List ℕ → List ℕ → Feeding → Type 0
+  abbrev FedSame : ℕ → List ℕ → List ℕ → Intake → Type 0
   FedSame p h piece f =
       readRun p (h ++ (take (f .taken) piece ++ zs)) ≡ skipMany p (length (f .passed)) (readRun (p + length (f .passed)) (f .held ++ zs))
 
-  feed-by : (o : Option ℕ) (p : ℕ) (h : List ℕ) (b : ℕ) (bs : List ℕ) (next : Feeding)
+  feed-by : (o : Option ℕ) (p : ℕ) (h : List ℕ) (b : ℕ) (bs : List ℕ) (next : Intake)
       → FedSame (p + length (settle judge h .passed)) (settle judge h .rest ++ b ∷ []) bs next
       → FedSame p h (b ∷ bs) (unlessBlock o (settle judge h) next)
   feed-by (some n) p h b bs next rec = settle-read judge zs (skips zs) h p
@@ -213,20 +213,20 @@ module _ (judge : List ℕ → Verdict) (zs : List ℕ) (skips : (ys : List ℕ)
 -- ---- what a call answers
 
 -- the standing block, judged while the run is fed
-abbrev pub Stands : Option ℕ → List ℕ → Type 0
-Stands none v = Unit {0}
-Stands (some n) v = judged v ≡ Frame n
+abbrev pub StandsThere : Option ℕ → List ℕ → Type 0
+StandsThere none v = Unit {0}
+StandsThere (some n) v = judged v ≡ Frame n
 
 stands-if : (judge : List ℕ → Verdict) → ((v : List ℕ) (n : ℕ) → judge v ≡ Frame n → judged v ≡ Frame n)
-    → (o : Option ℕ) (v : List ℕ) → Stopped judge o v → Stands o v
+    → (o : Option ℕ) (v : List ℕ) → Stopped judge o v → StandsThere o v
 stands-if judge f none v s = tt
 stands-if judge f (some n) v s = f v n s
 
-pub fed-stands : (piece : List ℕ) (room : ℕ) (h : List ℕ) → Stands (feedLit h piece room .standing) (feedLit h piece room .held)
+pub fed-stands : (piece : List ℕ) (room : ℕ) (h : List ℕ) → StandsThere (feedLit h piece room .standing) (feedLit h piece room .held)
 fed-stands piece room h =
     let f = feedLit h piece room in stands-if judged (λ v n e. e) (f .standing) (f .held) (fed-stopped judged piece room h)
 
-pub last-stands : (h : List ℕ) → Stands (settle judgedLast h .standing) (settle judgedLast h .rest)
+pub last-stands : (h : List ℕ) → StandsThere (settle judgedLast h .standing) (settle judgedLast h .rest)
 last-stands h = let s = settle judgedLast h in stands-if judgedLast last-frame (s .standing) (s .rest) (settle-stopped judgedLast h)
 
 -- with none standing nothing is left
@@ -243,9 +243,9 @@ framed : (p n : ℕ) (v zs : List ℕ) → judged v ≡ Frame n → readRun p (v
 framed p n v zs e =
     let t : There n v = rw e at (judging .fits v) in
     read-frame p n (v ++ zs) (judging .stays v zs (λ w. let z : _≡_ {A = ℕ} 0 1 = cc in omega arith) ∙ e)
-    ∙ ap₂ (λ (b : Block) (k : List ℕ). blockThen b (readRun (p + n) k)) (block-is p n v zs (t .within)) (drop-append-le n v zs (t .within))
+    ∙ ap₂ (λ (b : ReadBlock) (k : List ℕ). blockThen b (readRun (p + n) k)) (block-is p n v zs (t .within)) (drop-append-le n v zs (t .within))
 
-answered : (o : Option ℕ) (p s : ℕ) (v zs : List ℕ) → Stands o v
+answered : (o : Option ℕ) (p s : ℕ) (v zs : List ℕ) → StandsThere o v
     → skipMany p s (readRun (p + s) (v ++ zs)) ≡ both (answer o p s v) (readRun (p + s + size o) (drop (size o) v ++ zs))
 answered none p s v zs e = ap (λ (k : ℕ). skipMany p s (readRun k (v ++ zs))) (sym (add-zero (p + s)))
 answered (some n) p s v zs e = ap (skipMany p s) (framed (p + s) n v zs e)

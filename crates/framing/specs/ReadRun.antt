@@ -8,7 +8,7 @@ use lib.ListN.{take}
 use Rattle.frame.specs.Frame.{idAt, lengthAt, numberOf, revisionOf, frameAt}
 
 -- what is reported of a block (place, number, revision, length), and its bytes
-pub record Block : Type 0 where
+pub record ReadBlock : Type 0 where
   pub place : ℕ
   pub number : ℕ
   pub revision : ℕ
@@ -16,19 +16,19 @@ pub record Block : Type 0 where
   pub bytes : List ℕ
 
 -- the block of n bytes at the front of v, which is the run from the place p on
-unfoldable pub blockAt : ℕ → ℕ → List ℕ → Block
+unfoldable pub blockAt : ℕ → ℕ → List ℕ → ReadBlock
 blockAt p n v =
     record { place = p; number = numberOf (idAt (take n v) 0); revision = revisionOf (idAt (take n v) 0); size = n; bytes = take n v }
 
 -- the blocks, and "the places the reading rule steps over singly"
 pub record Reading : Type 0 where
-  pub blocks : List Block
+  pub blocks : List ReadBlock
   pub skipped : List ℕ
 
 abbrev pub nothingRead : Reading
 nothingRead = record { blocks = []; skipped = [] }
 
-abbrev pub blockThen : Block → Reading → Reading
+abbrev pub blockThen : ReadBlock → Reading → Reading
 blockThen b r = record { blocks = b ∷ r .blocks; skipped = r .skipped }
 
 abbrev pub skipThen : ℕ → Reading → Reading

@@ -36,12 +36,12 @@ abbrev pub DecidedStays : Type 0
 DecidedStays = (xs ys : List ℕ) → (judged xs ≡ Undecided → ⊥) → judged (xs ++ ys) ≡ judged xs
 
 -- the sync pair stands, and fewer than eight bytes are left
-abbrev pub Few : List ℕ → Type 0
-Few v = (syncAt v 0 ≡ true) × (length v < 8)
+abbrev pub HasFew : List ℕ → Type 0
+HasFew v = (syncAt v 0 ≡ true) × (length v < 8)
 
 -- the sync pair stands, eight bytes are there, and the length is allowed and passes what is left
-abbrev pub Past : List ℕ → Type 0
-Past v = (syncAt v 0 ≡ true) × (8 ≤ length v) × (allowed (lengthAt v 0) ≡ true) × (length v < lengthAt v 0)
+abbrev pub PassesEnd : List ℕ → Type 0
+PassesEnd v = (syncAt v 0 ≡ true) × (8 ≤ length v) × (allowed (lengthAt v 0) ≡ true) × (length v < lengthAt v 0)
 
 -- when the run is finished every place is decided, a frame where one was, and each of three reasons is given exactly where it
 -- holds; the last two only then. A last byte alone is no pair
@@ -52,10 +52,10 @@ pub record LastRight : Type 0 where
   pub no-pair : (v : List ℕ) → syncAt v 0 ≡ false → judgedLast v ≡ NoFrame NoSync
   pub pair : (v : List ℕ) → judgedLast v ≡ NoFrame NoSync → syncAt v 0 ≡ false
   pub lone : (v : List ℕ) → length v ≡ 1 → judgedLast v ≡ NoFrame NoSync
-  pub few-left : (v : List ℕ) → Few v → judgedLast v ≡ NoFrame FewLeft
-  pub few : (v : List ℕ) → judgedLast v ≡ NoFrame FewLeft → Few v
-  pub past-end : (v : List ℕ) → Past v → judgedLast v ≡ NoFrame PastEnd
-  pub past : (v : List ℕ) → judgedLast v ≡ NoFrame PastEnd → Past v
+  pub few-left : (v : List ℕ) → HasFew v → judgedLast v ≡ NoFrame FewLeft
+  pub few : (v : List ℕ) → judgedLast v ≡ NoFrame FewLeft → HasFew v
+  pub past-end : (v : List ℕ) → PassesEnd v → judgedLast v ≡ NoFrame PastEnd
+  pub past : (v : List ℕ) → judgedLast v ≡ NoFrame PastEnd → PassesEnd v
   pub fed-not-few : (v : List ℕ) → judged v ≡ NoFrame FewLeft → ⊥
   pub fed-not-past : (v : List ℕ) → judged v ≡ NoFrame PastEnd → ⊥
 

@@ -8,7 +8,7 @@ use mathlib.Core.Path.{_≡_}
 use Prim.Native.Nat.{ℕ, _-_, _^_, _<_}
 use lib.Dec.{eqb}
 use lib.ListN.{getD}
-use Rattle.kinds.specs.Types.{sizeOf, listed, unsigned, signed, float, half}
+use Rattle.kinds.specs.Types.{sizeOf, listed, isUnsigned, isSigned, isFloat, half}
 
 -- "Marks: 0 none; 1 all ones (unsigned); 2 zero (unsigned); 3 minus 2 x 10^10 (float ..); 4 the least value (signed)"
 abbrev pub unmarked : ℕ
@@ -52,8 +52,8 @@ abbrev pub written : (ℕ → ℕ) → ℕ → Option ℕ
 written bits size = some (bits size)
 
 -- a field without a mark is never Do-Not-Use, and cannot be unset
-abbrev pub never : ℕ → ℕ → Bool
-never size x = false
+abbrev pub noTest : ℕ → ℕ → Bool
+noTest size x = false
 
 abbrev pub cannot : ℕ → Option ℕ
 cannot size = none
@@ -61,16 +61,16 @@ cannot size = none
 -- in the order of their numbers
 abbrev pub marks : List Mark
 marks =
-    record { fits = λ kind. true; test = never; unset = cannot }
-    ∷ record { fits = unsigned; test = equals allOnes; unset = written allOnes }
-    ∷ record { fits = unsigned; test = equals nought; unset = written nought }
-    ∷ record { fits = float; test = equals minus; unset = written minus }
-    ∷ record { fits = signed; test = equals half; unset = written half }
+    record { fits = λ kind. true; test = noTest; unset = cannot }
+    ∷ record { fits = isUnsigned; test = equals allOnes; unset = written allOnes }
+    ∷ record { fits = isUnsigned; test = equals nought; unset = written nought }
+    ∷ record { fits = isFloat; test = equals minus; unset = written minus }
+    ∷ record { fits = isSigned; test = equals half; unset = written half }
     ∷ []
 
 -- a number that is not listed: no type may bear it
 abbrev pub unlisted : Mark
-unlisted = record { fits = λ kind. false; test = never; unset = cannot }
+unlisted = record { fits = λ kind. false; test = noTest; unset = cannot }
 
 abbrev pub markOf : ℕ → Mark
 markOf mark = getD marks mark unlisted

@@ -48,14 +48,14 @@ sizeOf (suc k) = getD sizes k 0
 abbrev pub listed : ℕ → Bool
 listed kind = leb u1 kind && leb kind f8
 
-abbrev pub unsigned : ℕ → Bool
-unsigned kind = leb u1 kind && leb kind u8
+abbrev pub isUnsigned : ℕ → Bool
+isUnsigned kind = leb u1 kind && leb kind u8
 
-abbrev pub signed : ℕ → Bool
-signed kind = leb i1 kind && leb kind i8
+abbrev pub isSigned : ℕ → Bool
+isSigned kind = leb i1 kind && leb kind i8
 
-abbrev pub float : ℕ → Bool
-float kind = leb f4 kind && leb kind f8
+abbrev pub isFloat : ℕ → Bool
+isFloat kind = leb f4 kind && leb kind f8
 
 -- half of the numbers that so many bytes make: with a sign, those from here on are negative, and this one is the least
 abbrev pub half : ℕ → ℕ

@@ -139,7 +139,7 @@ fn list_line(called: Called, out: &mut [u8; 8192], filled: usize) -> Listing
             more,
         };
     }
-    let room = console::make_room(out, filled, phrases::ROOM);
+    let room = console::make_room(out, filled, phrases::LIST_LINE);
     if !room.written {
         return Listing {
             state,

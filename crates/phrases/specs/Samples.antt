@@ -21,5 +21,5 @@ abbrev SampleNumbers : Type 0
 SampleNumbers =
     (decimal 9999 ≡ 57 ∷ 57 ∷ 57 ∷ 57 ∷ []) × (decimal 4294967295 ≡ 52 ∷ 50 ∷ 57 ∷ 52 ∷ 57 ∷ 54 ∷ 55 ∷ 50 ∷ 57 ∷ 53 ∷ [])
 
-abbrev pub Samples : Type 0
-Samples = SampleBlock × SampleEnd × SampleNumbers
+abbrev pub LineSamplesHold : Type 0
+LineSamplesHold = SampleBlock × SampleEnd × SampleNumbers

@@ -7,14 +7,14 @@ ghost use Rattle.refusal.specs.Numbers.{numberFor};
 ghost use Rattle.reader.specs.Said.{reportOf};
 ghost use Rattle.phrases.specs.Lines.{blockWords, blockLine, countsText, endWords, endLine};
 ghost use Rattle.phrases.specs.Replies.{refusedText, stateText};
-ghost use Rattle.phrases.specs.Samples.{Samples};
+ghost use Rattle.phrases.specs.Samples.{LineSamplesHold};
 use reader::Block;
 use reader::Counts;
 use reader::State;
 use refusal::Refusal;
 
 // The lister's longest line: the word `block`, four numbers with a space before each, and the line's end.
-pub const ROOM: usize = 90;
+pub const LIST_LINE: usize = 90;
 
 // A refusal, by its number.
 pub fn refused(out: &mut [u8; 8192], at: usize, why: Refusal) -> usize
@@ -22,7 +22,7 @@ pub fn refused(out: &mut [u8; 8192], at: usize, why: Refusal) -> usize
     ensures { λ r. ⌜ r ≤ at + 28 ⌝ }
     ensures { λ r. ⌜ take r (now (out .exit)) ≡ take at (now (out .entry)) ++ refusedText (numberFor why) ⌝ }
 {
-    text::told(out, at, b"refused", refusal::number(why) as u64)
+    text::word_number(out, at, b"refused", refusal::number(why) as u64)
 }
 
 // What is said of a block, with no line's end.
@@ -78,7 +78,7 @@ pub fn end_line(out: &mut [u8; 8192], at: usize, c: Counts) -> usize
 }
 
 // The state's eight numbers, behind a bar.
-pub fn state_of(out: &mut [u8; 8192], at: usize, s: State) -> usize
+pub fn state_text(out: &mut [u8; 8192], at: usize, s: State) -> usize
     requires { ⌜ at + 170 ≤ 8192 ⌝ }
     ensures { λ r. ⌜ r ≤ at + 170 ⌝ }
     ensures { λ r. ⌜ take r (now (out .exit)) ≡ take at (now (out .entry)) ++ stateText s ⌝ }
@@ -86,7 +86,7 @@ pub fn state_of(out: &mut [u8; 8192], at: usize, s: State) -> usize
     let run = s.run;
     let phase = run.phase;
     let sums = run.counts;
-    let bar = text::told(out, at, b" |", reader::phase_number(phase) as u64);
+    let bar = text::word_number(out, at, b" |", reader::phase_number(phase) as u64);
     let force = text::number(out, bar, s.in_force as u64);
     let waiting = text::number(out, force, s.waiting as u64);
     let held = text::number(out, waiting, run.held as u64);
@@ -96,5 +96,5 @@ pub fn state_of(out: &mut [u8; 8192], at: usize, s: State) -> usize
 
 // The lines of document 01's sample are these.
 pub fn samples_hold()
-    ensures { λ _. ⌜ Samples ⌝ }
+    ensures { λ _. ⌜ LineSamplesHold ⌝ }
 {}

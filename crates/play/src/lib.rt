@@ -10,9 +10,9 @@ ghost use Rattle.play.specs.Turns.{plain};
 mod replies; // replies.rt: what a call that may write answered, as a reply
 
 use desk::AskReply;
-use desk::Bytes;
 use desk::Crcs;
 use desk::Desk;
+use desk::PartCrc;
 use desk::RunReply;
 use reader::Check;
 use reader::State;
@@ -20,8 +20,8 @@ use record::Answer;
 use record::Handed;
 use script::Ask;
 use script::Buffer;
-use script::Call;
-use script::Run;
+use script::LineCall;
+use script::RunCall;
 
 // What a line came to: nothing to print, a bad line, or what its call replied.
 pub enum Turn {
@@ -66,7 +66,7 @@ fn ran(state: State, reply: RunReply) -> Played
 // A call that may write, on what it is lent of each buffer.
 fn run_on(
     s: State,
-    run: Run,
+    run: RunCall,
     given: &[u8],
     hold: &mut [u8],
     force: &mut [u8],
@@ -75,27 +75,27 @@ fn run_on(
     ensures { λ r. ⌜ T (plain (r .turn)) ⌝ }
 {
     match run {
-        Run::Open => {
+        RunCall::Open => {
             let r = tables::open(s, force, waiting);
             let answer = r.answer;
             ran(r.state, replies::opened(answer))
         }
-        Run::Feed => {
+        RunCall::Feed => {
             let r = runs::feed(s, hold, given);
             let answer = r.answer;
             ran(r.state, replies::fed(answer))
         }
-        Run::Finish => {
+        RunCall::Finish => {
             let r = runs::finish(s, hold);
             let answer = r.answer;
             ran(r.state, replies::finished(answer))
         }
-        Run::Stage => {
+        RunCall::Stage => {
             let r = tables::stage(s, waiting, given);
             let answer = r.answer;
             ran(r.state, replies::staged(answer))
         }
-        Run::Withdraw => {
+        RunCall::Withdraw => {
             let r = tables::withdraw(s);
             let answer = r.answer;
             ran(r.state, replies::withdrawn(answer))
@@ -106,7 +106,7 @@ fn run_on(
 // A call that may write.
 fn run_call(
     b: Desk,
-    run: Run,
+    run: RunCall,
     given: &[u8],
     hold: &mut [u8],
     force: &mut [u8],
@@ -139,10 +139,10 @@ pub fn crcs(hold: &[u8; 65536], force: &[u8; 8192], waiting: &[u8; 8192]) -> Crc
 }
 
 // Bytes that a call hands back.
-fn handed(bytes: &[u8]) -> Bytes
+fn handed(bytes: &[u8]) -> PartCrc
     ensures { λ r. ⌜ (r .count ≡ length (now (bytes .entry))) × (r .crc ≡ crcOf (now (bytes .entry))) ⌝ }
 {
-    Bytes {
+    PartCrc {
         count: bytes.len(),
         crc: crc::crc_of(bytes),
     }
@@ -217,7 +217,7 @@ fn put(
 // Plays one call.
 pub fn call(
     b: Desk,
-    call: Call,
+    call: LineCall,
     given: &[u8],
     hold: &mut [u8; 65536],
     force: &mut [u8; 8192],
@@ -226,14 +226,14 @@ pub fn call(
     ensures { λ r. ⌜ T (plain (r .turn)) ⌝ }
 {
     match call {
-        Call::Pass => quiet(b, true),
-        Call::Bad => quiet(b, false),
-        Call::Run(run) => run_call(b, run, given, hold, force, waiting),
-        Call::Ask(ask) => ask_call(b, ask, given, hold, force),
-        Call::Poke(part, v) => quiet(desk::poked(b, part, v as usize), true),
-        Call::Put(buffer, offset) => {
+        LineCall::Pass => quiet(b, true),
+        LineCall::Bad => quiet(b, false),
+        LineCall::Run(run) => run_call(b, run, given, hold, force, waiting),
+        LineCall::Ask(ask) => ask_call(b, ask, given, hold, force),
+        LineCall::Poke(part, v) => quiet(desk::poked(b, part, v as usize), true),
+        LineCall::Put(buffer, offset) => {
             quiet(b, put(buffer, offset as usize, given, hold, force, waiting))
         }
-        Call::Size(buffer, n) => quiet(desk::sized(b, buffer, n as usize), true),
+        LineCall::Size(buffer, n) => quiet(desk::sized(b, buffer, n as usize), true),
     }
 }

@@ -25,7 +25,7 @@ pub fn fed(a: Fed) -> RunReply
     ensures { λ r. ⌜ replySays r ≡ saidFed a ⌝ }
 {
     match a {
-        Fed::Block(taken, b) => RunReply::Fed(taken, b),
+        Fed::Block(taken, b) => RunReply::FedBlock(taken, b),
         Fed::More(taken) => RunReply::More(taken),
         Fed::Refused(why) => RunReply::Refused(why),
     }

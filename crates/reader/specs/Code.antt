@@ -5,7 +5,7 @@ use Prim.Native.Nat.{ℕ, zero, suc, _+_}
 use mathlib.Core.List.{List}
 use Rattle.wire.specs.Little.{littleAt}
 use Rattle.frame.specs.Frame.{numberOf, revisionOf}
-use Rattle.feed.specs.declared.Fed.{Fed}
+use Rattle.feed.specs.declared.HoldNumbers.{HoldNumbers}
 use Rattle.reader.specs.Said.{Report}
 use Rattle.reader.specs.declared.Phase.{Phase}
 use Rattle.reader.specs.declared.Phase.the-variants.{Closed, Finishing}
@@ -17,12 +17,12 @@ abbrev pub oneBy : ℕ → ℕ
 oneBy zero = 0
 oneBy (suc n) = 1
 
-abbrev pub countedBy : Counts → Fed → Counts
+abbrev pub countedBy : Counts → HoldNumbers → Counts
 countedBy c f =
     record { taken = c .taken + f .taken; blocks = c .blocks + oneBy (f .standing); skipped = c .skipped + f .passed .skipped }
 
 -- the run goes on in a phase
-abbrev pub runBy : Phase → Run → Fed → Run
+abbrev pub runBy : Phase → Run → HoldNumbers → Run
 runBy x r f = record { phase = x; held = f .held; standing = f .standing; counts = countedBy (r .counts) f }
 
 -- the block at the front of the hold

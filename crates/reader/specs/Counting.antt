@@ -3,7 +3,7 @@
 use Prim.Native.Nat.{ℕ, _+_}
 use mathlib.Core.Option.{Option, none, some}
 use lib.ListN.{length}
-use Rattle.scan.specs.Feed.{Feeding}
+use Rattle.scan.specs.Feed.{Intake}
 use Rattle.reader.specs.declared.Counts.{Counts}
 use Rattle.reader.specs.declared.Run.{Run}
 use Rattle.reader.specs.declared.State.{State}
@@ -14,7 +14,7 @@ one none = 0
 one (some n) = 1
 
 -- "End (bytes, blocks, skipped bytes)": the bytes taken, the block that stands, the bytes skipped
-abbrev pub counted : Counts → Feeding → Counts
+abbrev pub counted : Counts → Intake → Counts
 counted c f =
     record { taken = c .taken + f .taken; blocks = c .blocks + one (f .standing); skipped = c .skipped + length (f .passed) }
 

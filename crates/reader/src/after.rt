@@ -19,7 +19,7 @@ fn one_if(standing: usize) -> usize
 }
 
 // The counts after a call that did what `f` says.
-fn counted(c: Counts, f: feed::Fed) -> Counts
+fn counted(c: Counts, f: feed::HoldNumbers) -> Counts
     requires { ⌜ (c .taken + f .taken ≤ 4294967295) × (c .blocks ≤ 4294967295) × (c .skipped + f .passed .skipped ≤ 18446744073709551615) ⌝ }
     ensures { λ r. ⌜ r ≡ countedBy c f ⌝ }
 {
@@ -33,7 +33,7 @@ fn counted(c: Counts, f: feed::Fed) -> Counts
 }
 
 // The run after a call that did and kept what `f` says.
-pub fn went_on(r: Run, phase: Phase, f: feed::Fed) -> Run
+pub fn went_on(r: Run, phase: Phase, f: feed::HoldNumbers) -> Run
     requires { ⌜ (r .counts .taken + f .taken ≤ 4294967295) × (r .counts .blocks ≤ 4294967295) × (r .counts .skipped + f .passed .skipped ≤ 18446744073709551615) ⌝ }
     ensures { λ x. ⌜ x ≡ runBy phase r f ⌝ }
 {
@@ -68,7 +68,7 @@ pub fn phase_after(standing: usize) -> Phase
 }
 
 // The block of n bytes that stands at the front of the hold, at the place p.
-pub fn block_at(hold: &[u8], p: usize, n: usize) -> Block
+pub fn report_at(hold: &[u8], p: usize, n: usize) -> Block
     requires { ⌜ 6 ≤ length (now hold) ⌝ }
     ensures { λ r. ⌜ reportOf r ≡ reportAt (now (hold .entry)) p n ⌝ }
 {

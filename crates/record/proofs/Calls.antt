@@ -20,19 +20,19 @@ use Rattle.table.proofs.Lists.{every-at, pick-in, pick-out}
 use Rattle.record.specs.declared.Answer.{Answer}
 use Rattle.record.specs.declared.Answer.the-variants as answer
 use Rattle.record.specs.declared.Handed.the-variants as handed
-use Rattle.block.specs.declared.Looked.{Looked}
-use Rattle.block.specs.declared.Looked.the-variants as looked
+use Rattle.block.specs.declared.Matched.{Matched}
+use Rattle.block.specs.declared.Matched.the-variants as matched
 use Rattle.block.specs.declared.Span.{Span}
-use Rattle.block.specs.declared.SubLooked.{SubLooked}
-use Rattle.block.specs.declared.SubLooked.the-variants as sub
-use Rattle.value.specs.Said.{refused}
+use Rattle.block.specs.declared.SubMatched.{SubMatched}
+use Rattle.block.specs.declared.SubMatched.the-variants as sub
+use Rattle.value.specs.Said.{fieldRefused}
 use Rattle.record.specs.Answer.{Answers, handedSays}
-use Rattle.block.specs.Block.{revisionIn, endsBy, bodyFits, meant, subMeant, Looking, SubFine, SubFineIfAny, SubLooking}
-use Rattle.record.specs.Calls.{fieldSaid, fieldOr9, bodyBy, bodyField, subBytes, subBy, subField, nowhere, placeBy, subPlace, numberBy, subBlockRefusal}
+use Rattle.block.specs.Block.{revisionIn, endsBy, bodyFits, matchedSays, subMatchedSays, Matching, SubFine, SubFineIfAny, SubMatching}
+use Rattle.record.specs.Calls.{fieldSaid, fieldOr9, bodyBy, bodyField, subSlice, subBy, subField, nowhere, placeBy, subPlace, numberBy, subBlockRefusal}
 use Rattle.record.proofs.Fields.{same}
 use Rattle.block.proofs.Blocks.{fine-at}
 
-pub refuses : (x : Refusal) → Answers (answer.Refused x) (refused (numberFor x))
+pub refuses : (x : Refusal) → Answers (answer.Refused x) (fieldRefused (numberFor x))
 refuses x = record { says = refl; case = ap answer.Refused (back x) }
 
 -- the field asked for, or 9
@@ -43,15 +43,15 @@ one-there : (f : ℕ → FieldRow) (at count i v : ℕ) (s : List ℕ) → i < c
     → Answers a (fieldOr9 v s (pick (tabulate f at count) i))
 one-there f at count i v s h u = rw (pick-in f at count i h) u
 
-module _ (t b : List ℕ) {l : Looked} (d : Looking t b l) (i : ℕ) where
-  pub body-refused : {x : Refusal} → l ≡ looked.Refused x → Answers (answer.Refused x) (bodyField (decode t) b i)
+module _ (t b : List ℕ) {l : Matched} (d : Matching t b l) (i : ℕ) where
+  pub body-refused : {x : Refusal} → l ≡ matched.Refused x → Answers (answer.Refused x) (bodyField (decode t) b i)
   unfolding bodyField
-  body-refused {x} h = same (ap (bodyBy b i) (sym (ap (meant t) h) ∙ d .is)) (refuses x)
+  body-refused {x} h = same (ap (bodyBy b i) (sym (ap (matchedSays t) h) ∙ d .is)) (refuses x)
 
-  module _ (r : Row) (h : l ≡ looked.At r) where
+  module _ (r : Row) (h : l ≡ matched.At r) where
     by-row : fieldOr9 (revisionIn b) b (pick (blockOf t r .body) i) ≡ bodyField (decode t) b i
     unfolding bodyField
-    by-row = ap (bodyBy b i) (sym (ap (meant t) h) ∙ d .is)
+    by-row = ap (bodyBy b i) (sym (ap (matchedSays t) h) ∙ d .is)
 
     pub body-9 : r .bodies ≤ i → Answers (answer.Refused NoSuchField) (bodyField (decode t) b i)
     unfolding blockOf
@@ -67,47 +67,47 @@ module _ (t b : List ℕ) {l : Looked} (d : Looking t b l) (i : ℕ) where
     body-ends g e u =
         rw (e, u) (every-at (fieldAt t) (endsBy (revisionIn b) (length b)) (r .start) (r .bodies) i (both (leb 14 (length b)) _ (fine-at t b d h .body) .1) g)
 
-pub sub-fine : (t b : List ℕ) (k : ℕ) {l : SubLooked} {r : Row} {p : Span} → SubLooking t b k l → l ≡ sub.At r p → SubFine t b k r p
+pub sub-fine : (t b : List ℕ) (k : ℕ) {l : SubMatched} {r : Row} {p : Span} → SubMatching t b k l → l ≡ sub.At r p → SubFine t b k r p
 sub-fine t b k d h = subst (SubFineIfAny t b k) h (d .fine)
 
-module _ (t b : List ℕ) (k : ℕ) {l : SubLooked} (d : SubLooking t b k l) where
+module _ (t b : List ℕ) (k : ℕ) {l : SubMatched} (d : SubMatching t b k l) where
   pub place-refused : {x : Refusal} → l ≡ sub.Refused x → nowhere ≡ subPlace (decode t) b k
   unfolding subPlace
-  place-refused h = ap (placeBy b k) (sym (ap (subMeant t) h) ∙ d .is)
+  place-refused h = ap (placeBy b k) (sym (ap (subMatchedSays t) h) ∙ d .is)
 
   pub place-given : {r : Row} {p : Span} → l ≡ sub.At r p → p ≡ subPlace (decode t) b k
   unfolding subPlace
-  place-given h = sub-fine t b k d h .stands ∙ ap (placeBy b k) (sym (ap (subMeant t) h) ∙ d .is)
+  place-given h = sub-fine t b k d h .stands ∙ ap (placeBy b k) (sym (ap (subMatchedSays t) h) ∙ d .is)
 
   pub twin-refused : {x : Refusal} → l ≡ sub.Refused x → handedSays (handed.Refused x) ≡ subBlockRefusal (decode t) b k
   unfolding subBlockRefusal
-  twin-refused h = ap numberBy (sym (ap (subMeant t) h) ∙ d .is)
+  twin-refused h = ap numberBy (sym (ap (subMatchedSays t) h) ∙ d .is)
 
   pub twin-given : {r : Row} {p : Span} → l ≡ sub.At r p → handedSays handed.Given ≡ subBlockRefusal (decode t) b k
   unfolding subBlockRefusal
-  twin-given h = ap numberBy (sym (ap (subMeant t) h) ∙ d .is)
+  twin-given h = ap numberBy (sym (ap (subMatchedSays t) h) ∙ d .is)
 
   pub sub-refused : (j : ℕ) {x : Refusal} → l ≡ sub.Refused x → Answers (answer.Refused x) (subField (decode t) b k j)
   unfolding subField
-  sub-refused j {x} h = same (ap (subBy b k j) (sym (ap (subMeant t) h) ∙ d .is)) (refuses x)
+  sub-refused j {x} h = same (ap (subBy b k j) (sym (ap (subMatchedSays t) h) ∙ d .is)) (refuses x)
 
   module _ (r : Row) (p : Span) (h : l ≡ sub.At r p) where
     module _ (j : ℕ) where
-      by-sub-row : fieldOr9 (revisionIn b) (subBytes b p) (pick (blockOf t r .subs) j) ≡ subField (decode t) b k j
+      by-sub-row : fieldOr9 (revisionIn b) (subSlice b p) (pick (blockOf t r .subs) j) ≡ subField (decode t) b k j
       unfolding subField
       by-sub-row =
-          ap (λ (x : Span). fieldOr9 (revisionIn b) (subBytes b x) (pick (blockOf t r .subs) j)) (sub-fine t b k d h .stands)
-          ∙ ap (subBy b k j) (sym (ap (subMeant t) h) ∙ d .is)
+          ap (λ (x : Span). fieldOr9 (revisionIn b) (subSlice b x) (pick (blockOf t r .subs) j)) (sub-fine t b k d h .stands)
+          ∙ ap (subBy b k j) (sym (ap (subMatchedSays t) h) ∙ d .is)
 
       pub sub-9 : r .subs ≤ j → Answers (answer.Refused NoSuchField) (subField (decode t) b k j)
       unfolding blockOf
-      sub-9 g = same by-sub-row (none-there (fieldAt t) (r .start + r .bodies) (r .subs) j (revisionIn b) (subBytes b p) g)
+      sub-9 g = same by-sub-row (none-there (fieldAt t) (r .start + r .bodies) (r .subs) j (revisionIn b) (subSlice b p) g)
 
-      pub sub-says : j < r .subs → {f : FieldRow} {v : ℕ} {s : List ℕ} {a : Answer} → f ≡ fieldAt t (r .start + r .bodies + j) → v ≡ revisionIn b → s ≡ subBytes b p
+      pub sub-says : j < r .subs → {f : FieldRow} {v : ℕ} {s : List ℕ} {a : Answer} → f ≡ fieldAt t (r .start + r .bodies + j) → v ≡ revisionIn b → s ≡ subSlice b p
           → Answers a (fieldSaid v s f) → Answers a (subField (decode t) b k j)
       unfolding blockOf
       sub-says g e u q w =
-          same by-sub-row (one-there (fieldAt t) (r .start + r .bodies) (r .subs) j (revisionIn b) (subBytes b p) g (rw (e, u, q) at w))
+          same by-sub-row (one-there (fieldAt t) (r .start + r .bodies) (r .subs) j (revisionIn b) (subSlice b p) g (rw (e, u, q) at w))
 
       pub sub-ends : j < r .subs → {f : FieldRow} {v n : ℕ} → f ≡ fieldAt t (r .start + r .bodies + j) → v ≡ revisionIn b → n ≡ p .size → endsBy v n f ≡ true
       unfolding blockOf

@@ -12,7 +12,7 @@ use Rattle.rows.specs.declared.FieldRow.{FieldRow}
 use Rattle.table.specs.Rows.{ends}
 use Rattle.value.specs.declared.Value.{Value}
 use Rattle.value.specs.declared.Value.the-variants.{Unsigned, Signed, Single, Double, SingleNan, DoubleNan, DoNotUse, NotInRevision}
-use Rattle.value.specs.Said.{Said, valueSays, inCase, Means}
+use Rattle.value.specs.Said.{FieldSaid, valueSays, inCase, Means}
 use Rattle.value.specs.Bits.{fieldValue}
 use Rattle.record.specs.declared.Answer.{Answer}
 use Rattle.record.specs.declared.Answer.the-variants.{Field, Refused}
@@ -21,7 +21,7 @@ use Rattle.block.specs.Block.{endsBy}
 use Rattle.record.specs.Calls.{fieldSaid, stamp}
 
 -- an answer to what is said is one to what is the same
-pub same : {r : Answer} {a b : Said} → a ≡ b → Answers r a → Answers r b
+pub same : {r : Answer} {a b : FieldSaid} → a ≡ b → Answers r a → Answers r b
 same {r} e h = subst (Answers r) e h
 
 -- a value in the case for what it says is the answer's case
@@ -35,7 +35,7 @@ in-case (DoubleNan b) = refl
 in-case DoNotUse = refl
 in-case NotInRevision = refl
 
-pub answers : {v : Value} {said : Said} → Means v said → Answers (Field v) said
+pub answers : {v : Value} {said : FieldSaid} → Means v said → Answers (Field v) said
 answers {v} m = record { says = m .says; case = ap Field (m .case) ∙ in-case v ∙ ap caseFor (m .says) }
 
 -- a carried field ends where the test says

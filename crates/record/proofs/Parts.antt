@@ -9,32 +9,32 @@ use lib.Seq.{length-take-le}
 use Rattle.table.specs.Rows.{Table}
 use Rattle.block.specs.declared.Span.{Span}
 use Rattle.block.specs.Block.{subSpan, Seen, refusedBy, row, seenSub}
-use Rattle.record.specs.Calls.{subBytes, partBy, placeBy, subBlock, subPlace}
+use Rattle.record.specs.Calls.{subSlice, partBy, placeBy, subBlock, subPlace}
 
 module _ (b : List ℕ) (s : Span) (h : s .at + s .size ≤ length b) where
   end : s .at + s .size - s .at ≡ s .size
   end = omega arith
 
-  pub part-long : length (subBytes b s) ≡ s .size
-  unfolding subBytes
+  pub part-long : length (subSlice b s) ≡ s .size
+  unfolding subSlice
   part-long = let l : s .size ≤ length (drop (s .at) b) = rw length-drop (omega arith) in length-take-le (s .size) (drop (s .at) b) l
 
-  pub part-is : (take (s .at + s .size - s .at) (drop (s .at) b) ≡ subBytes b s) × (length (take (s .at + s .size - s .at) (drop (s .at) b)) ≡ s .size)
-  unfolding subBytes
+  pub part-is : (take (s .at + s .size - s .at) (drop (s .at) b) ≡ subSlice b s) × (length (take (s .at + s .size - s .at) (drop (s .at) b)) ≡ s .size)
+  unfolding subSlice
   part-is =
       let e = ap (λ (n : ℕ). take n (drop (s .at) b)) end in
       (e, ap length e ∙ part-long)
 
 -- the part that stands at a call's place is the one that it hands back
-part-by : (b : List ℕ) (k : ℕ) (x : Seen) → subBytes b (placeBy b k x) ≡ partBy b k x
-unfolding subBytes
+part-by : (b : List ℕ) (k : ℕ) (x : Seen) → subSlice b (placeBy b k x) ≡ partBy b k x
+unfolding subSlice
 part-by b k (refusedBy n) = refl
 part-by b k (row r) = refl
 
-pub part-at : (tab : Table) (b : List ℕ) (k : ℕ) → subBytes b (subPlace tab b k) ≡ subBlock tab b k
+pub part-at : (tab : Table) (b : List ℕ) (k : ℕ) → subSlice b (subPlace tab b k) ≡ subBlock tab b k
 unfolding subPlace subBlock
 part-at tab b k = part-by b k (seenSub tab b k)
 
 -- a sub-block's bytes by any row: each gives it the same place
 abbrev pub bytesByAny : List ℕ → ℕ → List ℕ
-bytesByAny b k = subBytes b (subSpan (record { number = 0; highest = 0; body = []; subs = [] }) b k)
+bytesByAny b k = subSlice b (subSpan (record { number = 0; highest = 0; body = []; subs = [] }) b k)

@@ -13,44 +13,44 @@ use Rattle.rows.specs.declared.FieldRow.{FieldRow}
 use Rattle.table.specs.Lists.{pick}
 use Rattle.table.specs.Rows.{Table}
 use Rattle.table.specs.Lookup.{carried}
-use Rattle.value.specs.Said.{Said, notInRevision, refused}
+use Rattle.value.specs.Said.{FieldSaid, notInRevision, fieldRefused}
 use Rattle.value.specs.Bits.{fieldValue}
 use Rattle.block.specs.declared.Span.{Span}
 use Rattle.block.specs.Block.{revisionIn, lengthIn, subSpan, Seen, refusedBy, row, seen, seenSub}
 
 -- a field in these bytes: "not in this revision", or what it says
-unfoldable pub fieldSaid : ℕ → List ℕ → FieldRow → Said
+unfoldable pub fieldSaid : ℕ → List ℕ → FieldRow → FieldSaid
 fieldSaid revision s f = cond (carried revision f) (fieldValue s f) notInRevision
 
 -- 9: "no such field"
-abbrev pub fieldOr9 : ℕ → List ℕ → Option FieldRow → Said
-fieldOr9 revision s none = refused 9
+abbrev pub fieldOr9 : ℕ → List ℕ → Option FieldRow → FieldSaid
+fieldOr9 revision s none = fieldRefused 9
 fieldOr9 revision s (some f) = fieldSaid revision s f
 
 -- "a body field by number": "Fields, in row order, and sub-blocks are numbered from 0"
-abbrev pub bodyBy : List ℕ → ℕ → Seen → Said
-bodyBy b i (refusedBy n) = refused n
+abbrev pub bodyBy : List ℕ → ℕ → Seen → FieldSaid
+bodyBy b i (refusedBy n) = fieldRefused n
 bodyBy b i (row r) = fieldOr9 (revisionIn b) b (pick (r .body) i)
 
-unfoldable pub bodyField : Table → List ℕ → ℕ → Said
+unfoldable pub bodyField : Table → List ℕ → ℕ → FieldSaid
 bodyField tab b i = bodyBy b i (seen tab b)
 
 -- "a sub-block's bytes as a part that starts inside the block": those where it stands
-unfoldable pub subBytes : List ℕ → Span → List ℕ
-subBytes b s = take (s .size) (drop (s .at) b)
+unfoldable pub subSlice : List ℕ → Span → List ℕ
+subSlice b s = take (s .size) (drop (s .at) b)
 
 -- "a sub-block's field by two numbers"
-abbrev pub subBy : List ℕ → ℕ → ℕ → Seen → Said
-subBy b k j (refusedBy n) = refused n
-subBy b k j (row r) = fieldOr9 (revisionIn b) (subBytes b (subSpan r b k)) (pick (r .subs) j)
+abbrev pub subBy : List ℕ → ℕ → ℕ → Seen → FieldSaid
+subBy b k j (refusedBy n) = fieldRefused n
+subBy b k j (row r) = fieldOr9 (revisionIn b) (subSlice b (subSpan r b k)) (pick (r .subs) j)
 
-unfoldable pub subField : Table → List ℕ → ℕ → ℕ → Said
+unfoldable pub subField : Table → List ℕ → ℕ → ℕ → FieldSaid
 subField tab b k j = subBy b k j (seenSub tab b k)
 
 -- "A call that hands back a part then hands back an empty one"
 abbrev pub partBy : List ℕ → ℕ → Seen → List ℕ
 partBy b k (refusedBy n) = []
-partBy b k (row r) = subBytes b (subSpan r b k)
+partBy b k (row r) = subSlice b (subSpan r b k)
 
 unfoldable pub subBlock : Table → List ℕ → ℕ → List ℕ
 subBlock tab b k = partBy b k (seenSub tab b k)
@@ -82,5 +82,5 @@ abbrev pub wncRow : FieldRow
 wncRow = record { offset = 12; kind = u2; first = 0; mark = ones }
 
 -- "the TOW and WNc calls read no table and give only 1, 10 and, for L below 14, 7"
-unfoldable pub stamp : FieldRow → List ℕ → Said
-stamp f b = cond (wholeFrame b) (cond (leb 14 (lengthIn b)) (fieldValue b f) (refused 7)) (refused 10)
+unfoldable pub stamp : FieldRow → List ℕ → FieldSaid
+stamp f b = cond (wholeFrame b) (cond (leb 14 (lengthIn b)) (fieldValue b f) (fieldRefused 7)) (fieldRefused 10)

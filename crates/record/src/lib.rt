@@ -8,10 +8,10 @@ ghost use Rattle.table.specs.Decode.{decode};
 ghost use Rattle.table.specs.Rules.{tableOk};
 ghost use Rattle.record.specs.Answer.{Answers, handedSays};
 ghost use Rattle.block.specs.Block.{endsBy};
-ghost use Rattle.record.specs.Calls.{fieldSaid, bodyField, subBytes, subField, subBlock, subPlace, subBlockRefusal, towRow, wncRow, stamp};
-use block::Looked;
+ghost use Rattle.record.specs.Calls.{fieldSaid, bodyField, subSlice, subField, subBlock, subPlace, subBlockRefusal, towRow, wncRow, stamp};
+use block::Matched;
 use block::Span;
-use block::SubLooked;
+use block::SubMatched;
 use refusal::Refusal;
 use rows::FieldRow;
 use value::Value;
@@ -34,7 +34,7 @@ pub struct Placed {
 }
 
 // A field in these bytes, in which it ends if the revision carries it.
-fn field(s: &[u8], f: FieldRow, revision: u8) -> Answer
+fn field_said(s: &[u8], f: FieldRow, revision: u8) -> Answer
     requires { ⌜ endsBy revision (length (now s)) f ≡ true ⌝ }
     ensures { λ r. ⌜ Answers r (fieldSaid revision (now (s .entry)) f) ⌝ }
 {
@@ -50,23 +50,23 @@ pub fn body_field(table: &[u8], block: &[u8], i: usize) -> Answer
     ensures { λ r. ⌜ Answers r (bodyField (decode (now (table .entry))) (now (block .entry)) i) ⌝ }
 {
     match block::row_of(table, block) {
-        Looked::At(row) => {
+        Matched::At(row) => {
             let start = row.start;
             let count = row.bodies;
             if count <= i {
                 return Answer::Refused(Refusal::NoSuchField);
             }
             let f = rows::field_at(table, start + i);
-            field(block, f, block::revision(block))
+            field_said(block, f, block::revision(block))
         }
-        Looked::Refused(x) => Answer::Refused(x),
+        Matched::Refused(x) => Answer::Refused(x),
     }
 }
 
 // The part of a block that stands there.
 fn part(block: &[u8], s: Span) -> &[u8]
     requires { ⌜ s .at + s .size ≤ length (now block) ⌝ }
-    ensures { λ r. ⌜ (now r ≡ subBytes (now (block .entry)) s) × (length (now r) ≡ s .size) ⌝ }
+    ensures { λ r. ⌜ (now r ≡ subSlice (now (block .entry)) s) × (length (now r) ≡ s .size) ⌝ }
 {
     let a = s.at;
     let e = a + s.size;
@@ -79,7 +79,7 @@ pub fn sub_field(table: &[u8], block: &[u8], k: usize, j: usize) -> Answer
     ensures { λ r. ⌜ Answers r (subField (decode (now (table .entry))) (now (block .entry)) k j) ⌝ }
 {
     match block::sub_row_of(table, block, k) {
-        SubLooked::At(row, span) => {
+        SubMatched::At(row, span) => {
             let start = row.start + row.bodies;
             let count = row.subs;
             if count <= j {
@@ -87,9 +87,9 @@ pub fn sub_field(table: &[u8], block: &[u8], k: usize, j: usize) -> Answer
             }
             let f = rows::field_at(table, start + j);
             let revision = block::revision(block);
-            field(part(block, span), f, revision)
+            field_said(part(block, span), f, revision)
         }
-        SubLooked::Refused(x) => Answer::Refused(x),
+        SubMatched::Refused(x) => Answer::Refused(x),
     }
 }
 
@@ -101,11 +101,11 @@ pub fn sub_place(table: &[u8], block: &[u8], k: usize) -> Placed
     ensures { λ r. ⌜ r .span .at + r .span .size ≤ length (now (block .entry)) ⌝ }
 {
     match block::sub_row_of(table, block, k) {
-        SubLooked::At(_, span) => Placed {
+        SubMatched::At(_, span) => Placed {
             handed: Handed::Given,
             span,
         },
-        SubLooked::Refused(x) => Placed {
+        SubMatched::Refused(x) => Placed {
             handed: Handed::Refused(x),
             span: Span { at: 0, size: 0 },
         },

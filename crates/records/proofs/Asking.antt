@@ -12,11 +12,11 @@ use Rattle.table.specs.Decode.{decode}
 use Rattle.table.specs.Rules.{tableOk}
 use Rattle.block.specs.declared.Span.{Span}
 use Rattle.refusal.specs.Numbers.{numberFor}
-use Rattle.record.specs.Answer.{Said, Answers}
+use Rattle.record.specs.Answer.{FieldSaid, Answers}
 use Rattle.record.specs.declared.Answer.{Answer}
 use Rattle.record.specs.declared.Answer.the-variants as answer
 use Rattle.refusal.specs.declared.Refusal.{Refusal}
-use Rattle.record.specs.Calls.{subBytes, subPlace}
+use Rattle.record.specs.Calls.{subSlice, subPlace}
 use Rattle.record.proofs.Calls.{refuses}
 use Rattle.record.proofs.Fields.{same}
 use Rattle.record.proofs.Parts.{part-at}
@@ -40,19 +40,19 @@ asked s force e =
     record { fits = omega (arith, f .0 .«in_force», f .1); ok = passes (tableOk (tableInForce s force)) 4 none (q .1) .0 }
 
 -- an answer that is a refusal, and one that is not
-pub unless-refused : (o : Option ℕ) (x : Refusal) (said : Said) → o ≡ some (numberFor x) → Answers (answer.Refused x) (saidUnless o said)
+pub unless-refused : (o : Option ℕ) (x : Refusal) (said : FieldSaid) → o ≡ some (numberFor x) → Answers (answer.Refused x) (saidUnless o said)
 unless-refused o x said e = same (sym (ap (λ (p : Option ℕ). saidUnless p said) e)) (refuses x)
 
-pub unless-none : (o : Option ℕ) {r : Answer} (said : Said) → o ≡ none → Answers r said → Answers r (saidUnless o said)
+pub unless-none : (o : Option ℕ) {r : Answer} (said : FieldSaid) → o ≡ none → Answers r said → Answers r (saidUnless o said)
 unless-none o said e h = same (sym (ap (λ (p : Option ℕ). saidUnless p said) e)) h
 
 -- the part that stands at a call's place is the one that it hands back
-place-by : (o : Option ℕ) (b : List ℕ) (p : Span) {q : List ℕ} → subBytes b p ≡ q → subBytes b (placeUnless o p) ≡ partUnless o q
-unfolding subBytes
+place-by : (o : Option ℕ) (b : List ℕ) (p : Span) {q : List ℕ} → subSlice b p ≡ q → subSlice b (placeUnless o p) ≡ partUnless o q
+unfolding subSlice
 place-by none b p e = e
 place-by (some n) b p e = refl
 
-pub place-bytes : (s : State) (force block : List ℕ) (k : ℕ) → subBytes block (subPlaceOf s force block k) ≡ subBytesOf s force block k
+pub place-bytes : (s : State) (force block : List ℕ) (k : ℕ) → subSlice block (subPlaceOf s force block k) ≡ subBytesOf s force block k
 unfolding subPlaceOf subBytesOf
 place-bytes s force block k =
     let tab = decode (tableInForce s force) in

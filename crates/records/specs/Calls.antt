@@ -9,7 +9,7 @@ use lib.ListN.{take}
 use lib.Dec.{ltb}
 use Rattle.table.specs.Decode.{decode}
 use Rattle.rows.specs.declared.FieldRow.{FieldRow}
-use Rattle.record.specs.Answer.{Said, refused}
+use Rattle.record.specs.Answer.{FieldSaid, fieldRefused}
 use Rattle.block.specs.declared.Span.{Span}
 use Rattle.record.specs.Calls.{bodyField, subField, subBlock, nowhere, subPlace, subBlockRefusal, towRow, wncRow, stamp}
 use Rattle.reader.specs.State.{sound}
@@ -25,16 +25,16 @@ tableInForce s force = take (s .«in_force») force
 unfoldable pub askRefusal : State → List ℕ → Option ℕ
 askRefusal s force = need (sound s && longStore force) 1 (need (ltb 0 (s .«in_force»)) 5 (tableRefusal (tableInForce s force)))
 
-abbrev pub saidUnless : Option ℕ → Said → Said
-saidUnless (some n) said = refused n
+abbrev pub saidUnless : Option ℕ → FieldSaid → FieldSaid
+saidUnless (some n) said = fieldRefused n
 saidUnless none said = said
 
 -- "a body field by number"
-unfoldable pub bodyOf : State → List ℕ → List ℕ → ℕ → Said
+unfoldable pub bodyOf : State → List ℕ → List ℕ → ℕ → FieldSaid
 bodyOf s force block i = saidUnless (askRefusal s force) (bodyField (decode (tableInForce s force)) block i)
 
 -- "a sub-block's field by two numbers"
-unfoldable pub subOf : State → List ℕ → List ℕ → ℕ → ℕ → Said
+unfoldable pub subOf : State → List ℕ → List ℕ → ℕ → ℕ → FieldSaid
 subOf s force block k j = saidUnless (askRefusal s force) (subField (decode (tableInForce s force)) block k j)
 
 -- "a sub-block's bytes as a part that starts inside the block"
@@ -57,11 +57,11 @@ unfoldable pub subBytesRefusal : State → List ℕ → List ℕ → ℕ → Opt
 subBytesRefusal s force block k = firstOf (askRefusal s force) (subBlockRefusal (decode (tableInForce s force)) block k)
 
 -- "TOW (u4 at 8) and WNc (u2 at 12) .. have calls of their own"
-unfoldable pub stampOf : FieldRow → State → List ℕ → Said
+unfoldable pub stampOf : FieldRow → State → List ℕ → FieldSaid
 stampOf f s block = saidUnless (need (sound s) 1 none) (stamp f block)
 
-abbrev pub towOf : State → List ℕ → Said
+abbrev pub towOf : State → List ℕ → FieldSaid
 towOf = stampOf towRow
 
-abbrev pub wncOf : State → List ℕ → Said
+abbrev pub wncOf : State → List ℕ → FieldSaid
 wncOf = stampOf wncRow

@@ -3,9 +3,9 @@
 use mathlib.Core.Path.{_≡_, refl, sym, ap, _∙_}
 use Rattle.refusal.specs.declared.Refusal.{Refusal}
 use Rattle.refusal.specs.declared.Refusal.the-variants.{BadBuffer, OutOfTurn, RunFull, BadTable, NoTable, NoRow, TooShort, BadSubBlocks, NoSuchField, NotOneFrame}
-use Rattle.refusal.specs.Numbers.{numberFor, refusalNumbered, ToldApart}
+use Rattle.refusal.specs.Numbers.{numberFor, refusalNumbered, NumbersApart}
 
-pub back : ToldApart
+pub back : NumbersApart
 back BadBuffer = refl
 back OutOfTurn = refl
 back RunFull = refl

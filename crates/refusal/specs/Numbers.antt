@@ -29,5 +29,5 @@ abbrev pub refusalNumbered : ℕ → Refusal
 refusalNumbered n = getD refusals (n - 1) BadBuffer
 
 -- the way there and back: a refusal is the one of its number
-abbrev pub ToldApart : Type 0
-ToldApart = (x : Refusal) → x ≡ refusalNumbered (numberFor x)
+abbrev pub NumbersApart : Type 0
+NumbersApart = (x : Refusal) → x ≡ refusalNumbered (numberFor x)

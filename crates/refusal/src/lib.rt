@@ -1,6 +1,6 @@
 // Why a call is refused, and the number that document 01's table gives each refusal.
 ghost use mathlib.Core.Path.{_≡_};
-ghost use Rattle.refusal.specs.Numbers.{numberFor, ToldApart};
+ghost use Rattle.refusal.specs.Numbers.{numberFor, NumbersApart};
 
 pub enum Refusal {
     BadBuffer,
@@ -34,6 +34,6 @@ pub fn number(x: Refusal) -> u32
 }
 
 // A number tells its refusal.
-pub fn told_apart()
-    ensures { λ _. ⌜ ToldApart ⌝ }
+pub fn numbers_apart()
+    ensures { λ _. ⌜ NumbersApart ⌝ }
 {}

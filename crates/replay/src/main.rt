@@ -8,14 +8,14 @@ ghost use Rattle.play.specs.Turns.{plain};
 ghost use Rattle.replay.specs.Printed.{printed};
 use console::Course;
 use console::lines;
-use console::lines::Reading;
+use console::lines::LineReading;
 use desk::Crcs;
 use desk::Desk;
 use libc::STDERR_FILENO;
 use play::Played;
 use play::Turn;
 use script::Asked;
-use script::Call;
+use script::LineCall;
 
 // Between two lines: the desk, how many lines have ended, how many bytes of the output buffer wait to be written, and whether
 // to go on. While a line is played, it is printed from `at` on.
@@ -44,7 +44,7 @@ fn so_far(desk: Desk, ended: u64, filled: usize, course: Course) -> Script
 }
 
 // A line has ended, or the input has: makes room for what the line prints. Nothing is played on where writing failed.
-fn begin_line(s: Script, line: Reading, out: &[u8; 8192]) -> Script
+fn begin_line(s: Script, line: LineReading, out: &[u8; 8192]) -> Script
     requires { ⌜ s .filled ≤ 8192 ⌝ }
     ensures { λ r. ⌜ (r .filled ≤ 8192) × (r .at + 320 ≤ 8192) ⌝ }
 {
@@ -53,7 +53,7 @@ fn begin_line(s: Script, line: Reading, out: &[u8; 8192]) -> Script
         let stop = line.course;
         return so_far(desk, s.ended, s.filled, stop);
     }
-    let room = console::make_room(out, s.filled, show::ROOM);
+    let room = console::make_room(out, s.filled, show::CALL_LINE);
     if !room.written {
         return so_far(desk, s.ended, 0, Course::WriteFailed);
     }
@@ -74,13 +74,13 @@ fn read_call(playing: bool, line: &[u8; 270000], n: usize, given: &mut [u8; 1350
 {
     if !playing {
         return Asked {
-            call: Call::Pass,
+            call: LineCall::Pass,
             count: 0,
         };
     }
     if lines::LONGEST < n {
         return Asked {
-            call: Call::Bad,
+            call: LineCall::Bad,
             count: 0,
         };
     }

@@ -13,14 +13,14 @@ use Rattle.frame.specs.Frame.{idAt, numberOf, revisionOf}
 use Rattle.frame.specs.Judge.{judged, judgedLast}
 use Rattle.frame.specs.declared.Verdict.{Verdict}
 use Rattle.scan.specs.Settle.{settle}
-use Rattle.scan.specs.Feed.{Feeding, feedLit, stop, size}
+use Rattle.scan.specs.Feed.{Intake, feedLit, stop, size}
 use Rattle.scan.proofs.Judging.{There, Fits}
 use Rattle.scan.proofs.Stable.{judging, last-fits}
 use Rattle.scan.proofs.Settling.{Stopped, settle-stopped}
 use Rattle.scan.proofs.Marks.{passedOf-skipped}
 use Rattle.scan.proofs.Calls.{call, fed-stopped, settle-sum}
 use Rattle.feed.specs.Hold.{numbersOf}
-use Rattle.feed.specs.declared.Fed.{Fed}
+use Rattle.feed.specs.declared.HoldNumbers.{HoldNumbers}
 use Rattle.reader.specs.Counting.{one}
 use Rattle.reader.specs.Code.{oneBy, runBy, reportAt, phaseBy}
 use Rattle.reader.specs.declared.Phase.{Phase}
@@ -72,7 +72,7 @@ one-is (some zero) v w = let f : ⊥ = omega (arith, w .eight) in absurd f
 one-is (some (suc n)) v w = refl
 
 -- by the numbers that are given back as by what a call did
-pub run-on : (x : Phase) (r : Run) (f : Feeding) → WholeIf (f .standing) (f .held) → runBy x r (numbersOf f) ≡ runOn x r f
+pub run-on : (x : Phase) (r : Run) (f : Intake) → WholeIf (f .standing) (f .held) → runBy x r (numbersOf f) ≡ runOn x r f
 run-on x r f w =
     ap₂
     (λ (b s : ℕ).
@@ -103,19 +103,19 @@ whole-some = whole-of
 -- ---- numbers
 
 -- nothing is lost, so neither count passes what was there and what came
-pub record Few (n : ℕ) (f : Fed) : Type 0 where
+pub record Few (n : ℕ) (f : HoldNumbers) : Type 0 where
   pub held : f .held ≤ n + f .taken
   pub skipped : f .passed .skipped ≤ n + f .taken
 
-few-by : (n : ℕ) (F : Feeding) (f : Fed) → n + F .taken ≡ length (F .passed) + length (F .held) → f ≡ numbersOf F → Few n f
+few-by : (n : ℕ) (F : Intake) (f : HoldNumbers) → n + F .taken ≡ length (F .passed) + length (F .held) → f ≡ numbersOf F → Few n f
 few-by n F f k e =
-    let a = ap (λ (x : Fed). x .taken) e in
-    let b = ap (λ (x : Fed). x .held) e in
-    let c = ap (λ (x : Fed). x .passed .skipped) e ∙ passedOf-skipped (F .passed) in
+    let a = ap (λ (x : HoldNumbers). x .taken) e in
+    let b = ap (λ (x : HoldNumbers). x .held) e in
+    let c = ap (λ (x : HoldNumbers). x .passed .skipped) e ∙ passedOf-skipped (F .passed) in
     record { held = omega arith; skipped = omega arith }
 
-pub fed-few : (h piece : List ℕ) (room : ℕ) (f : Fed) → f ≡ numbersOf (feedLit h piece room) → Few (length h) f
+pub fed-few : (h piece : List ℕ) (room : ℕ) (f : HoldNumbers) → f ≡ numbersOf (feedLit h piece room) → Few (length h) f
 fed-few h piece room f e = few-by (length h) (feedLit h piece room) f (call judged (judging .fits) h piece room .sum) e
 
-pub end-few : (h : List ℕ) (f : Fed) → f ≡ numbersOf (stop (settle judgedLast h)) → Few (length h) f
+pub end-few : (h : List ℕ) (f : HoldNumbers) → f ≡ numbersOf (stop (settle judgedLast h)) → Few (length h) f
 end-few h f e = few-by (length h) (stop (settle judgedLast h)) f (settle-sum judgedLast h) e

@@ -11,8 +11,8 @@ use borrow.Author.Tests.{lt-ltb}
 use Rattle.frame.specs.Judge.{judged}
 use Rattle.scan.specs.Settle.{settle}
 use Rattle.scan.specs.Feed.{feedBy, feedLit, size}
-use Rattle.scan.specs.Passed.{foundOf}
-use Rattle.scan.specs.declared.Found.{Found}
+use Rattle.scan.specs.Passed.{scannedOf}
+use Rattle.scan.specs.declared.Scanned.{Scanned}
 use Rattle.runs.specs.Refusals.{isSome}
 use Rattle.runs.proofs.Feeding.{WholeIf, fed-whole}
 
@@ -21,6 +21,6 @@ has-by none v w = refl
 has-by (some n) v w = lt-ltb 0 n (omega (arith, w .eight))
 
 -- a length over 0 says that one stands
-pub gives : (h : List ℕ) (x : Found) → x ≡ foundOf (feedLit h [] (length {A = ℕ} [])) → ltb 0 (x .block) ≡ isSome (settle judged h .standing)
+pub gives : (h : List ℕ) (x : Scanned) → x ≡ scannedOf (feedLit h [] (length {A = ℕ} [])) → ltb 0 (x .block) ≡ isSome (settle judged h .standing)
 unfolding feedBy
-gives h x e = ap (λ (y : Found). ltb 0 (y .block)) e ∙ has-by (settle judged h .standing) (settle judged h .rest) (fed-whole h [] 0)
+gives h x e = ap (λ (y : Scanned). ltb 0 (y .block)) e ∙ has-by (settle judged h .standing) (settle judged h .rest) (fed-whole h [] 0)

@@ -7,7 +7,7 @@ use lib.ListN.{length, take}
 use Rattle.frame.specs.Frame.{idAt, numberOf, revisionOf}
 use Rattle.frame.specs.Judge.{judgedLast}
 use Rattle.scan.specs.Settle.{settle}
-use Rattle.scan.specs.Feed.{Feeding, feedLit, stop, size}
+use Rattle.scan.specs.Feed.{Intake, feedLit, stop, size}
 use Rattle.feed.specs.Hold.{restOf, holdOf}
 use Rattle.reader.specs.State.{limit}
 use Rattle.reader.specs.Said.{Report, Said, took, found, ended}
@@ -34,11 +34,11 @@ reportIf none p v = none
 reportIf (some n) p v = some (reported p n v)
 
 -- the run goes on in a phase by what a call did: how many bytes are held, how many of these are the block, and the counts
-abbrev pub runOn : Phase → Run → Feeding → Run
+abbrev pub runOn : Phase → Run → Intake → Run
 runOn x r f = record { phase = x; held = length (f .held); standing = size (f .standing); counts = counted (r .counts) f }
 
 -- "drops the block last reported. .. Answers the count taken, with Block (place, number, revision, length) or More."
-abbrev pub feedingBy : Feeding → State → List ℕ → Outcome
+abbrev pub feedingBy : Intake → State → List ℕ → Outcome
 feedingBy f s hold =
     record {
       said = took (f .taken) (reportIf (f .standing) (front (runOn phase.Feeding (s .run) f)) (f .held));
@@ -46,7 +46,7 @@ feedingBy f s hold =
       lent = holdOf f hold;
     }
 
-unfoldable pub feedingOf : State → List ℕ → List ℕ → Feeding
+unfoldable pub feedingOf : State → List ℕ → List ℕ → Intake
 feedingOf s hold piece = feedLit (restOf hold (s .run .held) (s .run .standing)) piece (limit - s .run .counts .taken)
 
 unfoldable pub feedOf : State → List ℕ → List ℕ → Outcome
@@ -61,12 +61,12 @@ abbrev pub finishSaid : Option ℕ → Run → List ℕ → Said
 finishSaid none r v = ended (r .counts)
 finishSaid (some n) r v = found (reported (front r) n v)
 
-abbrev pub finishingBy : Feeding → State → List ℕ → Outcome
+abbrev pub finishingBy : Intake → State → List ℕ → Outcome
 finishingBy f s hold =
     let r = runOn (phaseAfter (f .standing)) (s .run) f in
     record { said = finishSaid (f .standing) r (f .held); state = withRun s r; lent = holdOf f hold }
 
-unfoldable pub finishingOf : State → List ℕ → Feeding
+unfoldable pub finishingOf : State → List ℕ → Intake
 finishingOf s hold = stop (settle judgedLast (restOf hold (s .run .held) (s .run .standing)))
 
 unfoldable pub finishOf : State → List ℕ → Outcome

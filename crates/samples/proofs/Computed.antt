@@ -9,16 +9,16 @@ use Rattle.scan.specs.Settle.{settle}
 use Rattle.scan.specs.Feed.{feedBy}
 use Rattle.scan.specs.Passed.{countAll}
 use Rattle.feed.specs.Hold.{restOf}
-use Rattle.table.specs.Lists.{tabulate, every, chain, neighbours, first, pick}
+use Rattle.table.specs.Lists.{tabulate, every, chain, neighbours, firstThat, pick}
 use Rattle.kinds.specs.Types.{sizeOf}
 use Rattle.kinds.specs.Marks.{markFits, isDoNotUse}
 use Rattle.rows.specs.Places.{fieldAt, rowFrom, rowAt}
 use Rattle.table.specs.Decode.{rowsOf, blockOf, decode}
-use Rattle.table.specs.Rules.{fileOk, indexOk, counts, formOk, risingOk, isPair, fieldsOk, blockOk, meaningOk, tableOk}
+use Rattle.table.specs.Rules.{fileOk, indexOk, usedFields, formOk, risingOk, isPair, fieldsOk, blockOk, meaningOk, tableOk}
 use Rattle.table.specs.Lookup.{findRow}
 use Rattle.value.specs.Bits.{withSign, readAs, valueOf, fieldValue}
 use Rattle.block.specs.Block.{bodyFits, subsFit, seenRow, seen, seenSubRow, seenSub}
-use Rattle.record.specs.Calls.{fieldSaid, bodyField, subBytes, subField, subBlock, subBlockRefusal, stamp}
+use Rattle.record.specs.Calls.{fieldSaid, bodyField, subSlice, subField, subBlock, subBlockRefusal, stamp}
 use Rattle.reader.specs.State.{sound}
 use Rattle.tables.specs.Calls.{openRefusal, stageRefusal, withdrawRefusal, openOf, stageOf, withdrawOf}
 use Rattle.runs.specs.Refusals.{feedRefusal, finishRefusal, bytesRefusal}
@@ -34,5 +34,5 @@ pub record Computed : Type 0 where
   pub story : replayed flight ≡ flight
 
 pub computed : Computed
-unfolding crcOf crcFrom crcByte crcBits8 crcBit littleAt syncAt allowed endsWithin crcRight frameAt wholeFrame judged judgedLast settle feedBy countAll restOf tabulate every chain neighbours first pick sizeOf markFits fieldAt rowFrom rowAt rowsOf blockOf decode fileOk indexOk counts formOk risingOk isPair fieldsOk blockOk meaningOk tableOk findRow withSign readAs isDoNotUse valueOf fieldValue bodyFits subsFit seenRow seen seenSubRow seenSub fieldSaid bodyField subBytes subField subBlock subBlockRefusal stamp sound openRefusal feedRefusal finishRefusal bytesRefusal stageRefusal withdrawRefusal openOf feedingOf feedOf finishingOf finishOf bytesOf stageOf withdrawOf askRefusal bodyOf subOf subBytesOf subBytesRefusal stampOf step trace newWorld replayed
+unfolding crcOf crcFrom crcByte crcBits8 crcBit littleAt syncAt allowed endsWithin crcRight frameAt wholeFrame judged judgedLast settle feedBy countAll restOf tabulate every chain neighbours firstThat pick sizeOf markFits fieldAt rowFrom rowAt rowsOf blockOf decode fileOk indexOk usedFields formOk risingOk isPair fieldsOk blockOk meaningOk tableOk findRow withSign readAs isDoNotUse valueOf fieldValue bodyFits subsFit seenRow seen seenSubRow seenSub fieldSaid bodyField subSlice subField subBlock subBlockRefusal stamp sound openRefusal feedRefusal finishRefusal bytesRefusal stageRefusal withdrawRefusal openOf feedingOf feedOf finishingOf finishOf bytesOf stageOf withdrawOf askRefusal bodyOf subOf subBytesOf subBytesRefusal stampOf step trace newWorld replayed
 computed = record { samples = refl; story = refl }

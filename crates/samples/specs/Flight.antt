@@ -9,8 +9,8 @@ use mathlib.Core.Option.{Option, none, some}
 use Rattle.wire.specs.Little.{littleAt}
 use Rattle.table.specs.Lists.{pick}
 use Rattle.record.specs.Answer.{single}
-use Rattle.demands.specs.World.{stage, bytes, body, openRun, feed, finish, table, look, Answer, part, value, Line, _⇒_}
-use Rattle.samples.specs.Transcript.{Transcript, replayed, versionIs, block, ends, report}
+use Rattle.demands.specs.World.{stage, bytes, body, openRun, feed, finish, table, look, Reply, part, value, Line, _⇒_}
+use Rattle.samples.specs.Transcript.{Transcript, replayed, versionIs, blockIs, endIs, report}
 
 -- the table that the line is flown with, version 1: AttEuler without the Reserved row, so that field 5 is Roll
 abbrev pub withoutReserved : List ℕ
@@ -83,22 +83,22 @@ flight =
     -- 0 to 3: the line is opened with the table without the row, and an attitude comes
     table (stage withoutReserved) ⇒ versionIs 1
     ∷ openRun ⇒ versionIs 1
-    ∷ feed attitude ⇒ block 44 (report 0 5938 0 44)
+    ∷ feed attitude ⇒ blockIs 44 (report 0 5938 0 44)
     ∷ look bytes ⇒ part none attitude
     -- 4: field 5 is roll
     ∷ look (body attitude 5) ⇒ value (single roll)
     -- 5, 6: the release lands during the line, is taken and waits; field 5 is roll as before
     ∷ table (stage withReserved) ⇒ versionIs 2 ∷ look (body attitude 5) ⇒ value (single roll)
     -- 7 to 9: the line ends; the next is opened with the release, and the same attitude comes
-    ∷ finish ⇒ ends 44 1 0
+    ∷ finish ⇒ endIs 44 1 0
     ∷ openRun ⇒ versionIs 2
-    ∷ feed attitude ⇒ block 44 (report 0 5938 0 44)
+    ∷ feed attitude ⇒ blockIs 44 (report 0 5938 0 44)
     -- 10: now field 5 is pitch
     ∷ look (body attitude 5) ⇒ value (single pitch)
     ∷ []
 
 -- what the definitions answer to call i of the story
-abbrev pub answered : ℕ → Option Answer
+abbrev pub answered : ℕ → Option Reply
 answered i = pick (map (λ (x : Line). x .answer) (replayed flight)) i
 
 pub record FlightLine : Type 0 where

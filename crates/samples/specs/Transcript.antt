@@ -4,10 +4,10 @@ use Prim.Native.Nat.{ℕ}
 use mathlib.Core.List.{List, map}
 use mathlib.Core.Option.{none, some}
 use lib.ListN.{replicate}
-use Rattle.record.specs.Answer as fields
+use Rattle.record.specs.Answer.{fieldRefused}
 use Rattle.reader.specs.Said.{Report, version, took, found, ended}
 use Rattle.reader.specs.State.{newState}
-use Rattle.demands.specs.World.{World, Answer, said, value, Line, trace}
+use Rattle.demands.specs.World.{World, Reply, said, value, Line, trace}
 
 -- a new reader, lent the shortest buffers allowed: "a hold of at least 65,536 bytes, a store for the table in force and one for the
 -- waiting table, each at least 8,192", full of bytes 7
@@ -22,28 +22,28 @@ unfoldable pub replayed : Transcript → Transcript
 replayed t = trace (map (λ (x : Line). x .call) t) newWorld
 
 -- Open, Stage: the version
-abbrev pub versionIs : ℕ → Answer
+abbrev pub versionIs : ℕ → Reply
 versionIs v = said (version v)
 
 -- Feed: the count taken, with More
-abbrev pub more : ℕ → Answer
-more taken = said (took taken none)
+abbrev pub moreIs : ℕ → Reply
+moreIs taken = said (took taken none)
 
 -- Feed: the count taken, with Block
-abbrev pub block : ℕ → Report → Answer
-block taken b = said (took taken (some b))
+abbrev pub blockIs : ℕ → Report → Reply
+blockIs taken b = said (took taken (some b))
 
 -- Finish: Block
-abbrev pub gives : Report → Answer
-gives b = said (found b)
+abbrev pub foundIs : Report → Reply
+foundIs b = said (found b)
 
 -- Finish: End (bytes, blocks, skipped bytes)
-abbrev pub ends : ℕ → ℕ → ℕ → Answer
-ends bytes blocks skipped = said (ended (record { taken = bytes; blocks = blocks; skipped = skipped }))
+abbrev pub endIs : ℕ → ℕ → ℕ → Reply
+endIs bytes blocks skipped = said (ended (record { taken = bytes; blocks = blocks; skipped = skipped }))
 
 -- a record call: a refusal
-abbrev pub refusal : ℕ → Answer
-refusal n = value (fields.refused n)
+abbrev pub refusalIs : ℕ → Reply
+refusalIs n = value (fieldRefused n)
 
 -- "Block (place, number, revision, length)"
 abbrev pub report : ℕ → ℕ → ℕ → ℕ → Report

@@ -8,13 +8,13 @@ use native.Mathlib.Omega.{arith}
 use lib.ListN.{length, take, drop, length-drop, length-append}
 use lib.Seq.{append-snoc, drop-drop, drop-append-le}
 use Rattle.scan.specs.Settle.{Settled, settle}
-use Rattle.scan.specs.Feed.{Feeding, stop, unlessBlock, feedBy, size}
+use Rattle.scan.specs.Feed.{Intake, stop, unlessBlock, feedBy, size}
 use Rattle.frame.specs.declared.Verdict.{Verdict}
 use Rattle.scan.proofs.Judging.{Fits}
 use Rattle.scan.proofs.Settling.{settle-rest, Stopped, settle-stopped, front-by}
 
 -- one call in numbers
-pub record Call (h piece : List ℕ) (room : ℕ) (f : Feeding) : Type 0 where
+pub record CallFacts (h piece : List ℕ) (room : ℕ) (f : Intake) : Type 0 where
   pub sum : length h + f .taken ≡ length (f .passed) + length (f .held)
   pub taken : f .taken ≤ min room (length piece)
   pub front : size (f .standing) ≤ length (f .held)
@@ -31,7 +31,7 @@ module _ (judge : List ℕ → Verdict) where
   took-more none t room m h = omega arith
   took-more (some n) t room m h = omega arith
 
-  took-by : (o : Option ℕ) (s : Settled) (next : Feeding) (room m : ℕ) → s .standing ≡ o → Took (next .standing) (next .taken) (min room m)
+  took-by : (o : Option ℕ) (s : Settled) (next : Intake) (room m : ℕ) → s .standing ≡ o → Took (next .standing) (next .taken) (min room m)
       → Took (unlessBlock o s next .standing) (unlessBlock o s next .taken) (min (suc room) (suc m))
   took-by (some n) s next room m e t = subst⁻¹ (λ (o : Option ℕ). Took o 0 (min (suc room) (suc m))) e (omega arith)
   took-by none s next room m e t = took-more (next .standing) (next .taken) room m t
@@ -51,13 +51,13 @@ module _ (judge : List ℕ → Verdict) where
 
   -- ---- what is held
 
-  abbrev pub Holds : List ℕ → List ℕ → Feeding → Type 0
+  abbrev pub Holds : List ℕ → List ℕ → Intake → Type 0
   Holds h piece f = f .held ≡ drop (length (f .passed)) (h ++ take (f .taken) piece)
 
   settle-holds : (h piece : List ℕ) → Holds h piece (stop (settle judge h))
   settle-holds h piece = settle-rest judge h .is ∙ ap (drop (length (settle judge h .passed))) (sym (append-nil h))
 
-  holds-by : (o : Option ℕ) (h : List ℕ) (b : ℕ) (bs : List ℕ) (next : Feeding) → Holds (settle judge h .rest ++ b ∷ []) bs next
+  holds-by : (o : Option ℕ) (h : List ℕ) (b : ℕ) (bs : List ℕ) (next : Intake) → Holds (settle judge h .rest ++ b ∷ []) bs next
       → Holds h (b ∷ bs) (unlessBlock o (settle judge h) next)
   holds-by (some n) h b bs next e = settle-holds h (b ∷ bs)
   holds-by none h b bs next e =
@@ -80,13 +80,13 @@ module _ (judge : List ℕ → Verdict) where
 
   -- ---- how many bytes: none is lost
 
-  abbrev Sum : List ℕ → Feeding → Type 0
+  abbrev Sum : List ℕ → Intake → Type 0
   Sum h f = length h + f .taken ≡ length (f .passed) + length (f .held)
 
   pub settle-sum : (h : List ℕ) → Sum h (stop (settle judge h))
   settle-sum h = let r = settle-rest judge h in omega (arith, r .few, ap length (r .is), length-drop (length (settle judge h .passed)) h)
 
-  sum-by : (o : Option ℕ) (h : List ℕ) (b : ℕ) (next : Feeding) → Sum (settle judge h .rest ++ b ∷ []) next → Sum h (unlessBlock o (settle judge h) next)
+  sum-by : (o : Option ℕ) (h : List ℕ) (b : ℕ) (next : Intake) → Sum (settle judge h .rest ++ b ∷ []) next → Sum h (unlessBlock o (settle judge h) next)
   sum-by (some n) h b next s = settle-sum h
   sum-by none h b next s =
       omega (arith, settle-sum h, length-append (settle judge h .rest) (b ∷ []), length-append (settle judge h .passed) (next .passed))
@@ -104,7 +104,7 @@ module _ (judge : List ℕ → Verdict) where
 
   -- ---- what stands at the front of what is held
 
-  stopped-by : (o : Option ℕ) (s : Settled) (next : Feeding) → Stopped judge (s .standing) (s .rest) → Stopped judge (next .standing) (next .held)
+  stopped-by : (o : Option ℕ) (s : Settled) (next : Intake) → Stopped judge (s .standing) (s .rest) → Stopped judge (next .standing) (next .held)
       → Stopped judge (unlessBlock o s next .standing) (unlessBlock o s next .held)
   stopped-by (some n) s next h k = h
   stopped-by none s next h k = k
@@ -117,7 +117,7 @@ module _ (judge : List ℕ → Verdict) where
       stopped-by (settle judge h .standing) (settle judge h) (feedBy judge (settle judge h .rest ++ b ∷ []) bs room) (settle-stopped judge h)
       (fed-stopped bs room (settle judge h .rest ++ b ∷ []))
 
-  pub call : ((v : List ℕ) → Fits v (judge v)) → (h piece : List ℕ) (room : ℕ) → Call h piece room (feedBy judge h piece room)
+  pub call : ((v : List ℕ) → Fits v (judge v)) → (h piece : List ℕ) (room : ℕ) → CallFacts h piece room (feedBy judge h piece room)
   call fits h piece room =
       let f = feedBy judge h piece room in
       record {

@@ -35,10 +35,10 @@ needFor (CrcWrong n) = n
 needFor FewLeft = 8
 needFor PastEnd = 8
 
-abbrev pub need : Verdict → ℕ
-need (NoFrame r) = needFor r
-need (Frame n) = n
-need Undecided = 8
+abbrev pub bytesNeeded : Verdict → ℕ
+bytesNeeded (NoFrame r) = needFor r
+bytesNeeded (Frame n) = n
+bytesNeeded Undecided = 8
 
 pub record Judging (judge : List ℕ → Verdict) : Type 0 where
   pub empty : judge [] ≡ Undecided
@@ -46,4 +46,4 @@ pub record Judging (judge : List ℕ → Verdict) : Type 0 where
   -- bytes that follow do not change a verdict
   pub stays : (xs ys : List ℕ) → (judge xs ≡ Undecided → ⊥) → judge (xs ++ ys) ≡ judge xs
   -- where they bring one, fewer were there than it needs
-  pub soon : (xs ys : List ℕ) → judge xs ≡ Undecided → (judge (xs ++ ys) ≡ Undecided → ⊥) → length xs < need (judge (xs ++ ys))
+  pub soon : (xs ys : List ℕ) → judge xs ≡ Undecided → (judge (xs ++ ys) ≡ Undecided → ⊥) → length xs < bytesNeeded (judge (xs ++ ys))

@@ -9,13 +9,13 @@ use native.Mathlib.Omega.{arith}
 use lib.ListN.{length, take, drop, length-drop, length-append}
 use lib.Seq.{drop-append-le, append-snoc, drop-drop, take-nil, take-all, take-append-seam}
 use Rattle.scan.specs.Settle.{Settled, settleBy, settle}
-use Rattle.scan.specs.Feed.{Feeding, stop, goOn, unlessBlock, feedBy}
-use Rattle.scan.specs.Scan.{marks}
+use Rattle.scan.specs.Feed.{Intake, stop, goOn, unlessBlock, feedBy}
+use Rattle.scan.specs.Scan.{needed}
 use Rattle.frame.specs.declared.Reason.{Reason}
 use Rattle.frame.specs.declared.Reason.the-variants.{NoSync, LengthNotAllowed, CrcWrong, FewLeft, PastEnd}
 use Rattle.frame.specs.declared.Verdict.{Verdict}
 use Rattle.frame.specs.declared.Verdict.the-variants.{NoFrame, Frame, Undecided}
-use Rattle.scan.proofs.Judging.{There, needFor, need, Judging}
+use Rattle.scan.proofs.Judging.{There, needFor, bytesNeeded, Judging}
 use Rattle.frame.proofs.Parts.{take-drop}
 use Rattle.scan.proofs.Marks.{marks-max, marks-shift, marks-append, marks-low}
 use Rattle.scan.proofs.Settling.{before, settle-rest, Stopped, settle-stopped, after, settle-after, settle-front}
@@ -23,16 +23,16 @@ use Rattle.scan.proofs.Settling.{before, settle-rest, Stopped, settle-s
 -- how many bytes had to be taken, of n that were held and t in all, to pass the bytes for these reasons and come to this
 abbrev pub reach : Option ℕ → List Reason → ℕ → ℕ → ℕ
 reach none rs n t = t
-reach (some l) rs n t = max (marks 0 n rs) (length rs + l)
+reach (some l) rs n t = max (needed 0 n rs) (length rs + l)
 
 -- the run w settled, whose first n bytes were held
-abbrev pub toLit : Settled → List ℕ → ℕ → Feeding
+abbrev pub toLit : Settled → List ℕ → ℕ → Intake
 toLit s w n =
     let t = reach (s .standing) (s .passed) n (length w) in
     record { taken = t - n; passed = s .passed; standing = s .standing; held = drop (length (s .passed)) (take t w) }
 
 same : (t t′ : ℕ) (rs : List Reason) (o : Option ℕ) (h h′ : List ℕ) → t ≡ t′ → h ≡ h′
-    → _≡_ {A = Feeding} (record { taken = t; passed = rs; standing = o; held = h }) (record { taken = t′; passed = rs; standing = o; held = h′ })
+    → _≡_ {A = Intake} (record { taken = t; passed = rs; standing = o; held = h }) (record { taken = t′; passed = rs; standing = o; held = h′ })
 same t t′ rs o h h′ e f = ap₂ (λ (i : ℕ) (k : List ℕ). record { taken = i; passed = rs; standing = o; held = k }) e f
 
 module _ (judge : List ℕ → Verdict) (laws : Judging judge) where
@@ -60,11 +60,11 @@ module _ (judge : List ℕ → Verdict) (laws : Judging judge) where
   by-block : (h ys : List ℕ) (l : ℕ) → settle judge h .standing ≡ some l → stop (settle judge h) ≡ toLit (settle judge (h ++ ys)) (h ++ ys) (length h)
   by-block h ys l e =
       let s = settle judge h in
-      let t : max (marks 0 (length h) (s .passed)) (length (s .passed) + l) ≡ length h = reach-low h (some l) e in
+      let t : max (needed 0 (length h) (s .passed)) (length (s .passed) + l) ≡ length h = reach-low h (some l) e in
       let a : settle judge (h ++ ys) ≡ after judge laws ys (some l) (s .passed) (s .rest) =
       settle-after judge laws ys h ∙ ap (λ (o : Option ℕ). after judge laws ys o (s .passed) (s .rest)) e in
       ap (λ (o : Option ℕ). record { taken = 0; passed = s .passed; standing = o; held = s .rest }) e
-      ∙ same 0 (max (marks 0 (length h) (s .passed)) (length (s .passed) + l) - length h) (s .passed) (some l) (s .rest) _ (omega arith)
+      ∙ same 0 (max (needed 0 (length h) (s .passed)) (length (s .passed) + l) - length h) (s .passed) (some l) (s .rest) _ (omega arith)
       (settle-rest judge h .is ∙ ap (drop (length (s .passed))) (sym (ap (λ (i : ℕ). take i (h ++ ys)) t ∙ take-append-seam h ys)))
       ∙ ap (λ (k : Settled). toLit k (h ++ ys) (length h)) (sym a)
 
@@ -72,10 +72,10 @@ module _ (judge : List ℕ → Verdict) (laws : Judging judge) where
 
   -- an undecided place: what comes to be decided there needs a byte more
   Needs : ℕ → Settled → Type 0
-  Needs k s = (l : ℕ) → s .standing ≡ some l → k < max (marks 0 0 (s .passed)) (length (s .passed) + l)
+  Needs k s = (l : ℕ) → s .standing ≡ some l → k < max (needed 0 0 (s .passed)) (length (s .passed) + l)
 
-  needs-first : (r : Reason) (k p : ℕ) → k < needFor r → (rs : List Reason) (l : ℕ) → 8 ≤ l → k < max (marks 0 0 (r ∷ rs)) (suc (length rs) + l)
-  unfolding marks
+  needs-first : (r : Reason) (k p : ℕ) → k < needFor r → (rs : List Reason) (l : ℕ) → 8 ≤ l → k < max (needed 0 0 (r ∷ rs)) (suc (length rs) + l)
+  unfolding needed
   needs-first NoSync k p h rs l e = omega arith
   needs-first LengthNotAllowed k p h rs l e = omega arith
   needs-first (CrcWrong n) k p h rs l e = omega (arith, marks-max rs (0 + 1) (max 0 (0 + n)))
@@ -88,27 +88,27 @@ module _ (judge : List ℕ → Verdict) (laws : Judging judge) where
       let t : There l (settle judge h .rest) = rw q at (laws .fits (settle judge h .rest)) in
       t .eight
 
-  needs-by : (x : Verdict) (k b : ℕ) (bs : List ℕ) → judge (b ∷ bs) ≡ x → ((x ≡ Undecided → ⊥) → k < need x) → Needs k (settleBy x (b ∷ bs) (settle judge bs))
-  unfolding Needs marks
+  needs-by : (x : Verdict) (k b : ℕ) (bs : List ℕ) → judge (b ∷ bs) ≡ x → ((x ≡ Undecided → ⊥) → k < bytesNeeded x) → Needs k (settleBy x (b ∷ bs) (settle judge bs))
+  unfolding Needs needed
   needs-by (NoFrame r) k b bs e n l f =
       needs-first r k 0 (n (λ u. let z : _≡_ {A = ℕ} 0 1 = cc in omega arith)) (settle judge bs .passed) l (big bs l f)
   needs-by (Frame m) k b bs e n l f =
       let q : m ≡ l = cc in omega (arith, n (λ u. let z : _≡_ {A = ℕ} 0 1 = cc in omega arith))
   needs-by Undecided k b bs e n l f = let z : _≡_ {A = ℕ} 0 1 = cc in let g : ⊥ = omega arith in absurd g
 
-  needs : (v : List ℕ) (k : ℕ) → ((judge v ≡ Undecided → ⊥) → k < need (judge v)) → Needs k (settle judge v)
+  needs : (v : List ℕ) (k : ℕ) → ((judge v ≡ Undecided → ⊥) → k < bytesNeeded (judge v)) → Needs k (settle judge v)
   unfolding settle Needs
   needs [] k n l f = let z : _≡_ {A = ℕ} 0 1 = cc in let g : ⊥ = omega arith in absurd g
   needs (b ∷ bs) k n l f = needs-by (judge (b ∷ bs)) k b bs refl n l f
 
   -- the bytes that had to be taken, counted from the start of the run and from behind what was passed
-  further : (o : Option ℕ) (ps rs : List Reason) (n k t : ℕ) → n ≡ length ps + k → marks 0 n ps ≡ n
-      → ((l : ℕ) → o ≡ some l → k < max (marks 0 0 rs) (length rs + l))
+  further : (o : Option ℕ) (ps rs : List Reason) (n k t : ℕ) → n ≡ length ps + k → needed 0 n ps ≡ n
+      → ((l : ℕ) → o ≡ some l → k < max (needed 0 0 rs) (length rs + l))
       → reach o (ps ++ rs) n (length ps + t) ≡ length ps + reach o rs (suc k) t
   further none ps rs n k t e m f = refl
   further (some l) ps rs n k t e m f =
-      let a : marks 0 n (ps ++ rs) ≡ length ps + marks 0 k rs =
-      marks-append ps rs 0 n ∙ ap₂ (λ (i j : ℕ). marks i j rs) (omega arith) (m ∙ e) ∙ marks-shift rs (length ps) 0 k in
+      let a : needed 0 n (ps ++ rs) ≡ length ps + needed 0 k rs =
+      marks-append ps rs 0 n ∙ ap₂ (λ (i j : ℕ). needed i j rs) (omega arith) (m ∙ e) ∙ marks-shift rs (length ps) 0 k in
       omega (arith, a, length-append ps rs, marks-max rs 0 k, marks-max rs 0 (suc k), f l refl)
 
   least : (o : Option ℕ) (rs : List Reason) (n t : ℕ) → n ≤ t → n ≤ reach o rs n t
@@ -119,7 +119,7 @@ module _ (judge : List ℕ → Verdict) (laws : Judging judge) where
   undecided h e =
       ⊎-elim (λ z. ap judge z ∙ laws .empty) (λ q. q) (subst (λ (o : Option ℕ). Stopped judge o (settle judge h .rest)) e (settle-stopped judge h))
 
-  by-more : (h : List ℕ) (b : ℕ) (ys : List ℕ) (next : Feeding) → settle judge h .standing ≡ none
+  by-more : (h : List ℕ) (b : ℕ) (ys : List ℕ) (next : Intake) → settle judge h .standing ≡ none
       → next ≡ toLit (settle judge (settle judge h .rest ++ b ∷ [] ++ ys)) (settle judge h .rest ++ b ∷ [] ++ ys) (length (settle judge h .rest ++ b ∷ []))
       → goOn (settle judge h) next ≡ toLit (settle judge (h ++ b ∷ ys)) (h ++ b ∷ ys) (length h)
   unfolding Needs
@@ -155,7 +155,7 @@ module _ (judge : List ℕ → Verdict) (laws : Judging judge) where
       ∙ ap₂ (λ (i j : ℕ). drop i (take j w)) (sym (length-append ps (s .passed))) (sym far))
       ∙ ap (λ (k : Settled). toLit k (h ++ b ∷ ys) (length h)) (sym a)
 
-  by-option : (o : Option ℕ) (h : List ℕ) (b : ℕ) (ys : List ℕ) (next : Feeding) → settle judge h .standing ≡ o
+  by-option : (o : Option ℕ) (h : List ℕ) (b : ℕ) (ys : List ℕ) (next : Intake) → settle judge h .standing ≡ o
       → next ≡ toLit (settle judge (settle judge h .rest ++ b ∷ [] ++ ys)) (settle judge h .rest ++ b ∷ [] ++ ys) (length (settle judge h .rest ++ b ∷ []))
       → unlessBlock o (settle judge h) next ≡ toLit (settle judge (h ++ b ∷ ys)) (h ++ b ∷ ys) (length h)
   by-option (some l) h b ys next e rec = by-block h (b ∷ ys) l e

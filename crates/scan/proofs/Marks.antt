@@ -8,7 +8,7 @@ use native.Mathlib.Omega.{arith}
 use lib.ListN.{length, replicate}
 use Rattle.scan.specs.Settle.{Settled, settleBy, settle}
 use Rattle.scan.specs.Passed.{nothingPassed, count, countAll, passedOf}
-use Rattle.scan.specs.Scan.{raised, marks}
+use Rattle.scan.specs.Scan.{raised, needed}
 use Rattle.frame.specs.declared.Reason.{Reason}
 use Rattle.frame.specs.declared.Reason.the-variants.{NoSync, LengthNotAllowed, CrcWrong, FewLeft, PastEnd}
 use Rattle.frame.specs.declared.Verdict.{Verdict}
@@ -50,8 +50,8 @@ raised-max (CrcWrong n) p m = omega arith
 raised-max FewLeft p m = omega arith
 raised-max PastEnd p m = omega arith
 
-pub marks-max : (rs : List Reason) (p m : ℕ) → marks p m rs ≡ max m (marks p 0 rs)
-unfolding marks
+pub marks-max : (rs : List Reason) (p m : ℕ) → needed p m rs ≡ max m (needed p 0 rs)
+unfolding needed
 marks-max [] p m = omega arith
 marks-max (r ∷ rs) p m = omega (arith, marks-max rs (p + 1) (raised r p m), marks-max rs (p + 1) (raised r p 0), raised-max r p m)
 
@@ -62,19 +62,19 @@ raised-shift (CrcWrong n) s p m = omega arith
 raised-shift FewLeft s p m = refl
 raised-shift PastEnd s p m = refl
 
-pub marks-shift : (rs : List Reason) (s p m : ℕ) → marks (s + p) (s + m) rs ≡ s + marks p m rs
-unfolding marks
+pub marks-shift : (rs : List Reason) (s p m : ℕ) → needed (s + p) (s + m) rs ≡ s + needed p m rs
+unfolding needed
 marks-shift [] s p m = refl
 marks-shift (r ∷ rs) s p m =
     let e : s + p + 1 ≡ s + (p + 1) = omega arith in
-    ap₂ (λ (i k : ℕ). marks i k rs) e (raised-shift r s p m) ∙ marks-shift rs s (p + 1) (raised r p m)
+    ap₂ (λ (i k : ℕ). needed i k rs) e (raised-shift r s p m) ∙ marks-shift rs s (p + 1) (raised r p m)
 
-pub marks-append : (xs ys : List Reason) (p m : ℕ) → marks p m (xs ++ ys) ≡ marks (p + length xs) (marks p m xs) ys
-unfolding marks
-marks-append [] ys p m = ap (λ (i : ℕ). marks i m ys) (sym (add-zero p))
+pub marks-append : (xs ys : List Reason) (p m : ℕ) → needed p m (xs ++ ys) ≡ needed (p + length xs) (needed p m xs) ys
+unfolding needed
+marks-append [] ys p m = ap (λ (i : ℕ). needed i m ys) (sym (add-zero p))
 marks-append (r ∷ xs) ys p m =
     let e : p + 1 + length xs ≡ p + suc (length xs) = omega arith in
-    marks-append xs ys (p + 1) (raised r p m) ∙ ap (λ (i : ℕ). marks i (marks (p + 1) (raised r p m) xs) ys) e
+    marks-append xs ys (p + 1) (raised r p m) ∙ ap (λ (i : ℕ). needed i (needed (p + 1) (raised r p m) xs) ys) e
 
 -- what is passed with the bytes that are there raises no mark past them
 module _ (judge : List ℕ → Verdict) (fits : (v : List ℕ) → Fits v (judge v)) where
@@ -86,14 +86,14 @@ module _ (judge : List ℕ → Verdict) (fits : (v : List ℕ) → Fits v (judge
   low PastEnd v p m f l = refl
 
   low-by : (x : Verdict) (b : ℕ) (bs : List ℕ) (next : Settled) (p m : ℕ) → Fits (b ∷ bs) x → p + suc (length bs) ≤ m
-      → marks (p + 1) m (next .passed) ≡ m → marks p m (settleBy x (b ∷ bs) next .passed) ≡ m
-  unfolding marks
-  low-by (NoFrame r) b bs next p m f l rec = ap (λ (k : ℕ). marks (p + 1) k (next .passed)) (low r (b ∷ bs) p m f l) ∙ rec
+      → needed (p + 1) m (next .passed) ≡ m → needed p m (settleBy x (b ∷ bs) next .passed) ≡ m
+  unfolding needed
+  low-by (NoFrame r) b bs next p m f l rec = ap (λ (k : ℕ). needed (p + 1) k (next .passed)) (low r (b ∷ bs) p m f l) ∙ rec
   low-by (Frame n) b bs next p m f l rec = refl
   low-by Undecided b bs next p m f l rec = refl
 
-  pub marks-low : (h : List ℕ) (p m : ℕ) → p + length h ≤ m → marks p m (settle judge h .passed) ≡ m
-  unfolding settle marks
+  pub marks-low : (h : List ℕ) (p m : ℕ) → p + length h ≤ m → needed p m (settle judge h .passed) ≡ m
+  unfolding settle needed
   marks-low [] p m l = refl
   marks-low (b ∷ bs) p m l =
       low-by (judge (b ∷ bs)) b bs (settle judge bs) p m (fits (b ∷ bs)) l (marks-low bs (p + 1) m (omega arith))

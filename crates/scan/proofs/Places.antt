@@ -12,15 +12,15 @@ use Rattle.frame.specs.Judge.{judged, lastBy, judgedLast}
 use Rattle.scan.specs.Settle.{Settled, stopAt, settleBy, settle}
 use Rattle.scan.specs.Feed.{size}
 use Rattle.scan.specs.Passed.{count, countAll}
-use Rattle.scan.specs.Scan.{behind, raised, marks, partBy, partOf, NoStart}
+use Rattle.scan.specs.Scan.{withRest, raised, needed, stretchBy, stretchOf, NoStart}
 use Rattle.frame.specs.declared.Reason.{Reason}
 use Rattle.frame.specs.declared.Reason.the-variants.{NoSync}
 use Rattle.frame.specs.declared.Verdict.{Verdict}
 use Rattle.frame.specs.declared.Verdict.the-variants.{NoFrame, Frame, Undecided}
 use Rattle.scan.specs.declared.Passed.{Passed}
-use Rattle.scan.specs.declared.Found.{Found}
-use Rattle.scan.specs.declared.Part.{Part}
-use Rattle.scan.specs.declared.Part.the-variants.{Block, Waits, Through}
+use Rattle.scan.specs.declared.Scanned.{Scanned}
+use Rattle.scan.specs.declared.Stretch.{Stretch}
+use Rattle.scan.specs.declared.Stretch.the-variants.{Block, Waits, Through}
 use Rattle.frame.proofs.Tests.{eq?}
 use Rattle.frame.proofs.Cases.{sync0, sync1, byte0, byte}
 
@@ -65,34 +65,34 @@ module _ (s rest : List ℕ) (k : ℕ) (l : k < length s) where
 
 module _ (s rest : List ℕ) where
   -- those from k on, where a was passed before
-  abbrev pub fromPlace : ℕ → Passed → ℕ → Part
-  fromPlace k a m = partOf (settle (behind judged rest) (drop k s)) a m
+  abbrev pub fromPlace : ℕ → Passed → ℕ → Stretch
+  fromPlace k a m = stretchOf (settle (withRest judged rest) (drop k s)) a m
 
   pub part-stop : (k : ℕ) (a : Passed) (m : ℕ) {x : Verdict} → k < length s → judged (drop k s ++ rest) ≡ x
-      → fromPlace k a m ≡ partOf (settleBy x (drop k s) (settle (behind judged rest) (drop (k + 1) s))) a m
-  part-stop k a m l e = ap (λ (y : Settled). partOf y a m) (at-by (behind judged rest) s k l e)
+      → fromPlace k a m ≡ stretchOf (settleBy x (drop k s) (settle (withRest judged rest) (drop (k + 1) s))) a m
+  part-stop k a m l e = ap (λ (y : Settled). stretchOf y a m) (at-by (withRest judged rest) s k l e)
 
   -- a place that is not decided has a byte
-  waits-by : (v : List ℕ) (a : Passed) (m : ℕ) → 0 < length v → partBy none v a m ≡ Waits a
+  waits-by : (v : List ℕ) (a : Passed) (m : ℕ) → 0 < length v → stretchBy none v a m ≡ Waits a
   waits-by [] a m l = let f : ⊥ = omega arith in absurd f
   waits-by (b ∷ bs) a m l = refl
 
   pub part-frame : (k : ℕ) (a : Passed) (m n : ℕ) → k < length s → judged (drop k s ++ rest) ≡ Frame n → fromPlace k a m ≡ Block a n (max m (a .skipped + n))
-  unfolding countAll marks
+  unfolding countAll needed
   part-frame k a m n l e = part-stop k a m l e
 
   pub part-waits : (k : ℕ) (a : Passed) (m : ℕ) → k < length s → judged (drop k s ++ rest) ≡ Undecided → fromPlace k a m ≡ Waits a
-  unfolding countAll marks
+  unfolding countAll needed
   part-waits k a m l e = part-stop k a m l e ∙ waits-by (drop k s) a m (omega (arith, length-drop k s))
 
   pub part-pass : (k : ℕ) (a : Passed) (m : ℕ) (r : Reason) → k < length s → judged (drop k s ++ rest) ≡ NoFrame r
       → fromPlace k a m ≡ fromPlace (k + 1) (count a r) (raised r (a .skipped) m)
-  unfolding countAll marks
+  unfolding countAll needed
   part-pass k a m r l e = part-stop k a m l e
 
   pub part-end : (k : ℕ) (a : Passed) (m : ℕ) → length s ≤ k → fromPlace k a m ≡ Through a m
-  unfolding countAll marks
-  part-end k a m h = ap (λ (y : Settled). partOf y a m) (none-left (behind judged rest) (drop k s) (drop-of-length-le s h))
+  unfolding countAll needed
+  part-end k a m h = ap (λ (y : Settled). stretchOf y a m) (none-left (withRest judged rest) (drop k s) (drop-of-length-le s h))
 
   skip-by : (d k q : ℕ) (a : Passed) (m : ℕ) → k + d ≡ q → q ≤ length s → ((i : ℕ) → k ≤ i → i < q → judged (drop i s ++ rest) ≡ NoFrame NoSync)
       → fromPlace k a m ≡ fromPlace q (countAll a (replicate d NoSync)) m
@@ -111,12 +111,12 @@ module _ (s rest : List ℕ) where
 -- ---- the places of the run's last bytes
 
 -- what is settled with nothing to follow, where a was passed before
-abbrev pub endOf : Settled → Passed → Found
+abbrev pub endOf : Settled → Passed → Scanned
 endOf s a = record { taken = 0; passed = countAll a (s .passed); block = size (s .standing) }
 
 module _ (s : List ℕ) where
   -- those from k on
-  abbrev pub fromEnd : ℕ → Passed → Found
+  abbrev pub fromEnd : ℕ → Passed → Scanned
   fromEnd k a = endOf (settle judgedLast (drop k s)) a
 
   pub end-frame : (k : ℕ) (a : Passed) (n : ℕ) → k < length s → judgedLast (drop k s) ≡ Frame n → fromEnd k a ≡ record { taken = 0; passed = a; block = n }

@@ -9,7 +9,7 @@ use native.Mathlib.Omega.{arith}
 use lib.ListN.{length, drop}
 use Rattle.scan.specs.Settle.{Settled, pass, settleBy, settle}
 use Rattle.scan.specs.Feed.{size}
-use Rattle.scan.specs.Scan.{behind}
+use Rattle.scan.specs.Scan.{withRest}
 use Rattle.frame.specs.declared.Reason.{Reason}
 use Rattle.frame.specs.declared.Verdict.{Verdict}
 use Rattle.frame.specs.declared.Verdict.the-variants.{NoFrame, Frame, Undecided}
@@ -103,10 +103,10 @@ module _ (judge : List ℕ → Verdict) (rest : List ℕ) where
   joined-by Undecided b bs next e = refl
 
   pub settle-joined : (s : List ℕ) → settle judge (s ++ rest)
-      ≡ joined (settle (behind judge rest) s .standing) (settle (behind judge rest) s .passed) (settle (behind judge rest) s .rest)
+      ≡ joined (settle (withRest judge rest) s .standing) (settle (withRest judge rest) s .passed) (settle (withRest judge rest) s .rest)
   unfolding settle
   settle-joined [] = refl
-  settle-joined (b ∷ bs) = joined-by (judge (b ∷ bs ++ rest)) b bs (settle (behind judge rest) bs) (settle-joined bs)
+  settle-joined (b ∷ bs) = joined-by (judge (b ∷ bs ++ rest)) b bs (settle (withRest judge rest) bs) (settle-joined bs)
 
 -- ---- a standing block is there whole
 

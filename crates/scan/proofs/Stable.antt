@@ -19,7 +19,7 @@ use Rattle.frame.specs.declared.Verdict.the-variants.{NoFrame, Frame, Undecided
 use Rattle.frame.proofs.Tests.{bool?, lt?}
 use Rattle.frame.proofs.Cases.{empty, sync0, sync1, bad-length, part, good, bad}
 use Rattle.frame.proofs.View.{Head, allows, View, waits-head, waits-body, at-sync0, at-sync1, at-length, at-bad, at-good, view}
-use Rattle.scan.proofs.Judging.{FitsFor, Fits, need, Judging}
+use Rattle.scan.proofs.Judging.{FitsFor, Fits, bytesNeeded, Judging}
 
 -- ---- what is read of the first bytes is read of them with more behind
 
@@ -80,7 +80,7 @@ module _ (xs ys : List ℕ) where
   stays-of (at-bad h a l q) n = bad-on h a (omega (arith, long)) (crc-same h l ∙ q)
   stays-of (at-good h a l q) n = good-on h a (omega (arith, long)) (crc-same h l ∙ q)
 
-need-of : (v : List ℕ) {x : Verdict} → View v x → 8 ≤ need x
+need-of : (v : List ℕ) {x : Verdict} → View v x → 8 ≤ bytesNeeded x
 need-of v (waits-head h f s) = omega arith
 need-of v (waits-body h a l) = omega arith
 need-of v (at-sync0 l a) = omega arith
@@ -91,7 +91,7 @@ need-of v (at-good h a l q) = allows (lengthAt v 0) a .not-small
 
 module _ (xs ys : List ℕ) (n : judged (xs ++ ys) ≡ Undecided → ⊥) where
   abbrev Soon : Verdict → Type 0
-  Soon x = length xs < need x
+  Soon x = length xs < bytesNeeded x
 
   soon-of : {x : Verdict} → View xs x → x ≡ Undecided → Soon (judged (xs ++ ys))
   soon-of (waits-head h f s) e = omega (arith, need-of (xs ++ ys) (view (xs ++ ys)))

@@ -10,8 +10,8 @@ use Rattle.frame.proofs.Tests.{lt?, eq?}
 
 module _ (s : List ℕ) where
   -- what is asked of a place that is passed
-  abbrev pub Passed : ℕ → Type 0
-  Passed k = getD s k 0 ≡ 0x24 → (k + 1 < length s) × (getD s (k + 1) 0 ≡ 0x40 → ⊥)
+  abbrev pub StartsPassed : ℕ → Type 0
+  StartsPassed k = getD s k 0 ≡ 0x24 → (k + 1 < length s) × (getD s (k + 1) 0 ≡ 0x40 → ⊥)
 
   pub no-dollar : {i r : ℕ} → NoDollar s i r → NoStart s i r
   no-dollar h = record { from = h .from; within = h .within; none = λ k lo hi e. absurd (h .none k lo hi e) }
@@ -20,7 +20,7 @@ module _ (s : List ℕ) where
   nothing k l = record { from = omega arith; within = l; none = λ j lo hi e. let f : ⊥ = omega arith in f }
 
   -- one place more, and then places with no first sync byte
-  pub go-on : {i k r : ℕ} → NoStart s i k → Passed k → NoDollar s (k + 1) r → NoStart s i r
+  pub go-on : {i k r : ℕ} → NoStart s i k → StartsPassed k → NoDollar s (k + 1) r → NoStart s i r
   go-on {i} {k} {r} h p n =
       record {
         from = omega (arith, h .from, n .from);
@@ -28,5 +28,5 @@ module _ (s : List ℕ) where
         none =
             λ j lo hi.
             lt? j k (λ l. h .none j lo l)
-            (λ l. eq? j k (λ e. subst⁻¹ Passed e p) (λ ne. λ e. absurd (n .none j (omega (arith, ne)) hi e)));
+            (λ l. eq? j k (λ e. subst⁻¹ StartsPassed e p) (λ ne. λ e. absurd (n .none j (omega (arith, ne)) hi e)));
       }

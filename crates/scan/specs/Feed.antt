@@ -10,34 +10,34 @@ use Rattle.frame.specs.declared.Verdict.{Verdict}
 
 -- how many bytes of the piece were taken, why each skipped byte was skipped, the length of the block at the front of the held
 -- bytes, and these
-pub record Feeding : Type 0 where
+pub record Intake : Type 0 where
   pub taken : ℕ
   pub passed : List Reason
   pub standing : Option ℕ
   pub held : List ℕ
 
 -- no byte is taken
-abbrev pub stop : Settled → Feeding
+abbrev pub stop : Settled → Intake
 stop s = record { taken = 0; passed = s .passed; standing = s .standing; held = s .rest }
 
 -- a byte is taken, and then `next` comes
-abbrev pub goOn : Settled → Feeding → Feeding
+abbrev pub goOn : Settled → Intake → Intake
 goOn s next =
     record { taken = suc (next .taken); passed = s .passed ++ next .passed; standing = next .standing; held = next .held }
 
-abbrev pub unlessBlock : Option ℕ → Settled → Feeding → Feeding
+abbrev pub unlessBlock : Option ℕ → Settled → Intake → Intake
 unlessBlock (some n) s next = stop s
 unlessBlock none s next = goOn s next
 
 -- "If the held bytes give a block, reports it and takes 0 bytes. Else takes bytes one at a time until a block is decided, the
 -- piece is spent or the run has 4,294,967,295 bytes." `room` is how many bytes the run may still take
-unfoldable pub feedBy : (List ℕ → Verdict) → List ℕ → List ℕ → ℕ → Feeding
+unfoldable pub feedBy : (List ℕ → Verdict) → List ℕ → List ℕ → ℕ → Intake
 feedBy judge held [] room = stop (settle judge held)
 feedBy judge held (b ∷ bs) zero = stop (settle judge held)
 feedBy judge held (b ∷ bs) (suc room) =
     unlessBlock (settle judge held .standing) (settle judge held) (feedBy judge (settle judge held .rest ++ b ∷ []) bs room)
 
-abbrev pub feedLit : List ℕ → List ℕ → ℕ → Feeding
+abbrev pub feedLit : List ℕ → List ℕ → ℕ → Intake
 feedLit = feedBy judged
 
 -- the length of the standing block, 0 for none

@@ -2,10 +2,10 @@
 -- Assumes nothing.
 use Prim.Native.Nat.{_+_}
 use mathlib.Core.List.{List, [], _∷_}
-use Rattle.scan.specs.Feed.{Feeding, size}
+use Rattle.scan.specs.Feed.{Intake, size}
 use Rattle.frame.specs.declared.Reason.{Reason}
 use Rattle.scan.specs.declared.Passed.{Passed}
-use Rattle.scan.specs.declared.Found.{Found}
+use Rattle.scan.specs.declared.Scanned.{Scanned}
 
 abbrev pub nothingPassed : Passed
 nothingPassed = record { skipped = 0 }
@@ -21,5 +21,5 @@ countAll a (r ∷ rs) = countAll (count a r) rs
 abbrev pub passedOf : List Reason → Passed
 passedOf rs = countAll nothingPassed rs
 
-abbrev pub foundOf : Feeding → Found
-foundOf f = record { taken = f .taken; passed = passedOf (f .passed); block = size (f .standing) }
+abbrev pub scannedOf : Intake → Scanned
+scannedOf f = record { taken = f .taken; passed = passedOf (f .passed); block = size (f .standing) }

@@ -11,14 +11,14 @@ use Rattle.frame.specs.declared.Reason.{Reason}
 use Rattle.frame.specs.declared.Reason.the-variants.{NoSync, LengthNotAllowed, CrcWrong, FewLeft, PastEnd}
 use Rattle.frame.specs.declared.Verdict.{Verdict}
 use Rattle.scan.specs.declared.Passed.{Passed}
-use Rattle.scan.specs.declared.Part.{Part}
-use Rattle.scan.specs.declared.Part.the-variants.{Block, Waits, Through}
+use Rattle.scan.specs.declared.Stretch.{Stretch}
+use Rattle.scan.specs.declared.Stretch.the-variants.{Block, Waits, Through}
 
 -- ---- a part of the run
 
 -- a judge of the places of a part, with `rest` behind it
-abbrev pub behind : (List ℕ → Verdict) → List ℕ → List ℕ → Verdict
-behind judge rest v = judge (v ++ rest)
+abbrev pub withRest : (List ℕ → Verdict) → List ℕ → List ℕ → Verdict
+withRest judge rest v = judge (v ++ rest)
 
 -- how many bytes had to be taken to pass the place p, where m had to be before. Only a wrong CRC raises the mark: a block has at
 -- least the eight bytes that another verdict rests on
@@ -29,18 +29,18 @@ raised (CrcWrong n) p m = max m (p + n)
 raised FewLeft p m = m
 raised PastEnd p m = m
 
-unfoldable pub marks : ℕ → ℕ → List Reason → ℕ
-marks p m [] = m
-marks p m (r ∷ rs) = marks (p + 1) (raised r p m) rs
+unfoldable pub needed : ℕ → ℕ → List Reason → ℕ
+needed p m [] = m
+needed p m (r ∷ rs) = needed (p + 1) (raised r p m) rs
 
-abbrev pub partBy : Option ℕ → List ℕ → Passed → ℕ → Part
-partBy (some n) v a m = Block a n (max m (a .skipped + n))
-partBy none (b ∷ bs) a m = Waits a
-partBy none [] a m = Through a m
+abbrev pub stretchBy : Option ℕ → List ℕ → Passed → ℕ → Stretch
+stretchBy (some n) v a m = Block a n (max m (a .skipped + n))
+stretchBy none (b ∷ bs) a m = Waits a
+stretchBy none [] a m = Through a m
 
 -- a part settled, where a was passed before and m bytes had to be taken
-abbrev pub partOf : Settled → Passed → ℕ → Part
-partOf s a m = partBy (s .standing) (s .rest) (countAll a (s .passed)) (marks (a .skipped) m (s .passed))
+abbrev pub stretchOf : Settled → Passed → ℕ → Stretch
+stretchOf s a m = stretchBy (s .standing) (s .rest) (countAll a (s .passed)) (needed (a .skipped) m (s .passed))
 
 -- ---- places where no frame can start
 

@@ -7,8 +7,8 @@ ghost use Rattle.frame.specs.Judge.{judged, judgedLast};
 ghost use Rattle.scan.specs.Settle.{settle};
 ghost use Rattle.scan.specs.Feed.{feedLit, stop};
 ghost use Rattle.frame.specs.declared.Reason.the-variants.{NoSync};
-ghost use Rattle.scan.specs.Passed.{nothingPassed, count, countAll, foundOf};
-ghost use Rattle.scan.specs.Scan.{NoDollar, NoStart, behind, partOf};
+ghost use Rattle.scan.specs.Passed.{nothingPassed, count, countAll, scannedOf};
+ghost use Rattle.scan.specs.Scan.{NoDollar, NoStart, withRest, stretchOf};
 use frame::Reason;
 use frame::Verdict;
 
@@ -18,7 +18,7 @@ pub struct Passed {
 }
 
 // What a scan comes to.
-pub struct Found {
+pub struct Scanned {
     // How many bytes of the piece had to be taken.
     pub taken: usize,
     pub passed: Passed,
@@ -27,7 +27,7 @@ pub struct Found {
 }
 
 // What the places of a part come to.
-pub enum Part {
+pub enum Stretch {
     // A block of so many bytes behind those passed, and how many bytes of the run had to be taken.
     Block(Passed, usize, usize),
     // The place behind those passed is not decided.
@@ -117,9 +117,9 @@ fn count_no_sync(a: Passed, n: usize) -> Passed
 }
 
 // The places of `s`, with `rest` behind it; `before` are passed, for which `mark` bytes had to be taken.
-fn scan_part(s: &[u8], rest: &[u8], before: Passed, mark: usize) -> Part
+fn scan_part(s: &[u8], rest: &[u8], before: Passed, mark: usize) -> Stretch
     requires { ⌜ before .skipped + length (now s) + length (now rest) < 18446744073709551616 ⌝ }
-    ensures { λ r. ⌜ r ≡ partOf (settle (behind judged (now (rest .entry))) (now (s .entry))) before mark ⌝ }
+    ensures { λ r. ⌜ r ≡ stretchOf (settle (withRest judged (now (rest .entry))) (now (s .entry))) before mark ⌝ }
 {
     let mut k: usize = 0;
     let mut m = mark;
@@ -128,16 +128,16 @@ fn scan_part(s: &[u8], rest: &[u8], before: Passed, mark: usize) -> Part
         let p = start_from(s, k);
         passed = count_no_sync(passed, p - k);
         if p == s.len() {
-            return Part::Through(passed, m);
+            return Stretch::Through(passed, m);
         }
         let place = passed.skipped;
         let v = frame::judge(&s[p..], rest);
         match v {
             Verdict::Frame(n) => {
-                return Part::Block(passed, n, greater(m, place + n));
+                return Stretch::Block(passed, n, greater(m, place + n));
             }
             Verdict::Undecided => {
-                return Part::Waits(passed);
+                return Stretch::Waits(passed);
             }
             Verdict::NoFrame(why) => {
                 passed = count(passed, why);
@@ -154,39 +154,39 @@ fn scan_part(s: &[u8], rest: &[u8], before: Passed, mark: usize) -> Part
             }
         }
     }
-    Part::Through(passed, m)
+    Stretch::Through(passed, m)
 }
 
 // The held bytes and then the piece, up to the first block or the place that is not decided; the promise is by the rule, a byte
 // at a time.
-pub fn scan(held: &[u8], piece: &[u8]) -> Found
-    ensures { λ r. ⌜ r ≡ foundOf (feedLit (now (held .entry)) (now (piece .entry)) (length (now (piece .entry)))) ⌝ }
+pub fn scan(held: &[u8], piece: &[u8]) -> Scanned
+    ensures { λ r. ⌜ r ≡ scannedOf (feedLit (now (held .entry)) (now (piece .entry)) (length (now (piece .entry)))) ⌝ }
 {
     let n = held.len();
     let all = piece.len();
     match scan_part(held, piece, nothing_passed(), n) {
-        Part::Block(passed, len, m) => Found {
+        Stretch::Block(passed, len, m) => Scanned {
             taken: m - n,
             passed: passed,
             block: len,
         },
-        Part::Waits(passed) => Found {
+        Stretch::Waits(passed) => Scanned {
             taken: all,
             passed: passed,
             block: 0,
         },
-        Part::Through(before, mark) => match scan_part(piece, b"", before, mark) {
-            Part::Block(passed, len, m) => Found {
+        Stretch::Through(before, mark) => match scan_part(piece, b"", before, mark) {
+            Stretch::Block(passed, len, m) => Scanned {
                 taken: m - n,
                 passed: passed,
                 block: len,
             },
-            Part::Waits(passed) => Found {
+            Stretch::Waits(passed) => Scanned {
                 taken: all,
                 passed: passed,
                 block: 0,
             },
-            Part::Through(passed, _) => Found {
+            Stretch::Through(passed, _) => Scanned {
                 taken: all,
                 passed: passed,
                 block: 0,
@@ -196,10 +196,10 @@ pub fn scan(held: &[u8], piece: &[u8]) -> Found
 }
 
 // What the run's last bytes come to: none had to be taken.
-fn ended(passed: Passed, block: usize) -> Found
+fn last_found(passed: Passed, block: usize) -> Scanned
     ensures { λ r. ⌜ r ≡ record { taken = 0; passed = passed; block = block } ⌝ }
 {
-    Found {
+    Scanned {
         taken: 0,
         passed,
         block,
@@ -207,8 +207,8 @@ fn ended(passed: Passed, block: usize) -> Found
 }
 
 // The held bytes, which are the run's last, up to the first block.
-pub fn last(held: &[u8]) -> Found
-    ensures { λ r. ⌜ r ≡ foundOf (stop (settle judgedLast (now (held .entry)))) ⌝ }
+pub fn last(held: &[u8]) -> Scanned
+    ensures { λ r. ⌜ r ≡ scannedOf (stop (settle judgedLast (now (held .entry)))) ⌝ }
 {
     let mut passed = nothing_passed();
     while passed.skipped < held.len() {
@@ -216,21 +216,21 @@ pub fn last(held: &[u8]) -> Found
         let p = start_from(held, k);
         passed = count_no_sync(passed, p - k);
         if p == held.len() {
-            return ended(passed, 0);
+            return last_found(passed, 0);
         }
         let v = frame::judge_last(&held[p..]);
         match v {
             Verdict::Frame(n) => {
-                return ended(passed, n);
+                return last_found(passed, n);
             }
             Verdict::NoFrame(why) => {
                 passed = count(passed, why);
             }
             // Never: when the run is finished every place is decided.
             Verdict::Undecided => {
-                return ended(passed, 0);
+                return last_found(passed, 0);
             }
         }
     }
-    ended(passed, 0)
+    last_found(passed, 0)
 }

@@ -13,7 +13,7 @@ pub enum Buffer {
 }
 
 // A number of the state, as `poke` names it.
-pub enum Part {
+pub enum StateNumber {
     Phase,
     InForce,
     Waiting,
@@ -26,7 +26,7 @@ pub enum Part {
 }
 
 // The calls after which the CRCs of the buffers are printed.
-pub enum Run {
+pub enum RunCall {
     Open,
     Feed,
     Finish,
@@ -45,19 +45,19 @@ pub enum Ask {
 }
 
 // What a line asks for. `Pass` is an empty line or a comment, `Bad` no call at all.
-pub enum Call {
+pub enum LineCall {
     Pass,
     Bad,
-    Run(Run),
+    Run(RunCall),
     Ask(Ask),
-    Poke(Part, u64),
+    Poke(StateNumber, u64),
     Put(Buffer, u64),
     Size(Buffer, u64),
 }
 
 // A call, and how many bytes it is given.
 pub struct Asked {
-    pub call: Call,
+    pub call: LineCall,
     pub count: usize,
 }
 
@@ -75,7 +75,7 @@ struct Word {
 // Whether a word is a number, and which.
 struct Number(bool, u64);
 
-fn number_of(d: Decimal) -> Number {
+fn as_number(d: Decimal) -> Number {
     match d {
         Decimal::Value(n) => Number(true, n),
         Decimal::NoNumber => Number(false, 0),
@@ -97,15 +97,15 @@ fn word_at(line: &[u8], from: usize) -> Word
     let text = &line[from..];
     let e = words::word_end(text);
     let word = &text[..e];
-    let told = number_of(words::number(word));
+    let parsed = as_number(words::number(word));
     let is_last = e == text.len();
     Word {
         key: words::key(word),
-        number: told.1,
+        number: parsed.1,
         next: behind(from + e, line.len()),
         is_last,
-        leads: told.0 & !is_last,
-        ends: told.0 & is_last,
+        leads: parsed.0 & !is_last,
+        ends: parsed.0 & is_last,
     }
 }
 
@@ -118,17 +118,17 @@ fn buffer_of(key: u64) -> Buffer {
     }
 }
 
-fn part_of(key: u64) -> Part {
+fn number_named(key: u64) -> StateNumber {
     match key {
-        0x7068617365 => Part::Phase, // phase
-        0x666f726365 => Part::InForce, // force
-        0x7761697473 => Part::Waiting, // waits
-        0x68656c64 => Part::Held, // held
-        0x7374616e6473 => Part::Standing, // stands
-        0x74616b656e => Part::Taken, // taken
-        0x626c6f636b73 => Part::Blocks, // blocks
-        0x736b6970706564 => Part::Skipped, // skipped
-        _ => Part::Unknown,
+        0x7068617365 => StateNumber::Phase, // phase
+        0x666f726365 => StateNumber::InForce, // force
+        0x7761697473 => StateNumber::Waiting, // waits
+        0x68656c64 => StateNumber::Held, // held
+        0x7374616e6473 => StateNumber::Standing, // stands
+        0x74616b656e => StateNumber::Taken, // taken
+        0x626c6f636b73 => StateNumber::Blocks, // blocks
+        0x736b6970706564 => StateNumber::Skipped, // skipped
+        _ => StateNumber::Unknown,
     }
 }
 
@@ -140,26 +140,26 @@ fn is_known(b: Buffer) -> bool {
 }
 
 // A phase is 0, 1 or 2.
-fn can_poke(part: Part, v: u64) -> bool {
+fn can_poke(part: StateNumber, v: u64) -> bool {
     match part {
-        Part::Unknown => false,
-        Part::Phase => v <= 2,
+        StateNumber::Unknown => false,
+        StateNumber::Phase => v <= 2,
         _ => true,
     }
 }
 
 // A call as far as it is read without its bytes: behind how many words they begin, 0 where it is given none.
 struct Head {
-    call: Call,
+    call: LineCall,
     words: u8,
 }
 
-fn whether(holds: bool, call: Call, words: u8) -> Head {
+fn whether(holds: bool, call: LineCall, words: u8) -> Head {
     if holds {
         return Head { call, words };
     }
     Head {
-        call: Call::Bad,
+        call: LineCall::Bad,
         words: 0,
     }
 }
@@ -169,26 +169,26 @@ fn whether(holds: bool, call: Call, words: u8) -> Head {
 fn begun(first: Word, second: Word, third: Word) -> Head {
     let key = first.key;
     let alone = first.is_last;
-    let part = part_of(second.key);
+    let part = number_named(second.key);
     let buffer = buffer_of(second.key);
     let n = second.number;
     let m = third.number;
     match key {
-        0x6f70656e => whether(alone, Call::Run(Run::Open), 0), // open
-        0x66696e697368 => whether(alone, Call::Run(Run::Finish), 0), // finish
-        0x7769746864726177 => whether(alone, Call::Run(Run::Withdraw), 0), // withdraw
-        0x6279746573 => whether(alone, Call::Ask(Ask::Bytes), 0), // bytes
-        0x66656564 => whether(!alone, Call::Run(Run::Feed), 1), // feed
-        0x7374616765 => whether(!alone, Call::Run(Run::Stage), 1), // stage
-        0x746f77 => whether(!alone, Call::Ask(Ask::Tow), 1), // tow
-        0x776e63 => whether(!alone, Call::Ask(Ask::Wnc), 1), // wnc
-        0x626f6479 => whether(second.leads, Call::Ask(Ask::Body(n)), 2), // body
-        0x7375626279746573 => whether(second.leads, Call::Ask(Ask::SubBytes(n)), 2), // subbytes
-        0x737562 => whether(second.leads & third.leads, Call::Ask(Ask::Sub(n, m)), 3), // sub
-        0x706f6b65 => whether(third.ends & can_poke(part, m), Call::Poke(part, m), 0), // poke
-        0x707574 => whether(third.leads & is_known(buffer), Call::Put(buffer, m), 3), // put
-        0x73697a65 => whether(third.ends & is_known(buffer), Call::Size(buffer, m), 0), // size
-        _ => whether(false, Call::Bad, 0),
+        0x6f70656e => whether(alone, LineCall::Run(RunCall::Open), 0), // open
+        0x66696e697368 => whether(alone, LineCall::Run(RunCall::Finish), 0), // finish
+        0x7769746864726177 => whether(alone, LineCall::Run(RunCall::Withdraw), 0), // withdraw
+        0x6279746573 => whether(alone, LineCall::Ask(Ask::Bytes), 0), // bytes
+        0x66656564 => whether(!alone, LineCall::Run(RunCall::Feed), 1), // feed
+        0x7374616765 => whether(!alone, LineCall::Run(RunCall::Stage), 1), // stage
+        0x746f77 => whether(!alone, LineCall::Ask(Ask::Tow), 1), // tow
+        0x776e63 => whether(!alone, LineCall::Ask(Ask::Wnc), 1), // wnc
+        0x626f6479 => whether(second.leads, LineCall::Ask(Ask::Body(n)), 2), // body
+        0x7375626279746573 => whether(second.leads, LineCall::Ask(Ask::SubBytes(n)), 2), // subbytes
+        0x737562 => whether(second.leads & third.leads, LineCall::Ask(Ask::Sub(n, m)), 3), // sub
+        0x706f6b65 => whether(third.ends & can_poke(part, m), LineCall::Poke(part, m), 0), // poke
+        0x707574 => whether(third.leads & is_known(buffer), LineCall::Put(buffer, m), 3), // put
+        0x73697a65 => whether(third.ends & is_known(buffer), LineCall::Size(buffer, m), 0), // size
+        _ => whether(false, LineCall::Bad, 0),
     }
 }
 
@@ -205,14 +205,14 @@ fn start(words: u8, first: usize, second: usize, third: usize) -> usize
 }
 
 // A call that is given no bytes.
-fn bare(call: Call) -> Asked
+fn bare(call: LineCall) -> Asked
     ensures { λ r. ⌜ r .count ≤ 135000 ⌝ }
 {
     Asked { call, count: 0 }
 }
 
 // A call whose last word is read as bytes.
-fn with_bytes(call: Call, read: Decoded) -> Asked
+fn with_bytes(call: LineCall, read: Decoded) -> Asked
     requires { ⌜ read .count ≤ 135000 ⌝ }
     ensures { λ r. ⌜ r .count ≤ 135000 ⌝ }
 {
@@ -222,7 +222,7 @@ fn with_bytes(call: Call, read: Decoded) -> Asked
             count: read.count,
         };
     }
-    bare(Call::Bad)
+    bare(LineCall::Bad)
 }
 
 // A line without its line feed; the bytes that the call is given go to the start of `given`.
@@ -231,10 +231,10 @@ pub fn read(line: &[u8], given: &mut [u8; 135000]) -> Asked
     ensures { λ r. ⌜ r .count ≤ 135000 ⌝ }
 {
     if line.len() == 0 {
-        return bare(Call::Pass);
+        return bare(LineCall::Pass);
     }
     if line[0] == b'#' {
-        return bare(Call::Pass);
+        return bare(LineCall::Pass);
     }
     let first = word_at(line, 0);
     let second = word_at(line, first.next);

@@ -4,9 +4,9 @@ use mathlib.Core.List.{List, [], _∷_}
 use Rattle.kinds.specs.Types.{u1, u2, u4, u8, i1, i2, i4, i8, f4, f8}
 use Rattle.kinds.specs.Marks.{unmarked, ones, zeroes, minus2e10, least}
 use Rattle.table.specs.Rows.{Table}
-use Rattle.shipped.specs.Words.{Block, block, field, tableOf}
+use Rattle.shipped.specs.Words.{NamedBlock, block, field, tableOf}
 
-abbrev pvtcartesian : Block
+abbrev pvtcartesian : NamedBlock
 pvtcartesian =
     block "PVTCartesian" 4006 2
     (field "Mode" u1 14 0 unmarked
@@ -38,7 +38,7 @@ pvtcartesian =
     ∷ [])
     []
 
-abbrev basevectorcart : Block
+abbrev basevectorcart : NamedBlock
 basevectorcart =
     block "BaseVectorCart" 4043 0
     (field "N" u1 14 0 unmarked
@@ -61,7 +61,7 @@ basevectorcart =
     ∷ field "SignalInfo" u4 48 0 zeroes
     ∷ [])
 
-abbrev poscovgeodetic : Block
+abbrev poscovgeodetic : NamedBlock
 poscovgeodetic =
     block "PosCovGeodetic" 5906 0
     (field "Mode" u1 14 0 unmarked
@@ -79,7 +79,7 @@ poscovgeodetic =
     ∷ [])
     []
 
-abbrev extevent : Block
+abbrev extevent : NamedBlock
 extevent =
     block "ExtEvent" 5924 1
     (field "Source" u1 14 0 unmarked
@@ -90,7 +90,7 @@ extevent =
     ∷ [])
     []
 
-abbrev atteuler : Block
+abbrev atteuler : NamedBlock
 atteuler =
     block "AttEuler" 5938 0
     (field "NrSV" u1 14 0 ones
@@ -106,7 +106,7 @@ atteuler =
     ∷ [])
     []
 
-abbrev attcoveuler : Block
+abbrev attcoveuler : NamedBlock
 attcoveuler =
     block "AttCovEuler" 5939 0
     (field "Reserved" u1 14 0 unmarked
@@ -120,7 +120,7 @@ attcoveuler =
     ∷ [])
     []
 
-abbrev endofatt : Block
+abbrev endofatt : NamedBlock
 endofatt =
     block "EndOfAtt" 5943 0
     []

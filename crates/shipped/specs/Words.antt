@@ -6,33 +6,33 @@ use Prim.Native.String.{String}
 use Rattle.rows.specs.declared.FieldRow.{FieldRow}
 use Rattle.table.specs.Rows.{BlockRow, Table}
 
-pub record Field : Type 0 where
+pub record NamedField : Type 0 where
   pub name : String
   pub row : FieldRow
 
 -- name, type, offset, first revision, mark
-abbrev pub field : String → ℕ → ℕ → ℕ → ℕ → Field
+abbrev pub field : String → ℕ → ℕ → ℕ → ℕ → NamedField
 field name kind offset first mark = record { name = name; row = record { offset = offset; kind = kind; first = first; mark = mark } }
 
-pub record Block : Type 0 where
+pub record NamedBlock : Type 0 where
   pub name : String
   pub number : ℕ
   pub highest : ℕ
-  pub body : List Field
-  pub subs : List Field
+  pub body : List NamedField
+  pub subs : List NamedField
 
 -- name, number, highest revision, body, sub-fields
-abbrev pub block : String → ℕ → ℕ → List Field → List Field → Block
+abbrev pub block : String → ℕ → ℕ → List NamedField → List NamedField → NamedBlock
 block name number highest body subs = record { name = name; number = number; highest = highest; body = body; subs = subs }
 
-abbrev pub rowOf : Block → BlockRow
+abbrev pub rowOf : NamedBlock → BlockRow
 rowOf b =
     record {
       number = b .number;
       highest = b .highest;
-      body = map (λ (f : Field). f .row) (b .body);
-      subs = map (λ (f : Field). f .row) (b .subs);
+      body = map (λ (f : NamedField). f .row) (b .body);
+      subs = map (λ (f : NamedField). f .row) (b .subs);
     }
 
-abbrev pub tableOf : ℕ → List Block → Table
+abbrev pub tableOf : ℕ → List NamedBlock → Table
 tableOf version blocks = record { version = version; rows = map rowOf blocks }

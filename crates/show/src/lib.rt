@@ -13,7 +13,7 @@ use reader::Block;
 use reader::State;
 
 // The longest line that a call prints fits.
-pub const ROOM: usize = 320;
+pub const CALL_LINE: usize = 320;
 
 fn one_for(b: bool) -> u64
     ensures { λ r. ⌜ r ≡ oneFor b ⌝ }
@@ -27,7 +27,7 @@ fn more_words(out: &mut [u8; 8192], at: usize, n: usize) -> usize
     ensures { λ r. ⌜ r ≤ at + 120 ⌝ }
     ensures { λ r. ⌜ take r (now (out .exit)) ≡ take at (now (out .entry)) ++ saidText wordFed (took n none) ⌝ }
 {
-    let count = text::told(out, at, b"fed", n as u64);
+    let count = text::word_number(out, at, b"fed", n as u64);
     text::put(out, count, b" more")
 }
 
@@ -37,7 +37,7 @@ fn fed_words(out: &mut [u8; 8192], at: usize, n: usize, b: Block) -> usize
     ensures { λ r. ⌜ r ≤ at + 120 ⌝ }
     ensures { λ r. ⌜ take r (now (out .exit)) ≡ take at (now (out .entry)) ++ saidText wordFed (took n (some (reportOf b))) ⌝ }
 {
-    let count = text::told(out, at, b"fed", n as u64);
+    let count = text::word_number(out, at, b"fed", n as u64);
     let gap = text::put(out, count, b" ");
     phrases::block_words(out, gap, b)
 }
@@ -48,11 +48,11 @@ fn print(out: &mut [u8; 8192], at: usize, reply: RunReply) -> usize
     ensures { λ r. ⌜ take r (now (out .exit)) ≡ take at (now (out .entry)) ++ runText reply ⌝ }
 {
     match reply {
-        RunReply::Opened(v) => text::told(out, at, b"opened", v as u64),
-        RunReply::Staged(v) => text::told(out, at, b"staged", v as u64),
-        RunReply::Withdrawn(one) => text::told(out, at, b"withdrawn", one_for(one)),
+        RunReply::Opened(v) => text::word_number(out, at, b"opened", v as u64),
+        RunReply::Staged(v) => text::word_number(out, at, b"staged", v as u64),
+        RunReply::Withdrawn(one) => text::word_number(out, at, b"withdrawn", one_for(one)),
         RunReply::More(taken) => more_words(out, at, taken),
-        RunReply::Fed(taken, b) => fed_words(out, at, taken, b),
+        RunReply::FedBlock(taken, b) => fed_words(out, at, taken, b),
         RunReply::Found(b) => phrases::block_words(out, at, b),
         RunReply::End(c) => phrases::end_words(out, at, c),
         RunReply::Refused(why) => phrases::refused(out, at, why),
@@ -79,6 +79,6 @@ pub fn run_line(out: &mut [u8; 8192], at: usize, reply: RunReply, state: State, 
     ensures { λ r. ⌜ take r (now (out .exit)) ≡ take at (now (out .entry)) ++ (runText reply ++ stateText state ++ crcsText c) ⌝ }
 {
     let said = print(out, at, reply);
-    let numbers = phrases::state_of(out, said, state);
+    let numbers = phrases::state_text(out, said, state);
     crcs(out, numbers, c)
 }

@@ -14,7 +14,7 @@ use Rattle.rows.specs.declared.Row.{Row}
 use Rattle.table.specs.Lists.{every, chain, neighbours}
 use Rattle.table.specs.Rows.{BlockRow, ends}
 use Rattle.table.specs.Decode.{blockOf}
-use Rattle.table.specs.Rules.{zeroOk, indexOk, counts, usedOk, numberOk, risingOk, highestOk, offsetOk, apart, steady, firstOk, typeOk, markOk, fieldsOk, blockOk}
+use Rattle.table.specs.Rules.{zeroOk, indexOk, usedFields, usedOk, numberOk, risingOk, highestOk, offsetOk, apart, steady, firstOk, typeOk, markOk, fieldsOk, blockOk}
 use Rattle.table.specs.Code.{fieldStep, fieldPass, blockPass, rowStep, rowPass}
 use Rattle.table.proofs.Bools.{both, join, implied, zip5, zip7, sorted7}
 use Rattle.table.proofs.Lists.{starts, chain-starts, neighbours-starts, starts-ext, every-map, neighbours-map}
@@ -110,18 +110,18 @@ module _ (t : List ℕ) where
 
   row-fused : (least used fields : ℕ) (rs : List Row)
       → rowPass t least used fields rs
-      ≡ (every numberRow rs && every highestRow rs && every zeroOk rs && starts (atLeast least) belowRow rs && indexOk used rs && eqb (used + counts rs) fields && every passes rs)
-  unfolding rowPass rowStep starts every indexOk counts
+      ≡ (every numberRow rs && every highestRow rs && every zeroOk rs && starts (atLeast least) belowRow rs && indexOk used rs && eqb (used + usedFields rs) fields && every passes rs)
+  unfolding rowPass rowStep starts every indexOk usedFields
   row-fused least used fields [] = rw (add-zero used, and-true (eqb used fields))
   row-fused least used fields (r ∷ rs) =
       let more = r .bodies + r .subs in
-      let n : used + (more + counts rs) ≡ used + more + counts rs = omega arith in
-      let fit : (eqb (used + more + counts rs) fields ≡ true → leb (used + more) fields ≡ true) =
-      λ e. let q = eqb-true (used + more + counts rs) fields e in le-leb (used + more) fields (omega arith) in
+      let n : used + (more + usedFields rs) ≡ used + more + usedFields rs = omega arith in
+      let fit : (eqb (used + more + usedFields rs) fields ≡ true → leb (used + more) fields ≡ true) =
+      λ e. let q = eqb-true (used + more + usedFields rs) fields e in le-leb (used + more) fields (omega arith) in
       rw (row-fused (r .number + 1) (used + more) fields rs, rising-next r rs, n)
       (zip7 (numberRow r) (every numberRow rs) (highestRow r) (every highestRow rs) (zeroOk r) (every zeroOk rs) (atLeast least r) (chain belowRow r rs)
-      (eqb (r .start) used) (indexOk (used + more) rs) (leb (used + more) fields) (eqb (used + more + counts rs) fields) (passes r) (every passes rs)
-      ∙ rw (implied (leb (used + more) fields) (eqb (used + more + counts rs) fields) fit))
+      (eqb (r .start) used) (indexOk (used + more) rs) (leb (used + more) fields) (eqb (used + more + usedFields rs) fields) (passes r) (every passes rs)
+      ∙ rw (implied (leb (used + more) fields) (eqb (used + more + usedFields rs) fields) fit))
 
   every-ext : (p q : Row → Bool) → ((r : Row) → p r ≡ q r) → (rs : List Row) → every p rs ≡ every q rs
   unfolding every
@@ -153,5 +153,5 @@ module _ (t : List ℕ) where
         ≡ rowPass t 0 0 fields rs
     rows-are fields =
         rw (numbers-are, rising-is, highest-are, blocks-are)
-        (sym (row-fused 0 0 fields rs ∙ rw (zero-add (counts rs), ← neighbours-starts belowRow (atLeast 0) (λ r. leb·zero (r .number)) rs)
-        (sorted7 (every numberRow rs) (every highestRow rs) (every zeroOk rs) (neighbours belowRow rs) (indexOk 0 rs) (eqb (counts rs) fields) (every passes rs))))
+        (sym (row-fused 0 0 fields rs ∙ rw (zero-add (usedFields rs), ← neighbours-starts belowRow (atLeast 0) (λ r. leb·zero (r .number)) rs)
+        (sorted7 (every numberRow rs) (every highestRow rs) (every zeroOk rs) (neighbours belowRow rs) (indexOk 0 rs) (eqb (usedFields rs) fields) (every passes rs))))

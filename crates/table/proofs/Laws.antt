@@ -11,14 +11,14 @@ use lib.ListN.{length}
 use borrow.Author.Tests.{ltb-true, le-leb, lt-leb, ne-eqb}
 use Rattle.crc.specs.Crc.{crcOf}
 use Rattle.rows.specs.declared.Row.{Row}
-use Rattle.table.specs.declared.Found.the-variants.{At, Nothing}
-use Rattle.table.specs.Lists.{chain, neighbours, first, pick}
+use Rattle.table.specs.declared.RowFound.the-variants.{At, Nothing}
+use Rattle.table.specs.Lists.{chain, neighbours, firstThat, pick}
 use Rattle.table.specs.Rows.{BlockRow}
 use Rattle.rows.specs.Places.{blockCount, fieldCount, rowAt}
 use Rattle.table.specs.Decode.{toBlocks, toFields, crcField, covered, rowsOf, blockOf, decode}
 use Rattle.table.specs.Rules.{sizeOk, countOk, toBlocksOk, toFieldsOk, crcOk, closingOk, fileOk, formOk, risingOk, meaningOk, tableOk}
 use Rattle.table.specs.Code.{rowPass}
-use Rattle.table.specs.Answer.{version, refused, checkOf}
+use Rattle.table.specs.Answer.{checkVersion, checkRefused, checkOf}
 use Rattle.table.specs.Lookup.{hasNumber, findRow, Finding}
 use Rattle.table.specs.Theorems.{OneRow}
 use Rattle.table.proofs.Bools.{both}
@@ -51,7 +51,7 @@ module _ (t : List ℕ) where
 
 -- what the check tells
 module _ (t : List ℕ) where
-  pub told-file : fileOk t ≡ false → refused 4 ≡ checkOf t
+  pub told-file : fileOk t ≡ false → checkRefused 4 ≡ checkOf t
   unfolding checkOf tableOk formOk
   told-file e = rw e
 
@@ -59,25 +59,25 @@ module _ (t : List ℕ) where
   unfolding tableOk formOk meaningOk decode
   table-by e a b = rw e (rows-are t (rowsOf t) (fieldCount t) ∙ sym b)
 
-  pub told-rows : fileOk t ≡ true → {a : Bool} → a ≡ rowPass t 0 0 (fieldCount t) (rowsOf t) → a ≡ false → refused 4 ≡ checkOf t
+  pub told-rows : fileOk t ≡ true → {a : Bool} → a ≡ rowPass t 0 0 (fieldCount t) (rowsOf t) → a ≡ false → checkRefused 4 ≡ checkOf t
   unfolding checkOf
   told-rows e {a} b f = rw (table-by e a b, f)
 
   pub told-version : fileOk t ≡ true → {a : Bool} → a ≡ rowPass t 0 0 (fieldCount t) (rowsOf t) → a ≡ true → {v : ℕ} → v ≡ decode t .version
-      → version v ≡ checkOf t
+      → checkVersion v ≡ checkOf t
   unfolding checkOf
   told-version e {a} b f g = rw (table-by e a b, f, g)
 
 -- what `find` promises
 module _ (t : List ℕ) (n : ℕ) where
-  find-is : findRow (decode t) n ≡ Option·map (blockOf t) (first (numbered n) (rowsOf t))
+  find-is : findRow (decode t) n ≡ Option·map (blockOf t) (firstThat (numbered n) (rowsOf t))
   unfolding findRow decode blockOf
   find-is = first-map (blockOf t) (hasNumber n) (rowsOf t)
 
-  pub found-at : tableOk t ≡ true → {r : Row} {i : ℕ} → first (numbered n) (rowsOf t) ≡ some r → r ≡ rowAt t i → i < blockCount t → Finding t n (At r)
+  pub found-at : tableOk t ≡ true → {r : Row} {i : ℕ} → firstThat (numbered n) (rowsOf t) ≡ some r → r ≡ rowAt t i → i < blockCount t → Finding t n (At r)
   found-at ok e g h = record { is = sym (find-is ∙ ap (Option·map (blockOf t)) e); stands = stands t ok _ h g }
 
-  pub found-nothing : first (numbered n) (rowsOf t) ≡ none → Finding t n Nothing
+  pub found-nothing : firstThat (numbered n) (rowsOf t) ≡ none → Finding t n Nothing
   found-nothing e = record { is = sym (find-is ∙ ap (Option·map (blockOf t)) e); stands = tt }
 
 -- a number has one row

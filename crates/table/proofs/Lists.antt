@@ -8,7 +8,7 @@ use Prim.Native.Nat.{ℕ, zero, suc, _+_, _-_, _<_, _≤_}
 use native.Mathlib.Nat.{add-zero, not-suc-le-zero}
 use native.Mathlib.Omega.{arith}
 use lib.ListN.{length}
-use Rattle.table.specs.Lists.{tabulate, every, chain, neighbours, first, pick}
+use Rattle.table.specs.Lists.{tabulate, every, chain, neighbours, firstThat, pick}
 use Rattle.table.proofs.Bools.{both}
 
 module _ {A : Type 0} (f : ℕ → A) where
@@ -82,10 +82,10 @@ module _ {A B : Type 0} (f : A → B) where
   neighbours-map p (x ∷ xs) = chain-map p x xs
 
   -- the first of a mapped list, where the test sees through the map
-  pub first-map : (p : B → Bool) (xs : List A) → first p (map f xs) ≡ Option·map f (first (λ (x : A). p (f x)) xs)
-  unfolding first
+  pub first-map : (p : B → Bool) (xs : List A) → firstThat p (map f xs) ≡ Option·map f (firstThat (λ (x : A). p (f x)) xs)
+  unfolding firstThat
   first-map p [] = refl
-  first-map p (x ∷ xs) = picked (p (f x)) (first (λ (y : A). p (f y)) xs) (first-map p xs) where
+  first-map p (x ∷ xs) = picked (p (f x)) (firstThat (λ (y : A). p (f y)) xs) (first-map p xs) where
     picked : (b : Bool) (q : Option A) {o : Option B} → o ≡ Option·map f q → cond b (some (f x)) o ≡ Option·map f (cond b (some x) q)
     picked true q e = refl
     picked false q e = e

@@ -9,7 +9,7 @@ use lib.Dec.{leb, eqb}
 use borrow.Author.Tests.{leb-true, eqb-true, eq-eqb, ne-eqb}
 use Rattle.rows.specs.declared.FieldRow.{FieldRow}
 use Rattle.rows.specs.declared.Row.{Row}
-use Rattle.table.specs.Lists.{tabulate, first}
+use Rattle.table.specs.Lists.{tabulate, firstThat}
 use Rattle.table.specs.Rows.{ends}
 use Rattle.rows.specs.Places.{fieldAt, rowAt}
 use Rattle.table.specs.Decode.{blockOf}
@@ -104,18 +104,18 @@ module _ (t : List ℕ) (i k least used fields : ℕ) (whole : Bool) (inv : whol
 abbrev pub numbered : ℕ → Row → Bool
 numbered n r = eqb (r .number) n
 
-module _ (t : List ℕ) (n i k : ℕ) (whole : Option Row) (inv : whole ≡ first (numbered n) (tabulate (rowAt t) i k)) where
+module _ (t : List ℕ) (n i k : ℕ) (whole : Option Row) (inv : whole ≡ firstThat (numbered n) (tabulate (rowAt t) i k)) where
   pub find-done : k ≡ 0 → whole ≡ none
-  unfolding first
+  unfolding firstThat
   find-done e = inv ∙ rw (tab-none (rowAt t) i k e)
 
-  find-by : 0 < k → whole ≡ cond (numbered n (rowAt t i)) (some (rowAt t i)) (first (numbered n) (tabulate (rowAt t) (i + 1) (k - 1)))
-  unfolding first
-  find-by h = inv ∙ ap (first (numbered n)) (tab-more (rowAt t) i k h)
+  find-by : 0 < k → whole ≡ cond (numbered n (rowAt t i)) (some (rowAt t i)) (firstThat (numbered n) (tabulate (rowAt t) (i + 1) (k - 1)))
+  unfolding firstThat
+  find-by h = inv ∙ ap (firstThat (numbered n)) (tab-more (rowAt t) i k h)
 
   module _ (r : Row) (g : r ≡ rowAt t i) (h : 0 < k) where
     pub find-stop : r .number ≡ n → whole ≡ some r
     find-stop b = find-by h ∙ rw (← g, eq-eqb (r .number) n b)
 
-    pub find-go : (r .number ≡ n → ⊥) → (j l : ℕ) → j ≡ i + 1 → l ≡ k - 1 → whole ≡ first (numbered n) (tabulate (rowAt t) j l)
+    pub find-go : (r .number ≡ n → ⊥) → (j l : ℕ) → j ≡ i + 1 → l ≡ k - 1 → whole ≡ firstThat (numbered n) (tabulate (rowAt t) j l)
     find-go b j l u v = find-by h ∙ rw (← g, ne-eqb (r .number) n b, u, v)

@@ -15,7 +15,7 @@ use Rattle.table.specs.Lists.{tabulate, every}
 use Rattle.table.specs.Rows.{Table}
 use Rattle.rows.specs.Places.{blockCount, fieldCount, rowAt}
 use Rattle.table.specs.Decode.{toBlocks, toFields, crcField, covered, rowsOf, blockOf, decode}
-use Rattle.table.specs.Rules.{sizeOk, partsOk, countOk, toBlocksOk, toFieldsOk, crcOk, closingOk, fileOk, zeroOk, indexOk, counts, usedOk, formOk}
+use Rattle.table.specs.Rules.{sizeOk, partsOk, countOk, toBlocksOk, toFieldsOk, crcOk, closingOk, fileOk, zeroOk, indexOk, usedFields, usedOk, formOk}
 use Rattle.table.specs.Rules.{numberOk, risingOk, highestOk, blockOk, meaningOk, tableOk}
 use Rattle.table.specs.Lookup.{Stands}
 use Rattle.table.proofs.Bools.{both, join}
@@ -83,7 +83,7 @@ pub record Passed (t : List ℕ) : Type 0 where
   pub file : File t
   pub zeros : every zeroOk (rowsOf t) ≡ true
   pub index : indexOk 0 (rowsOf t) ≡ true
-  pub used : counts (rowsOf t) ≡ fieldCount t
+  pub used : usedFields (rowsOf t) ≡ fieldCount t
   pub meaning : Meaning (decode t)
 
 pub passed : (t : List ℕ) → tableOk t ≡ true → Passed t
@@ -98,8 +98,8 @@ passed t e =
 
 -- a row's field rows are among the counted ones
 index-at : (f : ℕ → Row) (before i k j : ℕ) → indexOk before (tabulate f i k) ≡ true → j < k
-    → f (i + j) .start + (f (i + j) .bodies + f (i + j) .subs) ≤ before + counts (tabulate f i k)
-unfolding indexOk counts tabulate
+    → f (i + j) .start + (f (i + j) .bodies + f (i + j) .subs) ≤ before + usedFields (tabulate f i k)
+unfolding indexOk usedFields tabulate
 index-at f before i zero j e h = absurd (not-suc-le-zero h)
 index-at f before i (suc k) zero e h =
     let a = both (eqb (f i .start) before) _ e in
@@ -117,8 +117,8 @@ module _ (t : List ℕ) (ok : tableOk t ≡ true) (i : ℕ) (h : i < blockCount 
   inside-at =
       let p = passed t ok in
       let a = index-at (rowAt t) 0 0 (blockCount t) i (p .index) h in
-      let u : counts (tabulate (rowAt t) 0 (blockCount t)) ≡ fieldCount t = p .used in
-      rw (zero-add i, zero-add (counts (tabulate (rowAt t) 0 (blockCount t))), u) at a
+      let u : usedFields (tabulate (rowAt t) 0 (blockCount t)) ≡ fieldCount t = p .used in
+      rw (zero-add i, zero-add (usedFields (tabulate (rowAt t) 0 (blockCount t))), u) at a
 
   rules-at : blockOk (blockOf t (rowAt t i)) ≡ true
   unfolding rowsOf decode

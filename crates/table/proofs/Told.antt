@@ -9,21 +9,21 @@ use Rattle.table.specs.declared.Checked.{Checked}
 use Rattle.table.specs.declared.Checked.the-variants.{Version, Broken}
 use Rattle.table.specs.Decode.{decode}
 use Rattle.table.specs.Rules.{tableOk}
-use Rattle.table.specs.Answer.{version, refused, toldBy, checkOf}
+use Rattle.table.specs.Answer.{checkVersion, checkRefused, checkSays, checkOf}
 
-passes-by : (ok : Bool) (v w : ℕ) → version w ≡ cond ok (version v) (refused 4) → (ok ≡ true) × (w ≡ v)
+passes-by : (ok : Bool) (v w : ℕ) → checkVersion w ≡ cond ok (checkVersion v) (checkRefused 4) → (ok ≡ true) × (w ≡ v)
 passes-by true v w e = (refl, cc)
 passes-by false v w e = let z : _≡_ {A = ℕ} 0 1 = cc in absurd (omega arith)
 
-breaks-by : (ok : Bool) (v : ℕ) → refused 4 ≡ cond ok (version v) (refused 4) → ok ≡ false
+breaks-by : (ok : Bool) (v : ℕ) → checkRefused 4 ≡ cond ok (checkVersion v) (checkRefused 4) → ok ≡ false
 breaks-by false v e = refl
 breaks-by true v e = let z : _≡_ {A = ℕ} 0 1 = cc in absurd (omega arith)
 
-module _ (t : List ℕ) {a : Checked} (e : toldBy a ≡ checkOf t) where
+module _ (t : List ℕ) {a : Checked} (e : checkSays a ≡ checkOf t) where
   pub version-passes : {w : ℕ} → a ≡ Version w → (tableOk t ≡ true) × (w ≡ decode t .version)
   unfolding checkOf
-  version-passes {w} g = passes-by (tableOk t) (decode t .version) w (sym (ap toldBy g) ∙ e)
+  version-passes {w} g = passes-by (tableOk t) (decode t .version) w (sym (ap checkSays g) ∙ e)
 
   pub broken-breaks : a ≡ Broken → tableOk t ≡ false
   unfolding checkOf
-  broken-breaks g = breaks-by (tableOk t) (decode t .version) (sym (ap toldBy g) ∙ e)
+  broken-breaks g = breaks-by (tableOk t) (decode t .version) (sym (ap checkSays g) ∙ e)

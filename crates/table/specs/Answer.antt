@@ -8,15 +8,15 @@ use Rattle.table.specs.declared.Checked.the-variants.{Version, Broken}
 use Rattle.table.specs.Decode.{decode}
 use Rattle.table.specs.Rules.{tableOk}
 
-pub data Told : Type 0 where
-  version : ℕ → Told
-  refused : ℕ → Told
+pub data CheckSaid : Type 0 where
+  checkVersion : ℕ → CheckSaid
+  checkRefused : ℕ → CheckSaid
 
 -- the paper's number and value for each case of the code's answer
-abbrev pub toldBy : Checked → Told
-toldBy (Version v) = version v
-toldBy Broken = refused 4
+abbrev pub checkSays : Checked → CheckSaid
+checkSays (Version v) = checkVersion v
+checkSays Broken = checkRefused 4
 
 -- what is to be told of any bytes
-unfoldable pub checkOf : List ℕ → Told
-checkOf t = cond (tableOk t) (version (decode t .version)) (refused 4)
+unfoldable pub checkOf : List ℕ → CheckSaid
+checkOf t = cond (tableOk t) (checkVersion (decode t .version)) (checkRefused 4)

@@ -25,9 +25,9 @@ neighbours p [] = true
 neighbours p (x ∷ xs) = chain p x xs
 
 -- the first that p holds of
-unfoldable pub first : {A : Type 0} → (A → Bool) → List A → Option A
-first p [] = none
-first p (x ∷ xs) = cond (p x) (some x) (first p xs)
+unfoldable pub firstThat : {A : Type 0} → (A → Bool) → List A → Option A
+firstThat p [] = none
+firstThat p (x ∷ xs) = cond (p x) (some x) (firstThat p xs)
 
 -- element k, if there is one
 unfoldable pub pick : {A : Type 0} → List A → ℕ → Option A

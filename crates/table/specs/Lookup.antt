@@ -8,9 +8,9 @@ use Prim.Native.Nat.{ℕ, _+_, _≤_, _<_}
 use lib.Dec.{leb, eqb}
 use Rattle.rows.specs.declared.FieldRow.{FieldRow}
 use Rattle.rows.specs.declared.Row.{Row}
-use Rattle.table.specs.declared.Found.{Found}
-use Rattle.table.specs.declared.Found.the-variants.{At, Nothing}
-use Rattle.table.specs.Lists.{first}
+use Rattle.table.specs.declared.RowFound.{RowFound}
+use Rattle.table.specs.declared.RowFound.the-variants.{At, Nothing}
+use Rattle.table.specs.Lists.{firstThat}
 use Rattle.table.specs.Rows.{BlockRow, Table}
 use Rattle.rows.specs.Places.{blockCount, fieldCount, rowAt}
 use Rattle.table.specs.Decode.{blockOf, decode}
@@ -21,16 +21,16 @@ hasNumber n b = eqb (b .number) n
 
 -- a block's row, by its number
 unfoldable pub findRow : Table → ℕ → Option BlockRow
-findRow tab n = first (hasNumber n) (tab .rows)
+findRow tab n = firstThat (hasNumber n) (tab .rows)
 
 -- "A revision carries a field when the field's first revision is not above it"
 abbrev pub carried : ℕ → FieldRow → Bool
 carried revision f = leb (f .first) revision
 
 -- the row that the code's answer means
-abbrev pub meant : List ℕ → Found → Option BlockRow
-meant t (At r) = some (blockOf t r)
-meant t Nothing = none
+abbrev pub rowSays : List ℕ → RowFound → Option BlockRow
+rowSays t (At r) = some (blockOf t r)
+rowSays t Nothing = none
 
 -- r is a block row of the table; what a caller may use of it: its field rows are there, and they keep the rules
 pub record Stands (t : List ℕ) (r : Row) : Type 0 where
@@ -40,11 +40,11 @@ pub record Stands (t : List ℕ) (r : Row) : Type 0 where
   pub inside : r .start + r .bodies + r .subs ≤ fieldCount t
   pub rules : blockOk (blockOf t r) ≡ true
 
-abbrev pub StandsIfAny : List ℕ → Found → Type 0
+abbrev pub StandsIfAny : List ℕ → RowFound → Type 0
 StandsIfAny t (At r) = Stands t r
 StandsIfAny t Nothing = Unit
 
 -- the answer means the decoded table's row of that number, and is a row of the table where there is one
-pub record Finding (t : List ℕ) (n : ℕ) (f : Found) : Type 0 where
-  pub is : meant t f ≡ findRow (decode t) n
+pub record Finding (t : List ℕ) (n : ℕ) (f : RowFound) : Type 0 where
+  pub is : rowSays t f ≡ findRow (decode t) n
   pub stands : StandsIfAny t f

@@ -60,13 +60,13 @@ indexOk before [] = true
 indexOk before (r ∷ rs) = eqb (r .start) before && indexOk (before + (r .bodies + r .subs)) rs
 
 -- the counts of all these rows
-unfoldable pub counts : List Row → ℕ
-counts [] = 0
-counts (r ∷ rs) = r .bodies + r .subs + counts rs
+unfoldable pub usedFields : List Row → ℕ
+usedFields [] = 0
+usedFields (r ∷ rs) = r .bodies + r .subs + usedFields rs
 
 -- "all counts together use every field row"
 abbrev pub usedOk : ℕ → List Row → Bool
-usedOk fields rs = eqb (counts rs) fields
+usedOk fields rs = eqb (usedFields rs) fields
 
 unfoldable pub formOk : List ℕ → Bool
 formOk t = fileOk t && every zeroOk (rowsOf t) && indexOk 0 (rowsOf t) && usedOk (fieldCount t) (rowsOf t)

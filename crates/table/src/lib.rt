@@ -2,7 +2,7 @@
 ghost use mathlib.Core.Path.{_≡_};
 ghost use mathlib.Core.Bool.{true};
 ghost use Rattle.table.specs.Rules.{tableOk};
-ghost use Rattle.table.specs.Answer.{toldBy, checkOf};
+ghost use Rattle.table.specs.Answer.{checkSays, checkOf};
 ghost use Rattle.table.specs.Lookup.{Finding};
 ghost use Rattle.table.specs.Theorems.{OneRow};
 use rows::Row;
@@ -17,14 +17,14 @@ pub enum Checked {
     Broken,
 }
 
-pub enum Found {
+pub enum RowFound {
     At(Row),
     Nothing,
 }
 
 // The version of a table, or that it breaks a rule.
 pub fn check(t: &[u8]) -> Checked
-    ensures { λ r. ⌜ toldBy r ≡ checkOf (now (t .entry)) ⌝ }
+    ensures { λ r. ⌜ checkSays r ≡ checkOf (now (t .entry)) ⌝ }
 {
     if !trailer::file_ok(t) {
         return Checked::Broken;
@@ -36,7 +36,7 @@ pub fn check(t: &[u8]) -> Checked
 }
 
 // The row of a block's number, in a table that passes.
-pub fn find(t: &[u8], number: u16) -> Found
+pub fn find(t: &[u8], number: u16) -> RowFound
     requires { ⌜ tableOk (now t) ≡ true ⌝ }
     ensures { λ r. ⌜ Finding (now (t .entry)) number r ⌝ }
 {
@@ -46,11 +46,11 @@ pub fn find(t: &[u8], number: u16) -> Found
     while i < count {
         let r = rows::row_at(t, at, i);
         if r.number == number {
-            return Found::At(r);
+            return RowFound::At(r);
         }
         i += 1;
     }
-    Found::Nothing
+    RowFound::Nothing
 }
 
 // A number has one row.

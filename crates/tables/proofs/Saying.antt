@@ -15,7 +15,7 @@ use Rattle.reader.specs.Said.{refused, version}
 use Rattle.reader.specs.Refusals.{need, isClosed, longStore, tableRefusal}
 use Rattle.tables.specs.Calls.{nextTable, openRefusal, stageRefusal, opening, openOf, staging, stageOf}
 use Rattle.reader.specs.Outcome.{Outcome, unless}
-use Rattle.tables.specs.Code.{checkSaid}
+use Rattle.tables.specs.Code.{versionOr4}
 use Rattle.reader.specs.declared.State.{State}
 
 -- the last refusal, or the version
@@ -39,7 +39,7 @@ module _ (s : State) (force wait : List ℕ) where
       unfolding openOf openRefusal
       open-five e = simp (one, two, e)
 
-      open-table : (ltb 0 (s .waiting) || ltb 0 (s .«in_force»)) ≡ true → openOf s force wait .said ≡ checkSaid (nextTable s force wait)
+      open-table : (ltb 0 (s .waiting) || ltb 0 (s .«in_force»)) ≡ true → openOf s force wait .said ≡ versionOr4 (nextTable s force wait)
       unfolding openOf openRefusal
       open-table e =
           ap (λ (o : Option ℕ). unless o s force (opening s force wait) .said)
@@ -48,15 +48,15 @@ module _ (s : State) (force wait : List ℕ) where
           ∙ ap (λ (b : Bool). need b 5 (tableRefusal (nextTable s force wait))) e)
           ∙ said-by (tableOk (nextTable s force wait)) (nextTable s force wait) s force (opening s force wait) refl refl
 
-      pub open-waiting : 0 < s .waiting → openOf s force wait .said ≡ checkSaid (take (s .waiting) wait)
+      pub open-waiting : 0 < s .waiting → openOf s force wait .said ≡ versionOr4 (take (s .waiting) wait)
       open-waiting l =
           open-table (ap (λ (b : Bool). b || ltb 0 (s .«in_force»)) (lt-ltb 0 (s .waiting) l))
-          ∙ ap (λ (b : Bool). checkSaid (cond b (take (s .waiting) wait) (take (s .«in_force») force))) (lt-ltb 0 (s .waiting) l)
+          ∙ ap (λ (b : Bool). versionOr4 (cond b (take (s .waiting) wait) (take (s .«in_force») force))) (lt-ltb 0 (s .waiting) l)
 
-      pub open-in-force : s .waiting ≤ 0 → 0 < s .«in_force» → openOf s force wait .said ≡ checkSaid (take (s .«in_force») force)
+      pub open-in-force : s .waiting ≤ 0 → 0 < s .«in_force» → openOf s force wait .said ≡ versionOr4 (take (s .«in_force») force)
       open-in-force n l =
           open-table (ap₂ (λ (a b : Bool). a || b) (le-ltb 0 (s .waiting) n) (lt-ltb 0 (s .«in_force») l))
-          ∙ ap (λ (b : Bool). checkSaid (cond b (take (s .waiting) wait) (take (s .«in_force») force))) (le-ltb 0 (s .waiting) n)
+          ∙ ap (λ (b : Bool). versionOr4 (cond b (take (s .waiting) wait) (take (s .«in_force») force))) (le-ltb 0 (s .waiting) n)
 
       pub open-none : s .waiting ≤ 0 → s .«in_force» ≤ 0 → openOf s force wait .said ≡ refused 5
       open-none n l = open-five (ap₂ (λ (a b : Bool). a || b) (le-ltb 0 (s .waiting) n) (le-ltb 0 (s .«in_force») l))
@@ -66,7 +66,7 @@ module _ (s : State) (wait t : List ℕ) where
   unfolding stageOf stageRefusal
   stage-one e = simp e
 
-  pub stage-table : (sound s && longStore wait) ≡ true → stageOf s wait t .said ≡ checkSaid t
+  pub stage-table : (sound s && longStore wait) ≡ true → stageOf s wait t .said ≡ versionOr4 t
   unfolding stageOf stageRefusal
   stage-table e =
       ap (λ (b : Bool). unless (need b 1 (tableRefusal t)) s wait (staging s wait t) .said) e

@@ -30,8 +30,8 @@ openRefusal s force wait =
     (need (isClosed (s .run .phase)) 2
     (need (ltb 0 (s .waiting) || ltb 0 (s .«in_force»)) 5 (tableRefusal (nextTable s force wait))))
 
-abbrev pub openRun : Run
-openRun = record { phase = Feeding; held = 0; standing = 0; counts = noCounts }
+abbrev pub freshRun : Run
+freshRun = record { phase = Feeding; held = 0; standing = 0; counts = noCounts }
 
 -- "if a table waits, its bytes are copied over the start of the in-force store and nothing waits. Counts become zero, the hold
 -- counts as empty. Answers the version in force."
@@ -39,7 +39,7 @@ abbrev pub opening : State → List ℕ → List ℕ → Outcome
 opening s force wait =
     record {
       said = version (decode (nextTable s force wait) .version);
-      state = record { run = openRun; «in_force» = cond (ltb 0 (s .waiting)) (s .waiting) (s .«in_force»); waiting = 0 };
+      state = record { run = freshRun; «in_force» = cond (ltb 0 (s .waiting)) (s .waiting) (s .«in_force»); waiting = 0 };
       lent = cond (ltb 0 (s .waiting)) (over (take (s .waiting) wait) force) force;
     }
 

@@ -8,5 +8,5 @@ use Rattle.table.specs.Rules.{tableOk}
 use Rattle.reader.specs.Said.{Said, refused, version}
 
 -- what Open and Stage say of a table: 4, or its version
-abbrev pub checkSaid : List ℕ → Said
-checkSaid t = cond (tableOk t) (version (decode t .version)) (refused 4)
+abbrev pub versionOr4 : List ℕ → Said
+versionOr4 t = cond (tableOk t) (version (decode t .version)) (refused 4)

@@ -1,8 +1,8 @@
 // Open: its refusals in document 01's order, each tested once, or a version; and the run that it opens.
 ghost use mathlib.Core.Path.{_≡_};
 ghost use Rattle.tables.specs.Said.{saidOpened};
-ghost use Rattle.tables.specs.Calls.{openRun, openOf};
-ghost use Rattle.tables.specs.Code.{checkSaid};
+ghost use Rattle.tables.specs.Calls.{freshRun, openOf};
+ghost use Rattle.tables.specs.Code.{versionOr4};
 use crate::Opened;
 use reader::Phase;
 use reader::Run;
@@ -25,17 +25,17 @@ pub fn of_open(s: State, in_force: &[u8], waiting: &[u8]) -> Opened
     let w = s.waiting;
     let n = s.in_force;
     if 0 < w {
-        return version_of(&waiting[..w]);
+        return version_or_four(&waiting[..w]);
     }
     if 0 < n {
-        return version_of(&in_force[..n]);
+        return version_or_four(&in_force[..n]);
     }
     Opened::Refused(Refusal::NoTable)
 }
 
 // 4, or the version.
-fn version_of(t: &[u8]) -> Opened
-    ensures { λ r. ⌜ saidOpened r ≡ checkSaid (now (t .entry)) ⌝ }
+fn version_or_four(t: &[u8]) -> Opened
+    ensures { λ r. ⌜ saidOpened r ≡ versionOr4 (now (t .entry)) ⌝ }
 {
     let c = table::check(t);
     match c {
@@ -46,7 +46,7 @@ fn version_of(t: &[u8]) -> Opened
 
 // A run that has just opened, with a table of n bytes in force and none waiting.
 pub fn open_state(n: usize) -> State
-    ensures { λ r. ⌜ (r .run ≡ openRun) × (r .«in_force» ≡ n) × (r .waiting ≡ 0) ⌝ }
+    ensures { λ r. ⌜ (r .run ≡ freshRun) × (r .«in_force» ≡ n) × (r .waiting ≡ 0) ⌝ }
 {
     State {
         run: Run {

@@ -49,7 +49,7 @@ pub fn number(out: &mut [u8; 8192], at: usize, n: u64) -> usize
 }
 
 // A word and a number.
-pub fn told(out: &mut [u8; 8192], at: usize, word: &[u8], n: u64) -> usize
+pub fn word_number(out: &mut [u8; 8192], at: usize, word: &[u8], n: u64) -> usize
     requires { ⌜ at + length (now word) + 21 ≤ 8192 ⌝ }
     ensures { λ r. ⌜ r ≤ at + length (now (word .entry)) + 21 ⌝ }
     ensures { λ r. ⌜ take r (now (out .exit)) ≡ take at (now (out .entry)) ++ (now (word .entry) ++ spaced n) ⌝ }

@@ -10,17 +10,17 @@ use Rattle.value.specs.declared.Value.the-variants.{Unsigned, Signed, Si
 
 -- "A field answers one of: unsigned, signed, single float, double float, Do-Not-Use, not in this revision; or a refusal, with its number
 -- inside. Floats keep their bits, NaNs too": a float is said by its bits
-pub data Said : Type 0 where
-  unsigned : ℕ → Said
-  signed : ℤ → Said
-  single : ℕ → Said
-  double : ℕ → Said
-  doNotUse : Said
-  notInRevision : Said
-  refused : ℕ → Said
+pub data FieldSaid : Type 0 where
+  unsigned : ℕ → FieldSaid
+  signed : ℤ → FieldSaid
+  single : ℕ → FieldSaid
+  double : ℕ → FieldSaid
+  doNotUse : FieldSaid
+  notInRevision : FieldSaid
+  fieldRefused : ℕ → FieldSaid
 
 -- what each case of the code's value says
-abbrev pub valueSays : Value → Said
+abbrev pub valueSays : Value → FieldSaid
 valueSays (Unsigned n) = unsigned n
 valueSays (Signed z) = signed z
 valueSays (Single f) = single (toBits binary32 f)
@@ -49,6 +49,6 @@ inCase DoNotUse = DoNotUse
 inCase NotInRevision = NotInRevision
 
 -- a value that says what is to be said, in the case for it
-pub record Means (v : Value) (said : Said) : Type 0 where
+pub record Means (v : Value) (said : FieldSaid) : Type 0 where
   pub says : valueSays v ≡ said
   pub case : v ≡ inCase v

@@ -8,7 +8,7 @@ use Rattle.phrases.specs.Replies.{refusedText}
 use Rattle.refusal.specs.Numbers.{numberFor}
 use Rattle.record.specs.Answer.{answerSays}
 use Rattle.wording.specs.Values.{fieldText}
-use Rattle.desk.specs.declared.Bytes.{Bytes}
+use Rattle.desk.specs.declared.PartCrc.{PartCrc}
 use Rattle.desk.specs.declared.AskReply.{AskReply}
 use Rattle.desk.specs.declared.AskReply.the-variants as ask
 
@@ -21,7 +21,7 @@ abbrev pub wordNoCrcs : List ℕ
 wordNoCrcs = 32 ∷ 124 ∷ 32 ∷ 45 ∷ 32 ∷ 45 ∷ 32 ∷ 45 ∷ 10 ∷ []
 
 -- "`part LENGTH CRC` (of the part handed back, four hex digits)"
-abbrev pub bytesText : Bytes → List ℕ
+abbrev pub bytesText : PartCrc → List ℕ
 bytesText b = wordPart ++ spaced (b .count) ++ crcText (b .crc)
 
 -- what such a call replies

@@ -4,7 +4,7 @@ use Prim.Native.Nat.{ℕ}
 use mathlib.Core.List.{List, [], _∷_, _++_}
 use Rattle.text.specs.Numbers.{spaced, integerText}
 use Rattle.phrases.specs.Replies.{refusedText}
-use Rattle.value.specs.Said as field
+use Rattle.value.specs.Said.{FieldSaid, doNotUse, double, fieldRefused, notInRevision, signed, single, unsigned}
 
 -- `unsigned`
 abbrev pub wordUnsigned : List ℕ
@@ -31,11 +31,11 @@ abbrev pub wordNotInRevision : List ℕ
 wordNotInRevision = 110 ∷ 111 ∷ 116 ∷ 45 ∷ 105 ∷ 110 ∷ 45 ∷ 116 ∷ 104 ∷ 105 ∷ 115 ∷ 45 ∷ 114 ∷ 101 ∷ 118 ∷ 105 ∷ 115 ∷ 105 ∷ 111 ∷ 110 ∷ []
 
 -- what a field says: "`single BITS`; `double BITS` (bits in decimal)"
-abbrev pub fieldText : field.Said → List ℕ
-fieldText (field.unsigned n) = wordUnsigned ++ spaced n
-fieldText (field.signed z) = wordSigned ++ integerText z
-fieldText (field.single b) = wordSingle ++ spaced b
-fieldText (field.double b) = wordDouble ++ spaced b
-fieldText field.doNotUse = wordDoNotUse
-fieldText field.notInRevision = wordNotInRevision
-fieldText (field.refused n) = refusedText n
+abbrev pub fieldText : FieldSaid → List ℕ
+fieldText (unsigned n) = wordUnsigned ++ spaced n
+fieldText (signed z) = wordSigned ++ integerText z
+fieldText (single b) = wordSingle ++ spaced b
+fieldText (double b) = wordDouble ++ spaced b
+fieldText doNotUse = wordDoNotUse
+fieldText notInRevision = wordNotInRevision
+fieldText (fieldRefused n) = refusedText n

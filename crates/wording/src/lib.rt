@@ -12,7 +12,7 @@ ghost use Rattle.phrases.specs.Replies.{stateText};
 ghost use Rattle.wording.specs.Values.{fieldText};
 ghost use Rattle.wording.specs.Lines.{bytesText, askText, wordNoCrcs};
 use desk::AskReply;
-use desk::Bytes;
+use desk::PartCrc;
 use reader::State;
 use record::Answer;
 use value::Value;
@@ -34,31 +34,31 @@ fn single_bits(x: f32) -> u32
 }
 
 // A value of a field. No float that is carried is a NaN, so each has its bits.
-fn field_value(out: &mut [u8; 8192], at: usize, v: Value) -> usize
+fn put_value(out: &mut [u8; 8192], at: usize, v: Value) -> usize
     requires { ⌜ T (noNan v) ⌝ }
     requires { ⌜ at + 120 ≤ 8192 ⌝ }
     ensures { λ r. ⌜ r ≤ at + 120 ⌝ }
     ensures { λ r. ⌜ take r (now (out .exit)) ≡ take at (now (out .entry)) ++ fieldText (valueSays v) ⌝ }
 {
     match v {
-        Value::Unsigned(n) => text::told(out, at, b"unsigned", n),
+        Value::Unsigned(n) => text::word_number(out, at, b"unsigned", n),
         Value::Signed(z) => signed(out, at, z),
-        Value::Single(x) => text::told(out, at, b"single", single_bits(x) as u64),
-        Value::Double(x) => text::told(out, at, b"double", f64::to_bits(x)),
-        Value::SingleNan(b) => text::told(out, at, b"single", b as u64),
-        Value::DoubleNan(b) => text::told(out, at, b"double", b),
+        Value::Single(x) => text::word_number(out, at, b"single", single_bits(x) as u64),
+        Value::Double(x) => text::word_number(out, at, b"double", f64::to_bits(x)),
+        Value::SingleNan(b) => text::word_number(out, at, b"single", b as u64),
+        Value::DoubleNan(b) => text::word_number(out, at, b"double", b),
         Value::DoNotUse => text::put(out, at, b"do-not-use"),
         Value::NotInRevision => text::put(out, at, b"not-in-this-revision"),
     }
 }
 
 // Bytes that were handed back: how many, and their CRC.
-fn bytes(out: &mut [u8; 8192], at: usize, b: Bytes) -> usize
+fn bytes(out: &mut [u8; 8192], at: usize, b: PartCrc) -> usize
     requires { ⌜ at + 120 ≤ 8192 ⌝ }
     ensures { λ r. ⌜ r ≤ at + 120 ⌝ }
     ensures { λ r. ⌜ take r (now (out .exit)) ≡ take at (now (out .entry)) ++ bytesText b ⌝ }
 {
-    let count = text::told(out, at, b"part", b.count as u64);
+    let count = text::word_number(out, at, b"part", b.count as u64);
     text::crc(out, count, b.crc)
 }
 
@@ -71,7 +71,7 @@ fn ask_reply(out: &mut [u8; 8192], at: usize, reply: AskReply) -> usize
 {
     match reply {
         AskReply::Field(a) => match a {
-            Answer::Field(v) => field_value(out, at, v),
+            Answer::Field(v) => put_value(out, at, v),
             Answer::Refused(why) => phrases::refused(out, at, why),
         },
         AskReply::Bytes(b) => bytes(out, at, b),
@@ -87,6 +87,6 @@ pub fn ask_line(out: &mut [u8; 8192], at: usize, reply: AskReply, state: State) 
     ensures { λ r. ⌜ take r (now (out .exit)) ≡ take at (now (out .entry)) ++ (askText reply ++ stateText state ++ wordNoCrcs) ⌝ }
 {
     let said = ask_reply(out, at, reply);
-    let numbers = phrases::state_of(out, said, state);
+    let numbers = phrases::state_text(out, said, state);
     text::put(out, numbers, b" | - - -\n")
 }

@@ -9,7 +9,7 @@ use lib.ListN.{length, getD}
 use lib.Dec.{ltb, eqb·suc-zero}
 use borrow.Author.Tests.{ltb-false, le-ltb}
 use Rattle.words.specs.Words.{keyFrom, keyOf}
-use Rattle.words.specs.Theorems.{Keyed, ToldApart}
+use Rattle.words.specs.Theorems.{Keyed, KeysApart}
 
 -- a byte is below 256
 abbrev Bytes : List ℕ → Type 0
@@ -127,7 +127,7 @@ apart v w a b p e =
     let t : length w < length v → ⊥ = λ l. omega (arith, longer w v b l q) in
     same v w 0 0 a b (omega arith) q (omega arith) .1
 
-pub told-apart : ToldApart
+pub told-apart : KeysApart
 told-apart =
     record {
       apart = apart;

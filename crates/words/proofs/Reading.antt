@@ -12,7 +12,7 @@ use lib.ListN.{length, take, drop, getD, set, drop-of-length-le}
 use lib.Dec.{eqb, leb, ltb}
 use lib.Seq.{drop-cons, take-suc-set}
 use borrow.Author.Tests.{eqb-true, eqb-false, eq-eqb, ne-eqb, leb-true, le-leb, lt-leb, ltb-true, ltb-false, lt-ltb, le-ltb}
-use Rattle.words.specs.Words.{upTo, keyFrom, keyOf, addDigit, numberThen, numberIn, hexDigit, behind, bytesSay, bytesFrom, bytesIn}
+use Rattle.words.specs.Words.{upTo, keyFrom, keyOf, addDigit, numberThen, decimalIn, hexDigit, inFront, bytesSay, bytesFrom, bytesIn}
 
 never : {X : Type 0} {b : Bool} → b ≡ true → b ≡ false → X
 never e f = let z : _≡_ {A = ℕ} 0 1 = cc in let g : ⊥ = omega arith in absurd g
@@ -109,13 +109,13 @@ unfolding numberThen
 then-none [] = refl
 then-none (c ∷ w) = then-none w
 
-pub number-some : (w : List ℕ) → 0 < length w → numberIn w ≡ numberThen w (some 0)
-unfolding numberIn
+pub number-some : (w : List ℕ) → 0 < length w → decimalIn w ≡ numberThen w (some 0)
+unfolding decimalIn
 number-some [] h = let z : ⊥ = omega arith in absurd z
 number-some (c ∷ w) h = refl
 
-pub number-empty : (w : List ℕ) → length w ≡ 0 → numberIn w ≡ none
-unfolding numberIn
+pub number-empty : (w : List ℕ) → length w ≡ 0 → decimalIn w ≡ none
+unfolding decimalIn
 number-empty [] h = refl
 number-empty (c ∷ w) h = let z : ⊥ = omega arith in absurd z
 
@@ -161,7 +161,7 @@ pub before-empty : (o : Option (List ℕ)) → before [] o ≡ o
 before-empty none = refl
 before-empty (some m) = refl
 
-pub before-more : (g : List ℕ) (n x : ℕ) (o : Option (List ℕ)) → n < length g → before (take (n + 1) (set g n x)) o ≡ before (take n g) (behind x o)
+pub before-more : (g : List ℕ) (n x : ℕ) (o : Option (List ℕ)) → n < length g → before (take (n + 1) (set g n x)) o ≡ before (take n g) (inFront x o)
 before-more g n x none h = refl
 before-more g n x (some m) h =
     let e : take (n + 1) (set g n x) ≡ take n g ++ (x ∷ []) = rw (add-one, take-suc-set g n x) in
@@ -197,21 +197,21 @@ module _ (w g : List ℕ) (n x y : ℕ) (ex : x ≡ hexDigit (getD w (n + n) 0))
   abbrev rest : Option (List ℕ)
   rest = bytesFrom (drop (n + n + 2) w)
 
-  pair : bytesFrom (drop (n + n) w) ≡ cond (ltb 15 x) none (cond (ltb 15 y) none (behind (x * 16 + y) rest))
+  pair : bytesFrom (drop (n + n) w) ≡ cond (ltb 15 x) none (cond (ltb 15 y) none (inFront (x * 16 + y) rest))
   unfolding bytesFrom
   pair =
       ap bytesFrom (two-cons w (n + n) h)
-      ∙ ap₂ (λ (p q : ℕ). cond (ltb 15 p) none (cond (ltb 15 q) none (behind (p * 16 + q) rest))) (sym ex) (sym ey)
+      ∙ ap₂ (λ (p q : ℕ). cond (ltb 15 p) none (cond (ltb 15 q) none (inFront (p * 16 + q) rest))) (sym ex) (sym ey)
 
   pub pair-bad : (ltb 15 x || ltb 15 y) ≡ true → none ≡ before (take n g) (bytesFrom (drop (n + n) w))
-  pair-bad e = sym (ap (before (take n g)) (pair ∙ none-of (ltb 15 x) (ltb 15 y) (behind (x * 16 + y) rest) e))
+  pair-bad e = sym (ap (before (take n g)) (pair ∙ none-of (ltb 15 x) (ltb 15 y) (inFront (x * 16 + y) rest) e))
 
   pub pair-more : n < length g → (ltb 15 x || ltb 15 y) ≡ false
       → before (take (n + 1) (set g n (x * 16 + y))) (bytesFrom (drop (n + 1 + (n + 1)) w)) ≡ before (take n g) (bytesFrom (drop (n + n) w))
   pair-more l e =
       let d : n + 1 + (n + 1) ≡ n + n + 2 = omega arith in
       let t = neither (ltb 15 x) (ltb 15 y) e in
-      let c : cond (ltb 15 x) none (cond (ltb 15 y) none (behind (x * 16 + y) rest)) ≡ behind (x * 16 + y) rest = rw (t .0, t .1) in
+      let c : cond (ltb 15 x) none (cond (ltb 15 y) none (inFront (x * 16 + y) rest)) ≡ inFront (x * 16 + y) rest = rw (t .0, t .1) in
       ap (λ (k : ℕ). before (take (n + 1) (set g n (x * 16 + y))) (bytesFrom (drop k w))) d
       ∙ before-more g n (x * 16 + y) rest l
       ∙ sym (ap (before (take n g)) (pair ∙ c))

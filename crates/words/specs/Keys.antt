@@ -1,5 +1,5 @@
 -- The words that a script's line is told by, each with its key, the number that `script` matches. No other word has that key:
--- `words::told_apart`.
+-- `words::keys_apart`.
 -- Assumes nothing.
 use Prim.Native.Nat.{ℕ}
 use Prim.Native.Char.{code}

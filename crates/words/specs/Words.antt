@@ -41,9 +41,9 @@ numberThen [] v = v
 numberThen (c ∷ w) v = numberThen w (digitBehind v c)
 
 -- a word of one digit or more; none where it is no number
-unfoldable pub numberIn : List ℕ → Option ℕ
-numberIn [] = none
-numberIn (c ∷ w) = numberThen (c ∷ w) (some 0)
+unfoldable pub decimalIn : List ℕ → Option ℕ
+decimalIn [] = none
+decimalIn (c ∷ w) = numberThen (c ∷ w) (some 0)
 
 -- `0` to `9`, `A` to `F`, `a` to `f`; 16 for any other byte
 unfoldable pub hexDigit : ℕ → ℕ
@@ -55,15 +55,15 @@ abbrev pub bytesSay : Bool → List ℕ → Option (List ℕ)
 bytesSay true l = some l
 bytesSay false l = none
 
-abbrev pub behind : ℕ → Option (List ℕ) → Option (List ℕ)
-behind b none = none
-behind b (some l) = some (b ∷ l)
+abbrev pub inFront : ℕ → Option (List ℕ) → Option (List ℕ)
+inFront b none = none
+inFront b (some l) = some (b ∷ l)
 
 -- two digits a byte, the high one first; none where one is no hex digit or one is left over
 unfoldable pub bytesFrom : List ℕ → Option (List ℕ)
 bytesFrom [] = some []
 bytesFrom (c ∷ []) = none
-bytesFrom (c ∷ d ∷ w) = cond (ltb 15 (hexDigit c)) none (cond (ltb 15 (hexDigit d)) none (behind (hexDigit c * 16 + hexDigit d) (bytesFrom w)))
+bytesFrom (c ∷ d ∷ w) = cond (ltb 15 (hexDigit c)) none (cond (ltb 15 (hexDigit d)) none (inFront (hexDigit c * 16 + hexDigit d) (bytesFrom w)))
 
 -- a word: `-` for none, else two digits or more
 unfoldable pub bytesIn : List ℕ → Option (List ℕ)

@@ -3,9 +3,9 @@ ghost use Prim.Native.Nat.{_+_, _≤_, _<_};
 ghost use mathlib.Core.Path.{_≡_};
 ghost use lib.ListN.{length, take, drop};
 ghost use Rattle.io.specs.Counts.{Counts};
-ghost use Rattle.words.specs.Words.{upTo, keyOf, numberSays, addDigit, numberIn, hexDigit, bytesSay, bytesFrom, bytesIn};
+ghost use Rattle.words.specs.Words.{upTo, keyOf, numberSays, addDigit, decimalIn, hexDigit, bytesSay, bytesFrom, bytesIn};
 ghost use Rattle.words.specs.Keys.{KeysHold};
-ghost use Rattle.words.specs.Theorems.{ToldApart};
+ghost use Rattle.words.specs.Theorems.{KeysApart};
 
 // Where the word at the front of a text ends: at its first space, or with it.
 pub fn word_end(text: &[u8]) -> usize
@@ -49,8 +49,8 @@ pub fn key(word: &[u8]) -> u64
 }
 
 // No two words have the same key, and the words that have one are those of one to eight bytes, none of them zero.
-pub fn told_apart()
-    ensures { λ _. ⌜ ToldApart ⌝ }
+pub fn keys_apart()
+    ensures { λ _. ⌜ KeysApart ⌝ }
 {}
 
 // The keys of a script's words. `script` matches on these numbers, which no proof says.
@@ -79,7 +79,7 @@ fn add_digit(v: u64, c: u8) -> Decimal
 
 // A word as a decimal number.
 pub fn number(word: &[u8]) -> Decimal
-    ensures { λ r. ⌜ numberSays r ≡ numberIn (now (word .entry)) ⌝ }
+    ensures { λ r. ⌜ numberSays r ≡ decimalIn (now (word .entry)) ⌝ }
 {
     if word.len() == 0 {
         return Decimal::NoNumber;
@@ -120,7 +120,7 @@ pub struct Decoded {
 }
 
 // Pairs of hex digits, as bytes at the start of `given`.
-fn decode(word: &[u8], given: &mut [u8]) -> Decoded
+fn hex_pairs(word: &[u8], given: &mut [u8]) -> Decoded
     requires { ⌜ length (now word) ≤ length (now given) + length (now given) ⌝ }
     ensures { λ r. ⌜ bytesSay (r .«is_hex») (take (r .count) (now (given .exit))) ≡ bytesFrom (now (word .entry)) ⌝ }
     ensures { λ r. ⌜ r .count ≤ length (now (given .entry)) ⌝ }
@@ -165,5 +165,5 @@ pub fn bytes(word: &[u8], given: &mut [u8; 135000]) -> Decoded
             count: 0,
         };
     }
-    decode(word, given)
+    hex_pairs(word, given)
 }

@@ -27,14 +27,14 @@ find-requires c κs = search needs
 enum-known-row : tie.Need-enum-known-row
 enum-known-row c = search needs
 
-judged-requires : tie.Need-judged-requires
-judged-requires c κs = (whole (c .before .before .before .before .before), stands-at _ (c .before .before .before .find .ensures) (c .before .row .given .1))
+fitted-requires : tie.Need-fitted-requires
+fitted-requires c κs = (whole (c .before .before .before .before .before), stands-at _ (c .before .before .before .find .ensures) (c .before .row .given .1))
 
 enum-told : tie.Need-enum-told
 enum-told c = search needs
 
 returns-2 : tie.Need-returns-2
-returns-2 c = let k = c .before in look-at _ _ (whole (k .before .before .before .before .before)) _ _ (k .before .before .before .find .ensures) (k .before .before .before .before .number .ensures) (k .before .row .given .1) (c .judged .ensures)
+returns-2 c = let k = c .before in look-at _ _ (whole (k .before .before .before .before .before)) _ _ (k .before .before .before .find .ensures) (k .before .before .before .before .number .ensures) (k .before .row .given .1) (c .fitted .ensures)
 
 returns-3 : tie.Need-returns-3
 returns-3 c = look-6 _ _ (whole (c .before .before .before .before)) _ _ (c .before .before .find .ensures) (c .before .before .before .number .ensures) (c .enum-told .given .1)
@@ -48,7 +48,7 @@ row-of-spec =
     number-requires
     find-requires
     enum-known-row
-    judged-requires
+    fitted-requires
     enum-told
     returns-2
     returns-3)

@@ -7,13 +7,13 @@ use Rattle.kinds.specs.Types.{sizeOf}
 use Rattle.kinds.specs.Marks.{markFits}
 use Rattle.rows.specs.Places.{fieldAt, rowFrom, rowAt}
 use Rattle.table.specs.Decode.{rowsOf, blockOf, decode}
-use Rattle.encode.specs.Encode.{two, fieldBytes, fieldsPart, rowsPart, unsealed, encode}
-use Rattle.table.specs.Rules.{fileOk, indexOk, counts, formOk, risingOk, isPair, fieldsOk, blockOk, meaningOk, tableOk}
+use Rattle.encode.specs.Encode.{u2Bytes, fieldBytes, fieldsPart, rowsPart, unsealed, encode}
+use Rattle.table.specs.Rules.{fileOk, indexOk, usedFields, formOk, risingOk, isPair, fieldsOk, blockOk, meaningOk, tableOk}
 use Rattle.encode.proofs.limits_hold.Statement.{statement}
 use Rattle.encode.proofs.limits_hold.Tie as tie
 
 returns : tie.Need-returns
-unfolding crcBit crcBits8 crcByte crcFrom crcOf littleAt tabulate every chain neighbours sizeOf markFits fieldAt rowFrom rowAt rowsOf blockOf decode two fieldBytes fieldsPart rowsPart unsealed encode fileOk indexOk counts formOk risingOk isPair fieldsOk blockOk meaningOk tableOk
+unfolding crcBit crcBits8 crcByte crcFrom crcOf littleAt tabulate every chain neighbours sizeOf markFits fieldAt rowFrom rowAt rowsOf blockOf decode u2Bytes fieldBytes fieldsPart rowsPart unsealed encode fileOk indexOk usedFields formOk risingOk isPair fieldsOk blockOk meaningOk tableOk
 returns c = refl
 
 pub limits-hold-spec : {M : Type 1} → statement M

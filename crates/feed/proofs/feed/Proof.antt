@@ -6,11 +6,11 @@ use Prim.Native.Nat.{ℕ, _-_, _+_, _≤_, min}
 use native.Mathlib.Omega.{arith}
 use lib.ListN.{length, drop}
 use lib.Seq.{length-take-le}
-use Rattle.scan.specs.Feed.{Feeding, feedLit}
-use Rattle.scan.specs.Passed.{foundOf}
+use Rattle.scan.specs.Feed.{Intake, feedLit}
+use Rattle.scan.specs.Passed.{scannedOf}
 use Rattle.feed.specs.Hold.{restOf}
 use Rattle.feed.proofs.Bounds.{Bytes, take-bytes, drop-bytes, fed-held}
-use Rattle.feed.proofs.Literally.{roomed, rest-length, sum, few, whole, told, kept}
+use Rattle.feed.proofs.Literally.{roomed, rest-length, sum, few, whole, numbers-are, kept}
 use borrow.Author.Needs.{needs}
 use Rattle.feed.proofs.feed.Statement.{statement}
 use Rattle.feed.proofs.feed.Tie as tie
@@ -52,15 +52,15 @@ abbrev rest : tie.After-scan → List ℕ
 rest s = let a = entry s .args in restOf (a .hold .now) (a .held) (a .standing)
 
 -- what the rule gives
-abbrev fed : tie.After-scan → Feeding
+abbrev fed : tie.After-scan → Intake
 fed s = feedLit (rest s) (entry s .args .piece .now) (entry s .args .room)
 
-came : (s : tie.After-scan) → s .scan .result ≡ foundOf (fed s)
+came : (s : tie.After-scan) → s .scan .result ≡ scannedOf (fed s)
 unfolding restOf
 came s =
     let a = entry s .args in
     let l = s .before .before .before .before .lesser in
-    s .scan .ensures ∙ ap foundOf (roomed (rest s) (a .piece .now) (a .room) (l .result) (l .ensures))
+    s .scan .ensures ∙ ap scannedOf (roomed (rest s) (a .piece .now) (a .room) (l .result) (l .ensures))
 
 -- none is lost
 adds : (s : tie.After-scan)
@@ -109,7 +109,7 @@ returns c =
     let l = adds s in
     let f = held-few s in
     let w = whole (a .hold .now) (a .held) (a .standing) (a .piece .now) (a .room) (front s) (fits s) (s .scan .result) (came s) in (
-      told (a .hold .now) (a .held) (a .standing) (a .piece .now) (a .room) (front s) (fits s) (s .scan .result) (came s),
+      numbers-are (a .hold .now) (a .held) (a .standing) (a .piece .now) (a .room) (front s) (fits s) (s .scan .result) (came s),
       (
         kept (a .hold .now) (a .held) (a .standing) (a .piece .now) (a .room) (front s) (fits s) (s .scan .result) (came s) (c .before .before .keep .ensures),
         record { front = omega (arith, l, w); few = omega (arith, l, f); taken = t },

@@ -7,7 +7,7 @@ use lib.ListN.{length}
 use Rattle.frame.specs.Judge.{judgedLast}
 use Rattle.scan.specs.Settle.{settle}
 use Rattle.scan.specs.Feed.{stop}
-use Rattle.scan.specs.Passed.{foundOf}
+use Rattle.scan.specs.Passed.{scannedOf}
 use Rattle.feed.specs.Hold.{restOf}
 use Rattle.feed.proofs.Literally.{end-few, end-front, end-told, end-kept}
 use borrow.Author.Needs.{needs}
@@ -35,7 +35,7 @@ front s = entry s .pre .0
 fits : (s : tie.After-last) → entry s .args .held ≤ length (entry s .args .hold .now)
 fits s = omega (arith, entry s .pre)
 
-came : (s : tie.After-last) → s .last .result ≡ foundOf (stop (settle judgedLast (restOf (entry s .args .hold .now) (entry s .args .held) (entry s .args .standing))))
+came : (s : tie.After-last) → s .last .result ≡ scannedOf (stop (settle judgedLast (restOf (entry s .args .hold .now) (entry s .args .held) (entry s .args .standing))))
 unfolding restOf
 came s = s .last .ensures
 

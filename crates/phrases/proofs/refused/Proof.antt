@@ -11,23 +11,23 @@ use borrow.Author.Needs.{needs}
 use Rattle.phrases.proofs.refused.Statement.{statement}
 use Rattle.phrases.proofs.refused.Tie as tie
 
-slice-aggregate-told : tie.Need-slice-aggregate-told
-slice-aggregate-told c = search needs
+slice-aggregate-word-number : tie.Need-slice-aggregate-word-number
+slice-aggregate-word-number c = search needs
 
 number-requires : tie.Need-number-requires
 number-requires c κs = search needs
 
-cast-told : tie.Need-cast-told
-cast-told c = search needs
+cast-word-number : tie.Need-cast-word-number
+cast-word-number c = search needs
 
-told-requires : tie.Need-told-requires
-told-requires c κs = search needs
+word-number-requires : tie.Need-word-number-requires
+word-number-requires c κs = search needs
 
 returns : tie.Need-returns
 returns c =
     let b = c .before .before .before .before in
     let n = c .before .number in
-    (omega (arith, c .told .ensures .0, b .pre), c .told .ensures .1 ∙ ap (λ (m : ℕ). take (b .args .at) (b .args .out .now) ++ (wordRefused ++ spaced m)) (n .ensures))
+    (omega (arith, c .word-number .ensures .0, b .pre), c .word-number .ensures .1 ∙ ap (λ (m : ℕ). take (b .args .at) (b .args .out .now) ++ (wordRefused ++ spaced m)) (n .ensures))
 
 pub refused-spec : {M : Type 1} → statement M
-refused-spec = tie.close (tie.spec slice-aggregate-told number-requires cast-told told-requires returns)
+refused-spec = tie.close (tie.spec slice-aggregate-word-number number-requires cast-word-number word-number-requires returns)

@@ -25,14 +25,14 @@ field-at-requires c κs = let k = c .before in omega (arith, fine-at _ _ (k .bef
 revision-requires : tie.Need-revision-requires
 revision-requires c κs = let k = c .before .before in omega (arith, fine-at _ _ (k .before .before .before .row-of .ensures) (k .before .row .given .1) .long)
 
-field-requires : tie.Need-field-requires
-field-requires c κs = let e = c .before .before in let k = e .before in body-ends _ _ (k .before .before .before .row-of .ensures) _ _ (k .before .row .given .1) (e .if1 .left) (c .before .field-at .ensures .0) (c .revision .ensures)
+field-said-requires : tie.Need-field-said-requires
+field-said-requires c κs = let e = c .before .before in let k = e .before in body-ends _ _ (k .before .before .before .row-of .ensures) _ _ (k .before .row .given .1) (e .if1 .left) (c .before .field-at .ensures .0) (c .revision .ensures)
 
 enum-known-x : tie.Need-enum-known-x
 enum-known-x c = search needs
 
 returns-2 : tie.Need-returns-2
-returns-2 c = let e = c .before .before .before in let k = e .before in body-says _ _ (k .before .before .before .row-of .ensures) _ _ (k .before .row .given .1) (e .if1 .left) (c .before .before .field-at .ensures .0) (c .before .revision .ensures) (c .field .ensures)
+returns-2 c = let e = c .before .before .before in let k = e .before in body-says _ _ (k .before .before .before .row-of .ensures) _ _ (k .before .row .given .1) (e .if1 .left) (c .before .before .field-at .ensures .0) (c .before .revision .ensures) (c .field-said .ensures)
 
 returns-3 : tie.Need-returns-3
 returns-3 c = body-refused _ _ (c .before .before .before .row-of .ensures) _ (c .before .x .given .1)
@@ -47,7 +47,7 @@ body-field-spec =
     add-field-at
     field-at-requires
     revision-requires
-    field-requires
+    field-said-requires
     enum-known-x
     returns-2
     returns-3)

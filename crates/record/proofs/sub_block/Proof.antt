@@ -1,7 +1,7 @@
 -- `record::sub_block` meets its contract: the part that stands at its place.
 -- Assumes nothing.
 use mathlib.Core.Path.{ap, _∙_}
-use Rattle.record.specs.Calls.{subBytes}
+use Rattle.record.specs.Calls.{subSlice}
 use Rattle.record.proofs.Parts.{part-at}
 use borrow.Author.Needs.{needs}
 use Rattle.record.proofs.sub_block.Statement.{statement}
@@ -14,7 +14,7 @@ part-requires : tie.Need-part-requires
 part-requires c κs = c .sub-place .ensures .1 .1
 
 returns : tie.Need-returns
-returns c = c .part .ensures .0 ∙ ap (subBytes _) (c .before .sub-place .ensures .1 .0) ∙ part-at _ _ _
+returns c = c .part .ensures .0 ∙ ap (subSlice _) (c .before .sub-place .ensures .1 .0) ∙ part-at _ _ _
 
 pub sub-block-spec : {M : Type 1} → statement M
 sub-block-spec = tie.close (tie.spec sub-place-requires part-requires returns)

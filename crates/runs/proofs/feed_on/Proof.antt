@@ -7,9 +7,9 @@ use mathlib.Core.Option.{Option, none, some}
 use Prim.Native.Nat.{ℕ, _-_, _≤_, min}
 use native.Mathlib.Omega.{arith}
 use lib.ListN.{length, drop, length-append, length-drop}
-use Rattle.scan.specs.Feed.{Feeding}
-use Rattle.feed.specs.Hold.{restOf, numbersOf, holdOf, Good}
-use Rattle.feed.specs.declared.Fed.{Fed}
+use Rattle.scan.specs.Feed.{Intake}
+use Rattle.feed.specs.Hold.{restOf, numbersOf, holdOf, GoodNumbers}
+use Rattle.feed.specs.declared.HoldNumbers.{HoldNumbers}
 use Rattle.feed.proofs.Literally.{rest-length}
 use Rattle.reader.specs.State.{limit, sound}
 use Rattle.reader.specs.Said.{Report, took}
@@ -35,7 +35,7 @@ abbrev entry : tie.After-feed → tie.Start
 entry d = d .before .before .before .before .before .before
 
 -- what was fed, by the definition
-abbrev meaning : tie.After-feed → Feeding
+abbrev meaning : tie.After-feed → Intake
 meaning d = feedingOf (entry d .args .s) (entry d .args .hold .now) (entry d .args .piece .now)
 
 numbers : (d : tie.After-feed) → d .feed .result ≡ numbersOf (meaning d)
@@ -50,7 +50,7 @@ whole : (d : tie.After-feed) → WholeIf (meaning d .standing) (meaning d .held)
 unfolding feedingOf
 whole d = fed-whole _ _ _
 
-good : (d : tie.After-feed) → Good (d .feed .result) (min (limit - entry d .args .s .run .counts .taken) (length (entry d .args .piece .now)))
+good : (d : tie.After-feed) → GoodNumbers (d .feed .result) (min (limit - entry d .args .s .run .counts .taken) (length (entry d .args .piece .now)))
 good d = d .feed .ensures .1 .1
 
 long-left : (d : tie.After-feed) → length (entry d .args .hold .now) ≤ length (d .feed .last .0)
@@ -106,9 +106,9 @@ returns : tie.Need-returns
 returns c =
     let w = c .before in
     let d = w .before .before .before .before in
-    let e : meaning d .standing ≡ none = none-if (meaning d .standing) (meaning d .held) (whole d) (sym (ap (λ (x : Fed). x .standing) (numbers d)) ∙ c .if1 .taken) in
+    let e : meaning d .standing ≡ none = none-if (meaning d .standing) (meaning d .held) (whole d) (sym (ap (λ (x : HoldNumbers). x .standing) (numbers d)) ∙ c .if1 .taken) in
     same-outcome
-    (ap₂ (λ (t : ℕ) (o : Option Report). took t o) (ap (λ (x : Fed). x .taken) (numbers d))
+    (ap₂ (λ (t : ℕ) (o : Option Report). took t o) (ap (λ (x : HoldNumbers). x .taken) (numbers d))
     (sym (ap (λ (o : Option ℕ). reportIf o (front (runOn phase.Feeding (entry d .args .s .run) (meaning d))) (meaning d .held)) e)))
     (state-is w) (left d)
 
@@ -138,9 +138,9 @@ returns-2 c =
     let F = meaning d in
     let n = d .feed .result .standing in
     let es : meaning d .standing ≡ some (d .feed .result .standing) =
-    some-if (meaning d .standing) (d .feed .result .standing) (sym (ap (λ (x : Fed). x .standing) (numbers d))) (c .before .before .before .if1 .left) in
+    some-if (meaning d .standing) (d .feed .result .standing) (sym (ap (λ (x : HoldNumbers). x .standing) (numbers d))) (c .before .before .before .if1 .left) in
     same-outcome
-    (ap₂ (λ (t : ℕ) (o : Option Report). took t o) (ap (λ (x : Fed). x .taken) (numbers d))
+    (ap₂ (λ (t : ℕ) (o : Option Report). took t o) (ap (λ (x : HoldNumbers). x .taken) (numbers d))
     (ap some
     (c .block-at .ensures ∙ ap (λ (h : List ℕ). reportAt h (front (w .before .went-on .result)) n) (left d)
     ∙ report-is (meaning d .held) (drop (length (meaning d .held)) (entry d .args .hold .now)) (front (w .before .went-on .result)) n (whole-some (meaning d .standing) (meaning d .held) n (whole d) es)

@@ -7,9 +7,9 @@ use mathlib.Core.Option.{Option, none, some}
 use Prim.Native.Nat.{ℕ, _+_, _-_, _≤_}
 use native.Mathlib.Omega.{arith}
 use lib.ListN.{length, drop, length-append, length-drop}
-use Rattle.scan.specs.Feed.{Feeding}
+use Rattle.scan.specs.Feed.{Intake}
 use Rattle.feed.specs.Hold.{restOf, numbersOf, holdOf}
-use Rattle.feed.specs.declared.Fed.{Fed}
+use Rattle.feed.specs.declared.HoldNumbers.{HoldNumbers}
 use Rattle.feed.proofs.Literally.{rest-length}
 use Rattle.reader.specs.State.{sound}
 use Rattle.reader.specs.Said.{ended, found}
@@ -35,7 +35,7 @@ abbrev entry : tie.After-finish → tie.Start
 entry d = d .before .before .before .before
 
 -- what finishing gave, by the definition
-abbrev meaning : tie.After-finish → Feeding
+abbrev meaning : tie.After-finish → Intake
 meaning d = finishingOf (entry d .args .s) (entry d .args .hold .now)
 
 numbers : (d : tie.After-finish) → d .finish .result ≡ numbersOf (meaning d)
@@ -79,8 +79,8 @@ run-is : (w : tie.After-went-on)
 run-is w =
     let d = fed w in
     w .went-on .ensures
-    ∙ ap₂ (λ (x : Phase) (f : Fed). runBy x (entry d .args .s .run) f)
-    (w .before .phase-after .ensures ∙ ap (λ (f : Fed). phaseBy (f .standing)) (numbers d) ∙ phase-is (meaning d .standing) (meaning d .held) (whole d)) (numbers d)
+    ∙ ap₂ (λ (x : Phase) (f : HoldNumbers). runBy x (entry d .args .s .run) f)
+    (w .before .phase-after .ensures ∙ ap (λ (f : HoldNumbers). phaseBy (f .standing)) (numbers d) ∙ phase-is (meaning d .standing) (meaning d .held) (whole d)) (numbers d)
     ∙ run-on (phaseAfter (meaning d .standing)) (entry d .args .s .run) (meaning d) (whole d)
 
 finish-requires : tie.Need-finish-requires
@@ -107,7 +107,7 @@ returns c =
     let w = c .before .before in
     let d = fed (w .before) in
     let r = runOn (phaseAfter (meaning d .standing)) (entry d .args .s .run) (meaning d) in
-    let e : meaning d .standing ≡ none = none-if (meaning d .standing) (meaning d .held) (whole d) (sym (ap (λ (x : Fed). x .standing) (numbers d)) ∙ c .before .if1 .taken) in
+    let e : meaning d .standing ≡ none = none-if (meaning d .standing) (meaning d .held) (whole d) (sym (ap (λ (x : HoldNumbers). x .standing) (numbers d)) ∙ c .before .if1 .taken) in
     same-outcome
     (ap (λ (x : Run). ended (x .counts)) (run-is (w .before)) ∙ sym (ap (λ (o : Option ℕ). finishSaid o r (meaning d .held)) e))
     (state-is w) (left d)
@@ -137,7 +137,7 @@ returns-2 c =
     let n = d .finish .result .standing in
     let r = runOn (phaseAfter (meaning d .standing)) (entry d .args .s .run) (meaning d) in
     let es : meaning d .standing ≡ some (d .finish .result .standing) =
-    some-if (meaning d .standing) (d .finish .result .standing) (sym (ap (λ (x : Fed). x .standing) (numbers d))) (c .before .before .before .if1 .left) in
+    some-if (meaning d .standing) (d .finish .result .standing) (sym (ap (λ (x : HoldNumbers). x .standing) (numbers d))) (c .before .before .before .if1 .left) in
     same-outcome
     (ap found
     (c .block-at .ensures ∙ ap (λ (h : List ℕ). reportAt h (front (w .before .went-on .result)) n) (left d)

@@ -85,13 +85,13 @@ verdict j e =
     ∙ ap judgedLast (take-all (length (run j) - place j) (drop (place j) (run j)) (omega (arith, length-drop (place j) (run j)))))
     ∙ e
 
-ended-requires : tie.Need-ended-requires Inv-loop μ-loop
-ended-requires c κs = search needs
+last-found-requires : tie.Need-last-found-requires Inv-loop μ-loop
+last-found-requires c κs = search needs
 
 returns : tie.Need-returns Inv-loop μ-loop
 returns c =
     let n = c .before .before in
-    c .ended .ensures
+    c .last-found .ensures
     ∙ sym (end-end (bytes (n .before)) (n .before .start-from .result) (past n) (omega (arith, c .before .if2 .taken)))
     ∙ there n
 
@@ -110,14 +110,14 @@ judge-last-requires c κs = search needs
 enum-known-v : tie.Need-enum-known-v Inv-loop μ-loop
 enum-known-v c = search needs
 
-ended-requires-2 : tie.Need-ended-requires-2 Inv-loop μ-loop
-ended-requires-2 c κs = search needs
+last-found-requires-2 : tie.Need-last-found-requires-2 Inv-loop μ-loop
+last-found-requires-2 c κs = search needs
 
 returns-2 : tie.Need-returns-2 Inv-loop μ-loop
 returns-2 c =
     let v = c .before .before in
     let j = v .before .before in
-    c .ended2 .ensures
+    c .last-found2 .ensures
     ∙ sym (end-frame (run j) (place j) (past (begin j)) (v .v .given .0 .0) (inside (j .before .before)) (verdict j (v .v .given .1)))
     ∙ there (begin j)
 
@@ -153,22 +153,22 @@ loop-again c =
 enum-told : tie.Need-enum-told Inv-loop μ-loop
 enum-told c = search needs
 
-ended-requires-3 : tie.Need-ended-requires-3 Inv-loop μ-loop
-ended-requires-3 c κs = search needs
+last-found-requires-3 : tie.Need-last-found-requires-3 Inv-loop μ-loop
+last-found-requires-3 c κs = search needs
 
 returns-3 : tie.Need-returns-3 Inv-loop μ-loop
 returns-3 c =
     let j = c .before .before .before in
     absurd (last-decides (drop (place j) (run j)) (verdict j (c .before .enum-told .given .1)))
 
-ended-requires-4 : tie.Need-ended-requires-4 Inv-loop μ-loop
-ended-requires-4 c κs = search needs
+last-found-requires-4 : tie.Need-last-found-requires-4 Inv-loop μ-loop
+last-found-requires-4 c κs = search needs
 
 returns-4 : tie.Need-returns-4 Inv-loop μ-loop
 returns-4 c =
     let w = c .before .before .before .before .before .before .args .held .now in
     let l = c .before .before .before .loop in
-    c .ended4 .ensures ∙ sym (end-end w (l .passed .skipped) (l .passed) (omega (arith, c .before))) ∙ l .inv .1
+    c .last-found4 .ensures ∙ sym (end-end w (l .passed .skipped) (l .passed) (omega (arith, c .before))) ∙ l .inv .1
 
 pub last-spec : {M : Type 1} → statement M
 last-spec =
@@ -181,21 +181,21 @@ last-spec =
     start-from-requires
     sub-count-no-sync
     count-no-sync-requires
-    ended-requires
+    last-found-requires
     returns
     sub-judge-last
     part-judge-last-start
     part-judge-last-end
     judge-last-requires
     enum-known-v
-    ended-requires-2
+    last-found-requires-2
     returns-2
     enum-known-v-2
     count-requires
     loop-less
     loop-again
     enum-told
-    ended-requires-3
+    last-found-requires-3
     returns-3
-    ended-requires-4
+    last-found-requires-4
     returns-4)

@@ -8,13 +8,13 @@ use lib.ListN.{length}
 use Rattle.frame.specs.Judge.{judged}
 use Rattle.scan.specs.Settle.{settle}
 use Rattle.scan.specs.Feed.{feedLit}
-use Rattle.scan.specs.Passed.{nothingPassed, countAll, foundOf}
-use Rattle.scan.specs.Scan.{behind, marks, partOf}
+use Rattle.scan.specs.Passed.{nothingPassed, countAll, scannedOf}
+use Rattle.scan.specs.Scan.{withRest, needed, stretchOf}
 use Rattle.scan.specs.declared.Passed.{Passed}
-use Rattle.scan.specs.declared.Found.{Found}
-use Rattle.scan.specs.declared.Part.{Part}
+use Rattle.scan.specs.declared.Scanned.{Scanned}
+use Rattle.scan.specs.declared.Stretch.{Stretch}
 use Rattle.scan.proofs.Stable.{judging}
-use Rattle.scan.proofs.Scanning.{thenPart, part-then, last-part, Kept, kept, foundBy, found}
+use Rattle.scan.proofs.Scanning.{thenPart, part-then, last-part, Kept, kept, scannedBy, found}
 use borrow.Author.Needs.{needs}
 use Rattle.scan.proofs.scan.Statement.{statement}
 use Rattle.scan.proofs.scan.Tie as tie
@@ -23,52 +23,52 @@ abbrev entry : tie.After-scan-part → tie.Start
 entry s = s .before .before .before .before
 
 -- what the call is to give
-abbrev whole : tie.After-scan-part → Found
-whole s = let a = entry s .args in foundOf (feedLit (a .held .now) (a .piece .now) (length (a .piece .now)))
+abbrev whole : tie.After-scan-part → Scanned
+whole s = let a = entry s .args in scannedOf (feedLit (a .held .now) (a .piece .now) (length (a .piece .now)))
 
 -- what is given for what is found in the end
-abbrev given : tie.After-scan-part → Part → Found
-given s x = let a = entry s .args in foundBy x (length (a .held .now)) (length (a .piece .now))
+abbrev given : tie.After-scan-part → Stretch → Scanned
+given s x = let a = entry s .args in scannedBy x (length (a .held .now)) (length (a .piece .now))
 
 -- what the held bytes give, where nothing was passed before
-begun : (s : tie.After-scan-part) {x : Part} → s .scan-part .result ≡ x
-    → partOf (settle (behind judged (entry s .args .piece .now)) (entry s .args .held .now)) nothingPassed (length (entry s .args .held .now)) ≡ x
+begun : (s : tie.After-scan-part) {x : Stretch} → s .scan-part .result ≡ x
+    → stretchOf (settle (withRest judged (entry s .args .piece .now)) (entry s .args .held .now)) nothingPassed (length (entry s .args .held .now)) ≡ x
 begun s e =
     let a = entry s .args in
-    ap (λ (p : Passed). partOf (settle (behind judged (a .piece .now)) (a .held .now)) p (length (a .held .now))) (sym (s .before .nothing-passed .ensures))
+    ap (λ (p : Passed). stretchOf (settle (withRest judged (a .piece .now)) (a .held .now)) p (length (a .held .now))) (sym (s .before .nothing-passed .ensures))
     ∙ sym (s .scan-part .ensures)
     ∙ e
 
 -- and then the piece
-first : (s : tie.After-scan-part) {x : Part} → s .scan-part .result ≡ x → whole s ≡ given s (thenPart judged (entry s .args .piece .now) x)
+first : (s : tie.After-scan-part) {x : Stretch} → s .scan-part .result ≡ x → whole s ≡ given s (thenPart judged (entry s .args .piece .now) x)
 first s e =
     let a = entry s .args in
     found judged judging (a .held .now) (a .piece .now)
     ∙ ap (given s)
     (part-then judged (a .piece .now) (a .held .now) nothingPassed (length (a .held .now)) ∙ ap (thenPart judged (a .piece .now)) (begun s e))
 
-first-kept : (s : tie.After-scan-part) {x : Part} → s .scan-part .result ≡ x → Kept (0 + length (entry s .args .held .now)) (length (entry s .args .held .now)) x
+first-kept : (s : tie.After-scan-part) {x : Stretch} → s .scan-part .result ≡ x → Kept (0 + length (entry s .args .held .now)) (length (entry s .args .held .now)) x
 first-kept s e =
     let a = entry s .args in
     subst (Kept (0 + length (a .held .now)) (length (a .held .now))) (begun s e)
-    (kept (behind judged (a .piece .now)) (a .held .now) nothingPassed (length (a .held .now)))
+    (kept (withRest judged (a .piece .now)) (a .held .now) nothingPassed (length (a .held .now)))
 
 abbrev start : tie.After-scan-part2 → tie.After-scan-part
 start t = t .before .before .before .before .before
 
-second : (t : tie.After-scan-part2) {x : Part} → t .scan-part2 .result ≡ x → whole (start t) ≡ given (start t) (thenPart judged [] x)
+second : (t : tie.After-scan-part2) {x : Stretch} → t .scan-part2 .result ≡ x → whole (start t) ≡ given (start t) (thenPart judged [] x)
 second t e =
     let s = start t in
     let b = t .before .before .before .before2 .given in
     first s (b .1)
     ∙ ap (given s) (last-part judged (entry s .args .piece .now) (b .0 .0) (b .0 .1 .0) ∙ ap (thenPart judged []) (sym (t .scan-part2 .ensures) ∙ e))
 
-second-kept : (t : tie.After-scan-part2) {x : Part} → t .scan-part2 .result ≡ x
+second-kept : (t : tie.After-scan-part2) {x : Stretch} → t .scan-part2 .result ≡ x
     → Kept (t .before .before .before .before2 .given .0 .0 .skipped + length (entry (start t) .args .piece .now)) (t .before .before .before .before2 .given .0 .1 .0) x
 second-kept t e =
     let p = entry (start t) .args .piece .now in
     let b = t .before .before .before .before2 .given in
-    subst (Kept (b .0 .0 .skipped + length p) (b .0 .1 .0)) (sym (t .scan-part2 .ensures) ∙ e) (kept (behind judged []) p (b .0 .0) (b .0 .1 .0))
+    subst (Kept (b .0 .0 .skipped + length p) (b .0 .1 .0)) (sym (t .scan-part2 .ensures) ∙ e) (kept (withRest judged []) p (b .0 .0) (b .0 .1 .0))
 
 nothing-passed-requires : tie.Need-nothing-passed-requires
 nothing-passed-requires c κs = search needs
@@ -125,7 +125,7 @@ returns-4 : tie.Need-returns-4
 returns-4 c = sym (second (c .before .before .before) (c .before .passed4 .given .1))
 
 returns-5 : tie.Need-returns-5
-unfolding settle countAll marks
+unfolding settle countAll needed
 returns-5 c = sym (second (c .before .before .before) (c .before .passed5 .given .1))
 
 pub scan-spec : {M : Type 1} → statement M

@@ -13,8 +13,8 @@ use Rattle.frame.specs.declared.Reason.the-variants.{NoSync, CrcWrong}
 use Rattle.frame.specs.declared.Verdict.{Verdict}
 use Rattle.frame.specs.declared.Verdict.the-variants.{NoFrame}
 use Rattle.scan.specs.declared.Passed.{Passed}
-use Rattle.scan.specs.declared.Part.{Part}
-use Rattle.scan.specs.declared.Part.the-variants.{Block}
+use Rattle.scan.specs.declared.Stretch.{Stretch}
+use Rattle.scan.specs.declared.Stretch.the-variants.{Block}
 use Rattle.scan.proofs.Judging.{There, Fits}
 use Rattle.scan.proofs.Stable.{judging}
 use Rattle.scan.proofs.Marks.{countAll-same, no-mark}
@@ -61,11 +61,11 @@ placed n =
     omega (arith, e, l .inv .1, f .start-from .ensures .from)
 
 -- what the whole part gives
-abbrev whole : tie.After-start-from Inv-loop μ-loop → Part
+abbrev whole : tie.After-start-from Inv-loop μ-loop → Stretch
 whole f = let a = entry f .args in fromPlace (a .s .now) (a .rest .now) 0 (a .before) (a .mark)
 
 -- the places from k on
-abbrev fromHere : tie.After-start-from Inv-loop μ-loop → ℕ → Passed → ℕ → Part
+abbrev fromHere : tie.After-start-from Inv-loop μ-loop → ℕ → Passed → ℕ → Stretch
 fromHere f = let a = entry f .args in fromPlace (a .s .now) (a .rest .now)
 
 -- the places up to the next start are passed

@@ -11,11 +11,11 @@ use borrow.Author.Needs.{needs}
 use Rattle.show.proofs.fed_words.Statement.{statement}
 use Rattle.show.proofs.fed_words.Tie as tie
 
-slice-aggregate-told : tie.Need-slice-aggregate-told
-slice-aggregate-told c = search needs
+slice-aggregate-word-number : tie.Need-slice-aggregate-word-number
+slice-aggregate-word-number c = search needs
 
-told-requires : tie.Need-told-requires
-told-requires c κs = search needs
+word-number-requires : tie.Need-word-number-requires
+word-number-requires c κs = search needs
 
 slice-aggregate-put : tie.Need-slice-aggregate-put
 slice-aggregate-put c = search needs
@@ -29,7 +29,7 @@ block-words-requires c κs = search needs
 returns : tie.Need-returns
 returns c =
     let g = c .before .before .put .ensures in
-    let w = c .before .before .before .before .before .told .ensures in
+    let w = c .before .before .before .before .before .word-number .ensures in
     let b = c .before .before .before .before .before .before .before .before in
     let x = take (b .args .at) (b .args .out .now) in
     let f = fedText (b .args .n) in (
@@ -42,8 +42,8 @@ pub fed-words-spec : {M : Type 1} → statement M
 fed-words-spec =
     tie.close
     (tie.spec
-    slice-aggregate-told
-    told-requires
+    slice-aggregate-word-number
+    word-number-requires
     slice-aggregate-put
     put-requires
     block-words-requires

@@ -14,38 +14,38 @@ use Rattle.show.proofs.print.Tie as tie
 enum-known-reply : tie.Need-enum-known-reply
 enum-known-reply c = search needs
 
-slice-aggregate-told : tie.Need-slice-aggregate-told
-slice-aggregate-told c = search needs
+slice-aggregate-word-number : tie.Need-slice-aggregate-word-number
+slice-aggregate-word-number c = search needs
 
-cast-told : tie.Need-cast-told
-cast-told c = search needs
+cast-word-number : tie.Need-cast-word-number
+cast-word-number c = search needs
 
-told-requires : tie.Need-told-requires
-told-requires c κs = search needs
+word-number-requires : tie.Need-word-number-requires
+word-number-requires c κs = search needs
 
 enum-known-reply-2 : tie.Need-enum-known-reply-2
 enum-known-reply-2 c = search needs
 
-slice-aggregate-told-2 : tie.Need-slice-aggregate-told-2
-slice-aggregate-told-2 c = search needs
+slice-aggregate-word-number-2 : tie.Need-slice-aggregate-word-number-2
+slice-aggregate-word-number-2 c = search needs
 
-cast-told-2 : tie.Need-cast-told-2
-cast-told-2 c = search needs
+cast-word-number-2 : tie.Need-cast-word-number-2
+cast-word-number-2 c = search needs
 
-told-requires-2 : tie.Need-told-requires-2
-told-requires-2 c κs = search needs
+word-number-requires-2 : tie.Need-word-number-requires-2
+word-number-requires-2 c κs = search needs
 
 enum-known-reply-3 : tie.Need-enum-known-reply-3
 enum-known-reply-3 c = search needs
 
-slice-aggregate-told-3 : tie.Need-slice-aggregate-told-3
-slice-aggregate-told-3 c = search needs
+slice-aggregate-word-number-3 : tie.Need-slice-aggregate-word-number-3
+slice-aggregate-word-number-3 c = search needs
 
 one-for-requires : tie.Need-one-for-requires
 one-for-requires c κs = search needs
 
-told-requires-3 : tie.Need-told-requires-3
-told-requires-3 c κs = search needs
+word-number-requires-3 : tie.Need-word-number-requires-3
+word-number-requires-3 c κs = search needs
 
 enum-known-reply-4 : tie.Need-enum-known-reply-4
 enum-known-reply-4 c = search needs
@@ -80,19 +80,19 @@ refused-requires c κs = search needs
 returns : tie.Need-returns
 returns c =
     let b = c .before .before .before .before .before .before in
-    (omega (arith, c .told .ensures .0, b .pre), rw (c .before .before .before .before .reply .given .1) (c .told .ensures .1))
+    (omega (arith, c .word-number .ensures .0, b .pre), rw (c .before .before .before .before .reply .given .1) (c .word-number .ensures .1))
 
 returns-2 : tie.Need-returns-2
 returns-2 c =
     let b = c .before .before .before .before .before .before in
-    (omega (arith, c .told2 .ensures .0, b .pre), rw (c .before .before .before .before .reply2 .given .1) (c .told2 .ensures .1))
+    (omega (arith, c .word-number2 .ensures .0, b .pre), rw (c .before .before .before .before .reply2 .given .1) (c .word-number2 .ensures .1))
 
 returns-3 : tie.Need-returns-3
 returns-3 c =
     let b = c .before .before .before .before .before .before .before in
     let e = ap (λ (m : ℕ). take (b .args .at) (b .args .out .now) ++ (wordWithdrawn ++ spaced m)) (c .before .one-for .ensures) in
     let k = c .before .before .before .before .before .reply3 in
-    (omega (arith, c .told3 .ensures .0, b .pre), rw (k .given .1) (c .told3 .ensures .1 ∙ e))
+    (omega (arith, c .word-number3 .ensures .0, b .pre), rw (k .given .1) (c .word-number3 .ensures .1 ∙ e))
 
 returns-4 : tie.Need-returns-4
 returns-4 c =
@@ -129,17 +129,17 @@ print-spec =
     tie.close
     (tie.spec
     enum-known-reply
-    slice-aggregate-told
-    cast-told
-    told-requires
+    slice-aggregate-word-number
+    cast-word-number
+    word-number-requires
     enum-known-reply-2
-    slice-aggregate-told-2
-    cast-told-2
-    told-requires-2
+    slice-aggregate-word-number-2
+    cast-word-number-2
+    word-number-requires-2
     enum-known-reply-3
-    slice-aggregate-told-3
+    slice-aggregate-word-number-3
     one-for-requires
-    told-requires-3
+    word-number-requires-3
     enum-known-reply-4
     more-words-requires
     enum-known-reply-5

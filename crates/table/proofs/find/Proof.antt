@@ -8,7 +8,7 @@ use lib.ListN.{length}
 use denote.Ref.{now}
 use Rattle.rows.specs.Places.{rowAt}
 use Rattle.table.specs.Decode.{rowsOf}
-use Rattle.table.specs.Lists.{tabulate, first}
+use Rattle.table.specs.Lists.{tabulate, firstThat}
 use Rattle.table.proofs.Laws.{found-at, found-nothing}
 use Rattle.table.proofs.Loops.{numbered, find-done, find-stop, find-go}
 use Rattle.table.proofs.Passed.{File, passed}
@@ -17,7 +17,7 @@ use Rattle.table.proofs.find.Tie as tie
 
 abbrev Inv-loop : tie.InvT-loop
 Inv-loop t number count at i₀ i =
-    (i ≤ count) × (at + 8 * count ≤ length t) × (first (numbered number) (rowsOf t) ≡ first (numbered number) (tabulate (rowAt t) i (count - i)))
+    (i ≤ count) × (at + 8 * count ≤ length t) × (firstThat (numbered number) (rowsOf t) ≡ firstThat (numbered number) (tabulate (rowAt t) i (count - i)))
 
 abbrev μ-loop : tie.MeasureT-loop
 μ-loop t number count at i₀ i = count - i

@@ -9,7 +9,7 @@ use lib.ListN.{take}
 use borrow.Author.Tests.{lt-ltb, le-ltb}
 use Rattle.refusal.specs.Numbers.{numberFor}
 use Rattle.tables.specs.Said.{saidOpened}
-use Rattle.tables.specs.Calls.{openRefusal, openRun, opening, openOf}
+use Rattle.tables.specs.Calls.{openRefusal, freshRun, opening, openOf}
 use Rattle.reader.specs.Outcome.{Outcome}
 use Rattle.feed.specs.Hold.{over}
 use Rattle.tables.specs.declared.Opened.the-variants.{Version}
@@ -70,7 +70,7 @@ returns c =
     let q = c .open-state .ensures in
     same-outcome (sym (ap saidOpened (v .1)) ∙ m .of-open .ensures ∙ ap (λ (x : Outcome). x .said) (done m (v .1)))
     (same-state (c .open-state .result) (q .0) (q .1) (q .2)
-    ∙ sym (ap (λ (b : Bool). record { run = openRun; «in_force» = cond b (a .s .waiting) (a .s .«in_force»); waiting = 0 }) l))
+    ∙ sym (ap (λ (b : Bool). record { run = freshRun; «in_force» = cond b (a .s .waiting) (a .s .«in_force»); waiting = 0 }) l))
     (c .before .before .before .copy-in .ensures ∙ copied (a .in-force .now) (a .waiting .now) (a .s .waiting) (omega (arith, p .facts .waiting, p .long-wait))
     ∙ sym (ap (λ (b : Bool). cond b (over (take (a .s .waiting) (a .waiting .now)) (a .in-force .now)) (a .in-force .now)) l))
     ∙ sym (done m (v .1))
@@ -102,7 +102,7 @@ returns-3 c =
     let q = c .open-state2 .ensures in
     same-outcome (sym (ap saidOpened (v .1)) ∙ m .of-open .ensures ∙ ap (λ (x : Outcome). x .said) (done m (v .1)))
     (same-state (c .open-state2 .result) (q .0) (q .1) (q .2)
-    ∙ sym (ap (λ (b : Bool). record { run = openRun; «in_force» = cond b (a .s .waiting) (a .s .«in_force»); waiting = 0 }) l))
+    ∙ sym (ap (λ (b : Bool). record { run = freshRun; «in_force» = cond b (a .s .waiting) (a .s .«in_force»); waiting = 0 }) l))
     (sym (ap (λ (b : Bool). cond b (over (take (a .s .waiting) (a .waiting .now)) (a .in-force .now)) (a .in-force .now)) l))
     ∙ sym (done m (v .1))
 

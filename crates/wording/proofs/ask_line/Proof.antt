@@ -13,8 +13,8 @@ use Rattle.wording.proofs.ask_line.Tie as tie
 ask-reply-requires : tie.Need-ask-reply-requires
 ask-reply-requires c κs = search needs
 
-state-of-requires : tie.Need-state-of-requires
-state-of-requires c κs = search needs
+state-text-requires : tie.Need-state-text-requires
+state-text-requires c κs = search needs
 
 slice-aggregate-put : tie.Need-slice-aggregate-put
 slice-aggregate-put c = search needs
@@ -27,7 +27,7 @@ returns c =
     let b = c .before .before .before .before .before .before .before in
     let a = b .args in
     let w = c .before .before .before .before .before .ask-reply .ensures in
-    let n = c .before .before .before .state-of .ensures in
+    let n = c .before .before .before .state-text .ensures in
     let x = take (a .at) (a .out .now) in
     let y = askText (a .reply) in (
       omega (arith, c .put .ensures .0, n .0, w .0, b .pre),
@@ -35,4 +35,4 @@ returns c =
     )
 
 pub ask-line-spec : {M : Type 1} → statement M
-ask-line-spec = tie.close (tie.spec ask-reply-requires state-of-requires slice-aggregate-put put-requires returns)
+ask-line-spec = tie.close (tie.spec ask-reply-requires state-text-requires slice-aggregate-put put-requires returns)

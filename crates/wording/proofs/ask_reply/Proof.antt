@@ -16,8 +16,8 @@ enum-known-reply c = search needs
 enum-known-a : tie.Need-enum-known-a
 enum-known-a c = search needs
 
-field-value-requires : tie.Need-field-value-requires
-field-value-requires c κs =
+put-value-requires : tie.Need-put-value-requires
+put-value-requires c κs =
     let k = c .before .before .a in
     let r = c .before .before .before .before .before .reply in
     let b = c .before .before .before .before .before .before .before in
@@ -46,7 +46,7 @@ returns c =
     let k = c .before .before .before .a in
     let r = c .before .before .before .before .before .before .reply in
     let b = c .before .before .before .before .before .before .before .before in
-    (omega (arith, c .field-value .ensures .0, b .pre), rw (r .given .1, k .given .1) (c .field-value .ensures .1))
+    (omega (arith, c .put-value .ensures .0, b .pre), rw (r .given .1, k .given .1) (c .put-value .ensures .1))
 
 returns-2 : tie.Need-returns-2
 returns-2 c =
@@ -71,7 +71,7 @@ ask-reply-spec =
     (tie.spec
     enum-known-reply
     enum-known-a
-    field-value-requires
+    put-value-requires
     enum-known-a-2
     refused-requires
     enum-known-reply-2

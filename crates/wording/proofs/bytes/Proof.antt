@@ -10,11 +10,11 @@ use borrow.Author.Needs.{needs}
 use Rattle.wording.proofs.bytes.Statement.{statement}
 use Rattle.wording.proofs.bytes.Tie as tie
 
-slice-aggregate-told : tie.Need-slice-aggregate-told
-slice-aggregate-told c = search needs
+slice-aggregate-word-number : tie.Need-slice-aggregate-word-number
+slice-aggregate-word-number c = search needs
 
-told-requires : tie.Need-told-requires
-told-requires c κs = search needs
+word-number-requires : tie.Need-word-number-requires
+word-number-requires c κs = search needs
 
 crc-requires : tie.Need-crc-requires
 crc-requires c κs = search needs
@@ -22,9 +22,9 @@ crc-requires c κs = search needs
 returns : tie.Need-returns
 returns c =
     let b = c .before .before .before .before .before in
-    let w = c .before .before .told .ensures in
+    let w = c .before .before .word-number .ensures in
     let s = b .args .b in
     (omega (arith, c .crc .ensures .0, w .0, b .pre), joined (take (b .args .at) (b .args .out .now)) (wordPart ++ spaced (s .count)) (crcText (s .crc)) (w .1) (c .crc .ensures .1))
 
 pub bytes-spec : {M : Type 1} → statement M
-bytes-spec = tie.close (tie.spec slice-aggregate-told told-requires crc-requires returns)
+bytes-spec = tie.close (tie.spec slice-aggregate-word-number word-number-requires crc-requires returns)

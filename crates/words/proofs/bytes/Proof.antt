@@ -18,12 +18,12 @@ returns-2 : tie.Need-returns-2
 returns-2 c =
     (sym (bytes-one (c .before .before .before .before .args .word .now) (omega arith)), omega arith)
 
-decode-requires : tie.Need-decode-requires
-decode-requires c κs = search needs
+hex-pairs-requires : tie.Need-hex-pairs-requires
+hex-pairs-requires c κs = search needs
 
 returns-3 : tie.Need-returns-3
 returns-3 c =
-    (c .decode .ensures .0 ∙ sym (bytes-hex (c .before .before .before .before .before .args .word .now) (omega arith)), omega (arith, c .decode .ensures .1))
+    (c .hex-pairs .ensures .0 ∙ sym (bytes-hex (c .before .before .before .before .before .args .word .now) (omega arith)), omega (arith, c .hex-pairs .ensures .1))
 
 pub bytes-spec : {M : Type 1} → statement M
-bytes-spec = tie.close (tie.spec returns shared-slice-read-t6 returns-2 decode-requires returns-3)
+bytes-spec = tie.close (tie.spec returns shared-slice-read-t6 returns-2 hex-pairs-requires returns-3)

@@ -5,14 +5,14 @@ use Prim.Native.Nat.{_-_, _≤_}
 use native.Mathlib.Omega.{arith}
 use lib.ListN.{length, drop, getD}
 use mathlib.Core.Option.{none, some}
-use Rattle.words.specs.Words.{numberSays, addDigit, numberThen, numberIn}
+use Rattle.words.specs.Words.{numberSays, addDigit, numberThen, decimalIn}
 use Rattle.words.proofs.Reading.{number-empty, number-some, number-stop, number-more, number-end}
 use borrow.Author.Needs.{needs}
 use Rattle.words.proofs.number.Statement.{statement}
 use Rattle.words.proofs.number.Tie as tie
 
 abbrev Inv-loop : tie.InvT-loop
-Inv-loop word v₀ i₀ v i = (i ≤ length word) × (numberThen (drop i word) (some v) ≡ numberIn word)
+Inv-loop word v₀ i₀ v i = (i ≤ length word) × (numberThen (drop i word) (some v) ≡ decimalIn word)
 
 abbrev μ-loop : tie.MeasureT-loop
 μ-loop word v₀ i₀ v i = length word - i

@@ -19,8 +19,8 @@ state-of-requires c κs = search needs
 feed-requires : tie.Need-feed-requires
 feed-requires c κs = search needs
 
-fed-requires : tie.Need-fed-requires
-fed-requires c κs = search needs
+fed-c-requires : tie.Need-fed-c-requires
+fed-c-requires c κs = search needs
 
 reply-requires : tie.Need-reply-requires
 reply-requires c κs = search needs
@@ -34,7 +34,7 @@ returns c =
     let f = c .before .before .before .before .before in
     let w = f .before .before in
     let a = w .before .before .before .args in
-    goes-on (λ (t : State). feedOf t (a .hold .now) (a .piece .now)) (a .s) (a .hold .now) (λ (t : State) (e : sound t ≡ false). feed-one t e (a .hold .now) (a .piece .now)) (stateOf (a .s)) (w .state-of .ensures) (f .feed .ensures) (c .before .fed .ensures) (c .reply .ensures)
+    goes-on (λ (t : State). feedOf t (a .hold .now) (a .piece .now)) (a .s) (a .hold .now) (λ (t : State) (e : sound t ≡ false). feed-one t e (a .hold .now) (a .piece .now)) (stateOf (a .s)) (w .state-of .ensures) (f .feed .ensures) (c .before .fed-c .ensures) (c .reply .ensures)
 
 pub alderflute-feed-spec : {M : Type 1} → statement M
-alderflute-feed-spec = tie.close (tie.spec state-of-requires feed-requires fed-requires reply-requires same-length returns)
+alderflute-feed-spec = tie.close (tie.spec state-of-requires feed-requires fed-c-requires reply-requires same-length returns)

@@ -19,8 +19,8 @@ state-of-requires c κs = search needs
 finish-requires : tie.Need-finish-requires
 finish-requires c κs = search needs
 
-finished-requires : tie.Need-finished-requires
-finished-requires c κs = search needs
+finished-c-requires : tie.Need-finished-c-requires
+finished-c-requires c κs = search needs
 
 reply-requires : tie.Need-reply-requires
 reply-requires c κs = search needs
@@ -34,7 +34,7 @@ returns c =
     let f = c .before .before .before .before .before in
     let w = f .before .before in
     let a = w .before .before .args in
-    goes-on (λ (t : State). finishOf t (a .hold .now)) (a .s) (a .hold .now) (λ (t : State) (e : sound t ≡ false). finish-one t e (a .hold .now)) (stateOf (a .s)) (w .state-of .ensures) (f .finish .ensures) (c .before .finished .ensures) (c .reply .ensures)
+    goes-on (λ (t : State). finishOf t (a .hold .now)) (a .s) (a .hold .now) (λ (t : State) (e : sound t ≡ false). finish-one t e (a .hold .now)) (stateOf (a .s)) (w .state-of .ensures) (f .finish .ensures) (c .before .finished-c .ensures) (c .reply .ensures)
 
 pub alderflute-finish-spec : {M : Type 1} → statement M
-alderflute-finish-spec = tie.close (tie.spec state-of-requires finish-requires finished-requires reply-requires same-length returns)
+alderflute-finish-spec = tie.close (tie.spec state-of-requires finish-requires finished-c-requires reply-requires same-length returns)

@@ -19,8 +19,8 @@ state-of-requires c κs = search needs
 open-requires : tie.Need-open-requires
 open-requires c κs = search needs
 
-opened-requires : tie.Need-opened-requires
-opened-requires c κs = search needs
+opened-c-requires : tie.Need-opened-c-requires
+opened-c-requires c κs = search needs
 
 reply-requires : tie.Need-reply-requires
 reply-requires c κs = search needs
@@ -34,7 +34,7 @@ returns c =
     let f = c .before .before .before .before .before in
     let w = f .before .before in
     let a = w .before .before .before .args in
-    goes-on (λ (t : State). openOf t (a .in-force .now) (a .waiting .now)) (a .s) (a .in-force .now) (λ (t : State) (e : sound t ≡ false). open-one t e (a .in-force .now) (a .waiting .now)) (stateOf (a .s)) (w .state-of .ensures) (f .open .ensures) (c .before .opened .ensures) (c .reply .ensures)
+    goes-on (λ (t : State). openOf t (a .in-force .now) (a .waiting .now)) (a .s) (a .in-force .now) (λ (t : State) (e : sound t ≡ false). open-one t e (a .in-force .now) (a .waiting .now)) (stateOf (a .s)) (w .state-of .ensures) (f .open .ensures) (c .before .opened-c .ensures) (c .reply .ensures)
 
 pub alderflute-open-spec : {M : Type 1} → statement M
-alderflute-open-spec = tie.close (tie.spec state-of-requires open-requires opened-requires reply-requires same-length returns)
+alderflute-open-spec = tie.close (tie.spec state-of-requires open-requires opened-c-requires reply-requires same-length returns)

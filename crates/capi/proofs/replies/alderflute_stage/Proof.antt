@@ -19,8 +19,8 @@ state-of-requires c κs = search needs
 stage-requires : tie.Need-stage-requires
 stage-requires c κs = search needs
 
-staged-requires : tie.Need-staged-requires
-staged-requires c κs = search needs
+staged-c-requires : tie.Need-staged-c-requires
+staged-c-requires c κs = search needs
 
 reply-requires : tie.Need-reply-requires
 reply-requires c κs = search needs
@@ -34,7 +34,7 @@ returns c =
     let f = c .before .before .before .before .before in
     let w = f .before .before in
     let a = w .before .before .before .args in
-    goes-on (λ (t : State). stageOf t (a .waiting .now) (a .table .now)) (a .s) (a .waiting .now) (λ (t : State) (e : sound t ≡ false). stage-one t e (a .waiting .now) (a .table .now)) (stateOf (a .s)) (w .state-of .ensures) (f .stage .ensures) (c .before .staged .ensures) (c .reply .ensures)
+    goes-on (λ (t : State). stageOf t (a .waiting .now) (a .table .now)) (a .s) (a .waiting .now) (λ (t : State) (e : sound t ≡ false). stage-one t e (a .waiting .now) (a .table .now)) (stateOf (a .s)) (w .state-of .ensures) (f .stage .ensures) (c .before .staged-c .ensures) (c .reply .ensures)
 
 pub alderflute-stage-spec : {M : Type 1} → statement M
-alderflute-stage-spec = tie.close (tie.spec state-of-requires stage-requires staged-requires reply-requires same-length returns)
+alderflute-stage-spec = tie.close (tie.spec state-of-requires stage-requires staged-c-requires reply-requires same-length returns)

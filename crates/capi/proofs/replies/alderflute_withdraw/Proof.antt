@@ -20,8 +20,8 @@ state-of-requires c κs = search needs
 withdraw-requires : tie.Need-withdraw-requires
 withdraw-requires c κs = search needs
 
-withdrawn-requires : tie.Need-withdrawn-requires
-withdrawn-requires c κs = search needs
+withdrawn-c-requires : tie.Need-withdrawn-c-requires
+withdrawn-c-requires c κs = search needs
 
 reply-requires : tie.Need-reply-requires
 reply-requires c κs = search needs
@@ -32,7 +32,7 @@ returns c =
     let f = c .before .before .before in
     let w = f .before in
     let a = w .before .args in
-    goes-on (λ (t : State). withdrawOf t) (a .s) [] (λ (t : State) (e : sound t ≡ false). withdraw-one t e) (stateOf (a .s)) (w .state-of .ensures) (f .withdraw .ensures) (c .before .withdrawn .ensures) (c .reply .ensures)
+    goes-on (λ (t : State). withdrawOf t) (a .s) [] (λ (t : State) (e : sound t ≡ false). withdraw-one t e) (stateOf (a .s)) (w .state-of .ensures) (f .withdraw .ensures) (c .before .withdrawn-c .ensures) (c .reply .ensures)
 
 pub alderflute-withdraw-spec : {M : Type 1} → statement M
-alderflute-withdraw-spec = tie.close (tie.spec state-of-requires withdraw-requires withdrawn-requires reply-requires returns)
+alderflute-withdraw-spec = tie.close (tie.spec state-of-requires withdraw-requires withdrawn-c-requires reply-requires returns)

@@ -8,17 +8,17 @@ use borrow.Author.Needs.{needs}
 use Rattle.cform.proofs.answers.whether_waited.Statement.{statement}
 use Rattle.cform.proofs.answers.whether_waited.Tie as tie
 
-plain-requires : tie.Need-plain-requires
-plain-requires c κs = search needs
+no-block-requires : tie.Need-no-block-requires
+no-block-requires c κs = search needs
 
-plain-requires-2 : tie.Need-plain-requires-2
-plain-requires-2 c κs = search needs
+no-block-requires-2 : tie.Need-no-block-requires-2
+no-block-requires-2 c κs = search needs
 
 returns : tie.Need-returns
-returns c = c .plain .ensures ∙ sym (ap (λ (w : Bool). answerC (waited w)) (c .before .if1 .taken))
+returns c = c .no-block .ensures ∙ sym (ap (λ (w : Bool). answerC (waited w)) (c .before .if1 .taken))
 
 returns-2 : tie.Need-returns-2
-returns-2 c = c .plain2 .ensures ∙ sym (ap (λ (w : Bool). answerC (waited w)) (c .before .if1 .left))
+returns-2 c = c .no-block2 .ensures ∙ sym (ap (λ (w : Bool). answerC (waited w)) (c .before .if1 .left))
 
 pub whether-waited-spec : {M : Type 1} → statement M
-whether-waited-spec = tie.close (tie.spec plain-requires plain-requires-2 returns returns-2)
+whether-waited-spec = tie.close (tie.spec no-block-requires no-block-requires-2 returns returns-2)

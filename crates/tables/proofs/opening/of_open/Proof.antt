@@ -46,35 +46,35 @@ is-closed-requires c κs = search needs
 returns-2 : tie.Need-returns-2
 returns-2 c = sym (open-two _ _ _ (long (c .before .before .before)) (sym (c .before .is-closed .ensures) ∙ not-true _ (c .if2 .taken)))
 
-slice-aggregate-version-of : tie.Need-slice-aggregate-version-of
-slice-aggregate-version-of c =
+slice-aggregate-version-or-four : tie.Need-slice-aggregate-version-or-four
+slice-aggregate-version-or-four c =
     let e = c .before .before in
     let f = room (e .before .before .before) in
     sym (length-take-le _ _ (omega (arith, f .0 .waiting, f .2)))
 
-version-of-requires : tie.Need-version-of-requires
-version-of-requires c κs = search needs
+version-or-four-requires : tie.Need-version-or-four-requires
+version-or-four-requires c κs = search needs
 
 returns-3 : tie.Need-returns-3
 returns-3 c =
     let t = c .before .before in
     let e = t .before in
-    c .version-of .ensures ∙ sym (open-waiting _ _ _ (long (e .before .before .before)) (shut e) (t .if3 .taken))
+    c .version-or-four .ensures ∙ sym (open-waiting _ _ _ (long (e .before .before .before)) (shut e) (t .if3 .taken))
 
-slice-aggregate-version-of-2 : tie.Need-slice-aggregate-version-of-2
-slice-aggregate-version-of-2 c =
+slice-aggregate-version-or-four-2 : tie.Need-slice-aggregate-version-or-four-2
+slice-aggregate-version-or-four-2 c =
     let e = c .before .before .before in
     let f = room (e .before .before .before) in
     sym (length-take-le _ _ (omega (arith, f .0 .«in_force», f .1)))
 
-version-of-requires-2 : tie.Need-version-of-requires-2
-version-of-requires-2 c κs = search needs
+version-or-four-requires-2 : tie.Need-version-or-four-requires-2
+version-or-four-requires-2 c κs = search needs
 
 returns-4 : tie.Need-returns-4
 returns-4 c =
     let t = c .before .before in
     let e = t .before .before in
-    c .version-of2 .ensures ∙ sym (open-in-force _ _ _ (long (e .before .before .before)) (shut e) (t .before .if3 .left) (t .if4 .taken))
+    c .version-or-four2 .ensures ∙ sym (open-in-force _ _ _ (long (e .before .before .before)) (shut e) (t .before .if3 .left) (t .if4 .taken))
 
 returns-5 : tie.Need-returns-5
 returns-5 c =
@@ -89,10 +89,10 @@ of-open-spec =
     returns
     is-closed-requires
     returns-2
-    slice-aggregate-version-of
-    version-of-requires
+    slice-aggregate-version-or-four
+    version-or-four-requires
     returns-3
-    slice-aggregate-version-of-2
-    version-of-requires-2
+    slice-aggregate-version-or-four-2
+    version-or-four-requires-2
     returns-4
     returns-5)
