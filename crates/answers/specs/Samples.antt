@@ -14,6 +14,7 @@ use Rattle.table.specs.Rows.{Table}
 use Rattle.value.specs.Said.{FieldSaid, unsigned, signed, single, double, doNotUse, notInRevision, fieldRefused}
 use Rattle.value.specs.Bits.{fieldValue}
 use Rattle.record.specs.Calls.{bodyField, subField, subBlock, subBlockRefusal, towRow, wncRow, stamp}
+use Rattle.rows.specs.Places.{fieldRow}
 
 -- what a case speaks of: an ID's number and revision, what a field says, a part and the number of its twin
 pub data Subject : Type 0 where
@@ -28,14 +29,11 @@ pub record RecordCase : Type 0 where
 abbrev case : Subject → Subject → RecordCase
 case given expected = record { given = given; expected = expected }
 
-abbrev field : ℕ → ℕ → ℕ → ℕ → FieldRow
-field offset kind first mark = record { offset = offset; kind = kind; first = first; mark = mark }
-
 abbrev countRows : List FieldRow
-countRows = field 14 u1 0 unmarked ∷ field 15 u1 0 unmarked ∷ []
+countRows = fieldRow 14 u1 0 unmarked ∷ fieldRow 15 u1 0 unmarked ∷ []
 
 -- the block of 8 bytes that is sample (b) of framing
-abbrev sampleB : List ℕ
+abbrev pub sampleB : List ℕ
 sampleB = 0x24 ∷ 0x40 ∷ 0xA9 ∷ 0x89 ∷ 0x00 ∷ 0x00 ∷ 0x08 ∷ 0x00 ∷ []
 
 -- number 0 without fields; number 1 with u2, i2, f4 and from revision 1 a u1; numbers 2 and 3 with sub-fields
@@ -45,9 +43,9 @@ sampleTable =
       version = 1;
       rows =
           record { number = 0; highest = 0; body = []; subs = [] }
-          ∷ record { number = 1; highest = 1; body = field 14 u2 0 ones ∷ field 16 i2 0 least ∷ field 20 f4 0 minus2e10 ∷ field 24 u1 1 unmarked ∷ []; subs = [] }
-          ∷ record { number = 2; highest = 1; body = countRows; subs = field 0 u2 0 unmarked ∷ field 2 i1 1 least ∷ [] }
-          ∷ record { number = 3; highest = 1; body = countRows; subs = field 0 u1 1 unmarked ∷ [] }
+          ∷ record { number = 1; highest = 1; body = fieldRow 14 u2 0 ones ∷ fieldRow 16 i2 0 least ∷ fieldRow 20 f4 0 minus2e10 ∷ fieldRow 24 u1 1 unmarked ∷ []; subs = [] }
+          ∷ record { number = 2; highest = 1; body = countRows; subs = fieldRow 0 u2 0 unmarked ∷ fieldRow 2 i1 1 least ∷ [] }
+          ∷ record { number = 3; highest = 1; body = countRows; subs = fieldRow 0 u1 1 unmarked ∷ [] }
           ∷ [];
     }
 
@@ -110,7 +108,7 @@ abbrev ofId : List ℕ → Subject
 ofId s = id (numberOf (littleAt 2 s 0)) (revisionOf (littleAt 2 s 0))
 
 abbrev ofValue : List ℕ → ℕ → ℕ → Subject
-ofValue s kind mark = says (fieldValue s (field 0 kind 0 mark))
+ofValue s kind mark = says (fieldValue s (fieldRow 0 kind 0 mark))
 
 abbrev ofBody : List ℕ → ℕ → Subject
 ofBody b i = says (bodyField sampleTable b i)

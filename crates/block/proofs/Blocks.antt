@@ -20,7 +20,6 @@ use Rattle.rows.specs.Places.{fieldCount, fieldAt}
 use Rattle.table.specs.Decode.{blockOf, decode}
 use Rattle.table.specs.Lookup.{Stands, StandsIfAny, Finding}
 use Rattle.table.specs.Lookup as lookup
-use Rattle.table.proofs.Bools.{both}
 use Rattle.table.proofs.Lists.{length-tab}
 use Rattle.block.specs.declared.Span.{Span}
 use Rattle.block.specs.declared.Matched.{Matched}
@@ -28,6 +27,7 @@ use Rattle.block.specs.declared.Matched.the-variants.{At, Refused}
 use Rattle.block.specs.declared.SubMatched.the-variants as sub
 use Rattle.block.specs.Block.{numberIn, revisionIn, countIn, subLengthIn, endsBy, bodyFits, subSpan, subsFit, row, seenRow, seen, seenSubRow, seenSub, matchedSays, Fine, FineIfAny, Matching, SubFine, SubMatching}
 use Rattle.block.specs.Code.{Judging, ByAnyRow}
+use Rattle.wire.proofs.Tests.{both}
 
 -- the product of two bytes
 pub small : (k n : ℕ) → k < 256 → n < 256 → k * n ≤ 65025

@@ -9,7 +9,7 @@ use mathlib.Core.Option.{Option, none, some}
 use lib.ListN.{length}
 use lib.Dec.{ltb}
 use Rattle.frame.specs.Frame.{wholeFrame}
-use Rattle.frame.proofs.Tests.{never}
+use Rattle.wire.proofs.Tests.{never}
 use Rattle.rows.specs.declared.FieldRow.{FieldRow}
 use Rattle.table.specs.Rows.{BlockRow}
 use Rattle.table.specs.Decode.{decode}

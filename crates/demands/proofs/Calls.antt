@@ -30,7 +30,8 @@ use Rattle.demands.specs.Sequence.{tookOf, inHold}
 use Rattle.demands.specs.Demand2.{MayFollow}
 use Rattle.demands.proofs.Steps.{refusal, done, clash}
 use Rattle.demands.proofs.Reached.{Good}
-use Rattle.demands.proofs.Going.{kept, place, going, within, kept-length, FitsHold, kept-after, place-after, in-hold, finish-report}
+use Rattle.demands.proofs.Going.{kept, going, within, kept-length, FitsHold, kept-after, place-after, in-hold, finish-report}
+use Rattle.demands.specs.Demand2.{placeNow}
 
 -- the run so far took the bytes t and reported the blocks b; with what follows it reads as these, and then from the place on
 pub record ReadsAs (t : List ℕ) (b : List ReadBlock) (w : World) : Type 0 where
@@ -38,8 +39,8 @@ pub record ReadsAs (t : List ℕ) (b : List ReadBlock) (w : World) : Type 0 wher
   pub sum : w .state .run .counts .blocks ≡ length b
   pub places : List ℕ
   pub skips : w .state .run .counts .skipped ≡ length places
-  pub rest : kept w ≡ drop (place w) t
-  pub so : (zs : List ℕ) → MayFollow (w .state .run .phase) zs → readRun 0 (t ++ zs) ≡ both (record { blocks = b; skipped = places }) (readRun (place w) (kept w ++ zs))
+  pub rest : kept w ≡ drop (placeNow w) t
+  pub so : (zs : List ℕ) → MayFollow (w .state .run .phase) zs → readRun 0 (t ++ zs) ≡ both (record { blocks = b; skipped = places }) (readRun (placeNow w) (kept w ++ zs))
 
 follow-none : (x : Phase) → MayFollow x []
 follow-none phase.Closed = refl
@@ -63,37 +64,37 @@ length-blocks (some n) p v = refl
 -- ---- a call that goes on in the run
 
 module _ (x : Phase) (w : World) (bs : List ℕ) (f : Intake) (blk : List ReadBlock)
-    (g : Good w) (h : FitsHold w f) (n : f .taken ≡ length bs) (a : blk ≡ blocksOf (f .standing) (place w + length (f .passed)) (f .held))
+    (g : Good w) (h : FitsHold w f) (n : f .taken ≡ length bs) (a : blk ≡ blocksOf (f .standing) (placeNow w + length (f .passed)) (f .held))
     (d : f .held ≡ drop (length (f .passed)) (kept w ++ bs)) where
   -- what is left is what was left and is new, without what was skipped and the block
-  rest-after : (ts : List ℕ) → w .state .run .counts .taken ≡ length ts → kept w ≡ drop (place w) ts → kept (going x w f) ≡ drop (place (going x w f)) (ts ++ bs)
+  rest-after : (ts : List ℕ) → w .state .run .counts .taken ≡ length ts → kept w ≡ drop (placeNow w) ts → kept (going x w f) ≡ drop (placeNow (going x w f)) (ts ++ bs)
   rest-after ts c r =
       let o = size (f .standing) in
       kept-after x w f g h
       ∙ ap (drop o) (d ∙ ap (λ (y : List ℕ). drop (length (f .passed)) (y ++ bs)) r
-      ∙ ap (drop (length (f .passed))) (sym (drop-append-le (place w) ts bs (omega (arith, c, within w g, g .sound .front))))
-      ∙ drop-drop (length (f .passed)) (place w) (ts ++ bs))
-      ∙ drop-drop o (place w + length (f .passed)) (ts ++ bs)
+      ∙ ap (drop (length (f .passed))) (sym (drop-append-le (placeNow w) ts bs (omega (arith, c, within w g, g .sound .front))))
+      ∙ drop-drop (length (f .passed)) (placeNow w) (ts ++ bs))
+      ∙ drop-drop o (placeNow w + length (f .passed)) (ts ++ bs)
       ∙ ap (λ (i : ℕ). drop i (ts ++ bs)) (sym (place-after x w f g h))
 
   go : {ts : List ℕ} {b : List ReadBlock} → ((zs : List ℕ) → MayFollow x zs → MayFollow (w .state .run .phase) (bs ++ zs))
       → ((zs : List ℕ) → MayFollow x zs
-      → readRun (place w) (kept w ++ (bs ++ zs)) ≡ both (answer (f .standing) (place w) (length (f .passed)) (f .held)) (readRun (place w + length (f .passed) + size (f .standing)) (drop (size (f .standing)) (f .held) ++ zs)))
+      → readRun (placeNow w) (kept w ++ (bs ++ zs)) ≡ both (answer (f .standing) (placeNow w) (length (f .passed)) (f .held)) (readRun (placeNow w + length (f .passed) + size (f .standing)) (drop (size (f .standing)) (f .held) ++ zs)))
       → ReadsAs ts b w → ReadsAs (ts ++ bs) (b ++ blk) (going x w f)
   go {ts} {b} fol e r =
       record {
         count = omega (arith, r .count, length-append ts bs, n);
-        sum = omega (arith, r .sum, length-append b blk, ap length a, length-blocks (f .standing) (place w + length (f .passed)) (f .held));
-        places = r .places ++ placesFrom (place w) (length (f .passed));
-        skips = omega (arith, r .skips, length-append (r .places) (placesFrom (place w) (length (f .passed))), places-count (place w) (length (f .passed)));
+        sum = omega (arith, r .sum, length-append b blk, ap length a, length-blocks (f .standing) (placeNow w + length (f .passed)) (f .held));
+        places = r .places ++ placesFrom (placeNow w) (length (f .passed));
+        skips = omega (arith, r .skips, length-append (r .places) (placesFrom (placeNow w) (length (f .passed))), places-count (placeNow w) (length (f .passed)));
         rest = rest-after ts (r .count) (r .rest);
         so = λ zs y.
             ap (readRun 0) (append-assoc ts bs zs)
             ∙ r .so (bs ++ zs) (fol zs y)
             ∙ ap (both (record { blocks = b; skipped = r .places })) (e zs y)
-            ∙ both-both (record { blocks = b; skipped = r .places }) (answer (f .standing) (place w) (length (f .passed)) (f .held)) (readRun (place w + length (f .passed) + size (f .standing)) (drop (size (f .standing)) (f .held) ++ zs))
-            ∙ ap (λ (i : List ReadBlock). both (record { blocks = b ++ i; skipped = r .places ++ placesFrom (place w) (length (f .passed)) }) (readRun (place w + length (f .passed) + size (f .standing)) (drop (size (f .standing)) (f .held) ++ zs))) (sym a)
-            ∙ ap₂ (λ (i : ℕ) (j : List ℕ). both (record { blocks = b ++ blk; skipped = r .places ++ placesFrom (place w) (length (f .passed)) }) (readRun i (j ++ zs)))
+            ∙ both-both (record { blocks = b; skipped = r .places }) (answer (f .standing) (placeNow w) (length (f .passed)) (f .held)) (readRun (placeNow w + length (f .passed) + size (f .standing)) (drop (size (f .standing)) (f .held) ++ zs))
+            ∙ ap (λ (i : List ReadBlock). both (record { blocks = b ++ i; skipped = r .places ++ placesFrom (placeNow w) (length (f .passed)) }) (readRun (placeNow w + length (f .passed) + size (f .standing)) (drop (size (f .standing)) (f .held) ++ zs))) (sym a)
+            ∙ ap₂ (λ (i : ℕ) (j : List ℕ). both (record { blocks = b ++ blk; skipped = r .places ++ placesFrom (placeNow w) (length (f .passed)) }) (readRun i (j ++ zs)))
             (sym (place-after x w f g h)) (sym (kept-after x w f g h));
       }
 
@@ -120,7 +121,7 @@ reads-feed w piece g e r =
     go phase.Feeding w (take (f .taken) piece) f (inHold (told (done (feed piece) w .answer) .block) (done (feed piece) w .world)) g h n
     (in-hold phase.Feeding w f g h) (calls.fed-holds judged piece room (kept w))
     (λ zs y. follow-fed (w .state .run .phase) (take (f .taken) piece ++ zs) fed)
-    (λ zs y. fed-answers piece room (place w) (kept w) zs)
+    (λ zs y. fed-answers piece room (placeNow w) (kept w) zs)
     r
 
 -- ---- Finish
@@ -160,5 +161,5 @@ reads-finish w g e r =
     (ap (λ (i : Option _). inHold i (done finish w .world)) (finish-report o (runOn x (w .state .run) f) (settle judgedLast (kept w) .rest)) ∙ in-hold x w f g h)
     (settle-rest judgedLast (kept w) .is ∙ ap (drop (length (settle judgedLast (kept w) .passed))) (sym (append-nil (kept w))))
     (λ zs y. subst⁻¹ (MayFollow (w .state .run .phase)) (follow-finish o zs y) (follow-none (w .state .run .phase)))
-    (λ zs y. finish-reads (place w) (kept w) zs (follow-finish o zs y))
+    (λ zs y. finish-reads (placeNow w) (kept w) zs (follow-finish o zs y))
     r

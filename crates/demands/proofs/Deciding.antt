@@ -25,7 +25,7 @@ use Rattle.demands.proofs.Reached.{Good, good-end}
 use Rattle.demands.proofs.Live.{live-end, stands}
 use Rattle.demands.proofs.Force.{read-end, look-by, found}
 use Rattle.demands.proofs.Moving.{end-append}
-use Rattle.demands.proofs.Going.{kept, place, kept-after}
+use Rattle.demands.proofs.Going.{kept, kept-after}
 use Rattle.demands.proofs.Calls.{feed-fits}
 use Rattle.demands.proofs.Reading.{reads-by, reads-within, first-ones}
 use Rattle.demands.proofs.Ending.{none-if, said-is}
@@ -61,7 +61,7 @@ more-decided w before mid piece n h e =
     let u = end mid (atOpen w before) in
     let g = good-end mid (atOpen w before) (h .fed) (s .good) in
     let r = reads-by (feed piece) u g (live-end mid (atOpen w before) (s .live) (h .noEnd)) (reads-within w before mid h) (how (feed piece) u) in
-    ap₂ (λ (x : World) (t : List ℕ). judged (drop (place x) t)) (end-one mid (feed piece) (atOpen w before)) (taken-append mid (feed piece) (atOpen w before))
+    ap₂ (λ (x : World) (t : List ℕ). judged (drop (placeNow x) t)) (end-one mid (feed piece) (atOpen w before)) (taken-append mid (feed piece) (atOpen w before))
     ∙ ap judged (sym (r .rest)) ∙ left-undecided u piece n g (how (feed piece) u) e
 
 by-the-table : (w : World) (before mid : List Call) → Within w before mid → (l : Look)

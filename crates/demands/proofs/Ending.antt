@@ -14,7 +14,7 @@ use Rattle.scan.specs.Feed.{feedLit, stop, size}
 use Rattle.frame.specs.Judge.{judged, judgedLast}
 use Rattle.scan.proofs.Settling.{settle-rest}
 use Rattle.scan.proofs.Calls.{Took, fed-took}
-use Rattle.frame.proofs.Tests.{lt?}
+use Rattle.wire.proofs.Tests.{lt?}
 use Rattle.reader.specs.State.{limit, sound}
 use Rattle.reader.specs.Said.{Said, took}
 use Rattle.reader.specs.Refusals.{longHold}

@@ -13,7 +13,7 @@ use borrow.Author.Tests.{leb-true, leb-false, ltb-true, ltb-false, eqb-true, eqb
 use Rattle.frame.specs.Judge.{judged}
 use Rattle.scan.specs.Settle.{settle}
 use Rattle.feed.specs.Hold.{restOf}
-use Rattle.frame.proofs.Tests.{both-left, both-right, never}
+use Rattle.wire.proofs.Tests.{both-left, both-right, never, neither-left, neither-right}
 use Rattle.table.specs.Rules.{tableOk}
 use Rattle.reader.specs.State.{limit, sound}
 use Rattle.reader.specs.Refusals.{need, isClosed, longHold, longStore, tableRefusal}
@@ -120,14 +120,6 @@ table-tells t = record { fine = λ e f. never e f; holds = λ e. e }
 pub some-tells : (n : ℕ) → Tells (ltb 0 n) (n ≡ 0)
 some-tells n = record { fine = λ e q. let l = ltb-true 0 n e in omega arith; holds = λ e. let l = ltb-false 0 n e in omega arith }
 
-either-left : (a b : Bool) → (a || b) ≡ false → a ≡ false
-either-left true b e = e
-either-left false b e = refl
-
-either-right : (a b : Bool) → (a || b) ≡ false → b ≡ false
-either-right true b e = never refl e
-either-right false b e = e
-
 -- a test that holds where either does, fails where both fail
 orelse-fine : (a b : Bool) {P Q : Type 0} → Tells a P → Tells b Q → (a || b) ≡ true → P × Q → ⊥
 orelse-fine true b t u e g = t .fine refl (g .0)
@@ -135,7 +127,7 @@ orelse-fine false b t u e g = u .fine e (g .1)
 
 pub orelse : {a b : Bool} {P Q : Type 0} → Tells a P → Tells b Q → Tells (a || b) (P × Q)
 orelse {a} {b} t u =
-    record { fine = orelse-fine a b t u; holds = λ e. (t .holds (either-left a b e), u .holds (either-right a b e)) }
+    record { fine = orelse-fine a b t u; holds = λ e. (t .holds (neither-left a b e), u .holds (neither-right a b e)) }
 
 full-tells : (n : ℕ) → Tells (ltb n limit) (4294967295 ≤ n)
 full-tells n = record { fine = λ e q. let l = ltb-true n limit e in omega arith; holds = λ e. ltb-false n limit e }

@@ -9,7 +9,7 @@ use lib.Dec.{leb, eqb}
 use borrow.Author.Tests.{leb-true, eqb-true, le-leb, eq-eqb}
 use Rattle.crc.specs.Crc.{crcOf}
 use Rattle.frame.specs.Frame.{syncAt, crcAt, lengthAt, allowed, endsWithin, crcRight, frameAt, wholeFrame}
-use Rattle.frame.proofs.Tests.{both-left, both-right, both-true, never}
+use Rattle.wire.proofs.Tests.{both-left, both-right, both-true, never}
 use Rattle.demands.specs.Refusals.{FrameStands, OneFrame, NoWholeFrame}
 use Rattle.demands.proofs.Exact.{Tells}
 

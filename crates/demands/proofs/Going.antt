@@ -23,13 +23,11 @@ use Rattle.runs.proofs.Feeding.{WholeIf}
 use Rattle.demands.specs.World.{World, bytes, look, said, told, partOf, step}
 use Rattle.demands.specs.Sequence.{withBytes, inHold, shown}
 use Rattle.demands.proofs.Reached.{Good, good-sound}
+use Rattle.demands.specs.Demand2.{placeNow}
 
 -- the held bytes without the block last reported, and the place where reading goes on
 abbrev pub kept : World → List ℕ
 kept w = restOf (w .hold) (w .state .run .held) (w .state .run .standing)
-
-abbrev pub place : World → ℕ
-place w = w .state .run .counts .taken - w .state .run .held + w .state .run .standing
 
 abbrev pub going : Phase → World → Intake → World
 going x w f = record { state = withRun (w .state) (runOn x (w .state .run) f); hold = holdOf f (w .hold); force = w .force; wait = w .wait }
@@ -50,10 +48,10 @@ module _ (x : Phase) (w : World) (f : Intake) (g : Good w) (h : FitsHold w f) wh
   pub kept-after : kept (going x w f) ≡ drop (size (f .standing)) (f .held)
   kept-after = goes-on f (w .hold) (h .front)
 
-  pub place-after : place (going x w f) ≡ place w + length (f .passed) + size (f .standing)
+  pub place-after : placeNow (going x w f) ≡ placeNow w + length (f .passed) + size (f .standing)
   place-after = omega (arith, within w g, g .sound .front, h .sum, h .front)
 
-  pub front-after : front (runOn x (w .state .run) f) ≡ place w + length (f .passed)
+  pub front-after : front (runOn x (w .state .run) f) ≡ placeNow w + length (f .passed)
   front-after = omega (arith, within w g, g .sound .front, h .sum)
 
 -- ---- the block that is reported
@@ -75,9 +73,9 @@ finish-report none r v = refl
 finish-report (some n) r v = refl
 
 module _ (x : Phase) (w : World) (f : Intake) (g : Good w) (h : FitsHold w f) where
-  pub in-hold : inHold (reportIf (f .standing) (front (runOn x (w .state .run) f)) (f .held)) (going x w f) ≡ blocksOf (f .standing) (place w + length (f .passed)) (f .held)
+  pub in-hold : inHold (reportIf (f .standing) (front (runOn x (w .state .run) f)) (f .held)) (going x w f) ≡ blocksOf (f .standing) (placeNow w + length (f .passed)) (f .held)
   in-hold =
-      in-hold-by (f .standing) (front (runOn x (w .state .run) f)) (place w + length (f .passed)) (f .held) (going x w f) (w .hold) refl
+      in-hold-by (f .standing) (front (runOn x (w .state .run) f)) (placeNow w + length (f .passed)) (f .held) (going x w f) (w .hold) refl
       (front-after x w f g h) (h .front)
 
 -- ---- what Bytes shows

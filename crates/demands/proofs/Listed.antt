@@ -8,7 +8,7 @@ use mathlib.Core.List.{List, [], _∷_}
 use mathlib.Core.Logic.{_⊎_, inl, inr, ⊎-elim}
 use mathlib.Core.Option.{none, some}
 use lib.ListN.{length}
-use Rattle.frame.proofs.Tests.{never}
+use Rattle.wire.proofs.Tests.{never}
 use Rattle.table.specs.Lists.{every, firstThat, pick}
 use Rattle.demands.specs.Refusals.{Among}
 use Rattle.demands.proofs.Exact.{Tells, both}

@@ -10,11 +10,12 @@ use mathlib.Core.Option.{none, some}
 use lib.ListN.{length, take}
 use lib.Seq.{length-take-le}
 use lib.Dec.{ltb}
+use Rattle.wire.specs.Range.{Bytes}
 use Rattle.feed.specs.Hold.{over}
 use Rattle.runs.specs.Calls.{feedingOf, finishingOf}
 use Rattle.table.specs.Rows.{BlockRow}
 use Rattle.demands.specs.World.{World, TableCall, stage, withdraw, bytes, body, sub, subBytes, tow, wnc, Call, openRun, feed, finish, table, look, told, Step, step, end}
-use Rattle.demands.specs.Sequence.{Bytes, New, pieceOf, AllFed}
+use Rattle.demands.specs.Sequence.{New, pieceOf, AllFed}
 use Rattle.demands.specs.Refusals.{ShortHold, ShortStore, BadState, NoField, NoSubBlock, Order, Given, recordOrder, stampOrder, order}
 use Rattle.demands.specs.Demand1.{Long}
 use Rattle.demands.proofs.Exact.{bad-state}

@@ -6,6 +6,7 @@ use mathlib.Core.Path.{_≡_, ap, subst, subst⁻¹}
 use mathlib.Core.Bool.{true}
 use mathlib.Core.List.{List, [], _∷_, _++_}
 use lib.ListN.{length, take, drop, length-append}
+use Rattle.wire.specs.Range.{Bytes}
 use Rattle.scan.specs.Settle.{settle}
 use Rattle.scan.specs.Feed.{Intake, feedLit}
 use Rattle.feed.proofs.Bounds.{append-bytes, take-bytes, drop-bytes}
@@ -17,7 +18,7 @@ use Rattle.reader.specs.State.{limit, sound}
 use Rattle.runs.specs.Calls.{feedingOf, finishingOf}
 use Rattle.reader.specs.declared.State.{State}
 use Rattle.demands.specs.World.{World, TableCall, stage, withdraw, Call, openRun, feed, finish, table, look, Step, step, end}
-use Rattle.demands.specs.Sequence.{Bytes, New, pieceOf, AllFed}
+use Rattle.demands.specs.Sequence.{New, pieceOf, AllFed}
 use Rattle.demands.proofs.Soundness.{Sound, sound-kept, rest-bytes}
 use Rattle.demands.proofs.Steps.{How, isnt, is, how, done}
 

@@ -6,6 +6,7 @@ use mathlib.Core.Bool.{true, _&&_}
 use mathlib.Core.List.{List, [], _∷_, _++_, append-nil, append-assoc}
 use mathlib.Core.Option.{Option, none, some, Option·getD, IsSome}
 use lib.ListN.{length, take, drop, length-append}
+use Rattle.wire.specs.Range.{Bytes}
 use Rattle.frame.specs.Judge.{judgedLast}
 use Rattle.scan.specs.Settle.{settle}
 use Rattle.scan.specs.Feed.{Intake, stop, size}
@@ -23,14 +24,15 @@ use Rattle.reader.specs.declared.Counts.{Counts}
 use Rattle.reader.proofs.Laws.{passes, with-hold}
 use Rattle.feed.specs.Hold.{restOf}
 use Rattle.demands.specs.World.{World, TableCall, stage, withdraw, Look, bytes, body, sub, subBytes, tow, wnc, Call, openRun, feed, finish, table, look, Reply, said, told, Step, looked, step, end}
-use Rattle.demands.specs.Sequence.{Bytes, pieceOf, AllFed, NoEnd, Within, Closes, atOpen, tookOf, inHold, shown, taken, blocks, shownBlocks}
+use Rattle.demands.specs.Sequence.{pieceOf, AllFed, NoEnd, Within, Closes, atOpen, tookOf, inHold, shown, taken, blocks, shownBlocks}
 use Rattle.demands.specs.Demand2.{MayFollow, ReadSoFar}
 use Rattle.demands.specs.Demand3.{countsOf, RunOf}
 use Rattle.demands.proofs.Steps.{How, isnt, is, how, refusal, leftForce, done, tableDone}
 use Rattle.demands.proofs.Reached.{Good, good-step, good-end}
 use Rattle.demands.proofs.Live.{Live, not-open, live-step, stands}
-use Rattle.demands.proofs.Going.{kept, place, going, kept-after, FitsHold, finish-report, shown-is}
+use Rattle.demands.proofs.Going.{kept, going, kept-after, FitsHold, finish-report, shown-is}
 use Rattle.demands.proofs.Calls.{ReadsAs, Next, reads-feed, reads-finish, finish-fits}
+use Rattle.demands.specs.Demand2.{placeNow}
 
 -- ---- calls that take and report nothing
 
@@ -96,12 +98,12 @@ first-ones w before mid h =
     let r = reads-within w before mid h in
     let u = end mid (atOpen w before) in
     let t = taken mid (atOpen w before) in
-    let so : (zs : List ℕ) → MayFollow (u .state .run .phase) zs → readRun 0 (t ++ zs) ≡ both (record { blocks = blocks mid (atOpen w before); skipped = r .places }) (readRun (place u) (drop (place u) t ++ zs)) =
-    λ zs y. r .so zs y ∙ ap (λ (k : List ℕ). both (record { blocks = blocks mid (atOpen w before); skipped = r .places }) (readRun (place u) (k ++ zs))) (r .rest) in
+    let so : (zs : List ℕ) → MayFollow (u .state .run .phase) zs → readRun 0 (t ++ zs) ≡ both (record { blocks = blocks mid (atOpen w before); skipped = r .places }) (readRun (placeNow u) (drop (placeNow u) t ++ zs)) =
+    λ zs y. r .so zs y ∙ ap (λ (k : List ℕ). both (record { blocks = blocks mid (atOpen w before); skipped = r .places }) (readRun (placeNow u) (k ++ zs))) (r .rest) in
     record {
       follows = λ zs y. ap (λ (x : Reading). x .blocks) (so zs y);
-      skips = λ zs y. ap (λ (x : Reading). length (x .skipped)) (so zs y) ∙ length-append (r .places) (readRun (place u) (drop (place u) t ++ zs) .skipped)
-          ∙ ap (λ (k : ℕ). k + length (readRun (place u) (drop (place u) t ++ zs) .skipped)) (sym (r .skips));
+      skips = λ zs y. ap (λ (x : Reading). length (x .skipped)) (so zs y) ∙ length-append (r .places) (readRun (placeNow u) (drop (placeNow u) t ++ zs) .skipped)
+          ∙ ap (λ (k : ℕ). k + length (readRun (placeNow u) (drop (placeNow u) t ++ zs) .skipped)) (sym (r .skips));
       took = r .count;
       counted = r .sum;
     }
@@ -124,8 +126,8 @@ closed-reads : (w : World) {ts : List ℕ} {b : List ReadBlock} → w .state .ru
 closed-reads w {ts} {b} c k r =
     let so : readRun 0 ts ≡ record { blocks = b; skipped = r .places } =
     ap (readRun 0) (sym (append-nil ts)) ∙ r .so [] (subst⁻¹ (λ (x : Phase). MayFollow x []) c refl)
-    ∙ ap (λ (j : List ℕ). both (record { blocks = b; skipped = r .places }) (readRun (place w) (j ++ []))) k
-    ∙ ap (both (record { blocks = b; skipped = r .places })) (read-end (place w))
+    ∙ ap (λ (j : List ℕ). both (record { blocks = b; skipped = r .places }) (readRun (placeNow w) (j ++ []))) k
+    ∙ ap (both (record { blocks = b; skipped = r .places })) (read-end (placeNow w))
     ∙ ap₂ (λ (i : List ReadBlock) (j : List ℕ). record { blocks = i; skipped = j }) (append-nil b) (append-nil (r .places)) in
     let all : b ≡ readRun 0 ts .blocks = ap (λ (x : Reading). x .blocks) (sym so) in
     record {

@@ -10,9 +10,10 @@ use mathlib.Core.Option.{Option, none, some}
 use lib.ListN.{length, drop}
 use lib.Dec.{ltb}
 use borrow.Author.Tests.{le-leb}
+use Rattle.wire.specs.Range.{Bytes}
 use Rattle.scan.specs.Settle.{settle}
 use Rattle.scan.specs.Feed.{Intake, feedLit, stop, size}
-use Rattle.frame.proofs.Tests.{both-true}
+use Rattle.wire.proofs.Tests.{both-true}
 use Rattle.feed.proofs.Bounds.{take-bytes, drop-bytes, fed-held}
 use Rattle.frame.specs.Judge.{judged, judgedLast}
 use Rattle.scan.proofs.Stable.{judging}
@@ -36,7 +37,6 @@ use Rattle.reader.proofs.Laws.{passes, with-hold}
 use Rattle.tables.proofs.Accepted.{stage-passed}
 use Rattle.runs.proofs.Feeding.{WholeIf, fed-whole, end-whole}
 use Rattle.demands.specs.World.{said, told}
-use Rattle.demands.specs.Sequence.{Bytes}
 
 -- `reported` is the number of bytes in the blocks reported since Open, the standing one among them: these, the skipped ones and those held
 -- behind the standing block are the bytes taken

@@ -5,7 +5,7 @@ use mathlib.Core.Path.{_≡_, refl}
 use mathlib.Core.Bool.{true, false}
 use mathlib.Core.List.{List}
 use mathlib.Core.Option.{Option, none, some}
-use Rattle.frame.proofs.Tests.{never}
+use Rattle.wire.proofs.Tests.{never}
 use Rattle.reader.specs.Said.{refused}
 use Rattle.tables.specs.Calls.{openRefusal, stageRefusal, withdrawRefusal, opening, openOf, staging, stageOf, withdrawing, withdrawOf}
 use Rattle.runs.specs.Refusals.{feedRefusal, finishRefusal}

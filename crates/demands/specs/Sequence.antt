@@ -5,14 +5,11 @@ use mathlib.Core.Path.{_≡_}
 use mathlib.Core.List.{List, [], _∷_, _++_}
 use mathlib.Core.Option.{Option, none, some, Option·getD, IsSome}
 use lib.ListN.{getD, take}
+use Rattle.wire.specs.Range.{Bytes}
 use Rattle.framing.specs.ReadRun.{ReadBlock}
 use Rattle.reader.specs.State.{newState}
 use Rattle.reader.specs.Said.{Report}
 use Rattle.demands.specs.World.{World, bytes, Call, openRun, feed, finish, table, look, Reply, told, partOf, step, end}
-
--- what is lent and fed is bytes
-abbrev pub Bytes : List ℕ → Type 0
-Bytes v = (i : ℕ) → getD v i 0 < 256
 
 -- "any sequence of calls on a new reader": any three buffers, short ones too; the one premise is that bytes are below 256
 pub record New (w : World) : Type 0 where

@@ -9,6 +9,7 @@ use lib.Dec.{eqb}
 use lib.ListN.{length, getD, length-map}
 use lib.Seq.{length-take-le}
 use borrow.Author.Tests.{eqb-true}
+use Rattle.wire.specs.Range.{Bytes}
 use Rattle.wire.specs.Little.{littleAt}
 use Rattle.rows.specs.declared.Row.{Row}
 use Rattle.table.specs.Lists.{tabulate, every}
@@ -17,13 +18,13 @@ use Rattle.table.specs.Decode.{toFields, covered, rowsOf, blockOf, decode}
 use Rattle.encode.specs.Encode.{u2Bytes, fieldBytes, fieldsPart, rowsPart, unsealed, encode}
 use Rattle.table.specs.Rules.{zeroOk, indexOk, usedFields, tableOk}
 use Rattle.encode.specs.Theorems.{Decodes}
-use Rattle.table.proofs.Bools.{both}
 use Rattle.table.proofs.Lists.{length-tab}
 use Rattle.encode.proofs.Parts as parts
 use Rattle.encode.proofs.Parts.{part}
 use Rattle.table.proofs.Passed.{Passed, passed}
+use Rattle.wire.proofs.Tests.{both}
 
-module _ (t : List ℕ) (bytes : (j : ℕ) → getD t j 0 < 256) where
+module _ (t : List ℕ) (bytes : Bytes t) where
   -- a number's two bytes are the two bytes that it was read from
   two-part : (p : ℕ) → p + 2 ≤ length t → u2Bytes (littleAt 2 t p) ≡ part t p 2
   unfolding u2Bytes littleAt

@@ -9,12 +9,12 @@ use Rattle.table.specs.Rows.{Table}
 use Rattle.table.specs.Rules.{zeroOk, indexOk, usedFields, formOk, meaningOk, tableOk}
 use Rattle.encode.specs.Encode.{encode}
 use Rattle.encode.specs.Theorems.{Encodes}
-use Rattle.table.proofs.Bools.{join}
 use Rattle.table.proofs.Passed.{File, file-ok, meaning}
 use Rattle.encode.proofs.Room.{Room, room}
 use Rattle.encode.proofs.Laid.{zeros-for, index-for, counts-for}
 use Rattle.encode.proofs.File as file
 use Rattle.encode.proofs.Small.{bytes}
+use Rattle.wire.proofs.Tests.{both, both-true}
 
 module _ (tab : Table) (r : Room tab) where
   file-is : File (encode tab)
@@ -40,11 +40,11 @@ module _ (tab : Table) (r : Room tab) where
       let zeros = ap (every zeroOk) rows ∙ zeros-for 0 (tab .rows) in
       let index = ap (indexOk 0) rows ∙ index-for 0 (tab .rows) in
       let used = ap usedFields rows ∙ counts-for 0 (tab .rows) ∙ sym (file.fields-are tab) in
-      join (join (join (file-ok (encode tab) file-is) zeros) index) (eq-eqb _ _ used)
+      both-true (both-true (both-true (file-ok (encode tab) file-is) zeros) index) (eq-eqb _ _ used)
 
   table-passes : meaningOk tab ≡ true → tableOk (encode tab) ≡ true
   unfolding tableOk
-  table-passes e = join form-passes (ap meaningOk (file.decoded tab) ∙ e)
+  table-passes e = both-true form-passes (ap meaningOk (file.decoded tab) ∙ e)
 
 pub encodes : Encodes
 encodes tab e f =

@@ -11,7 +11,7 @@ use Rattle.table.specs.Lists.{every}
 use Rattle.table.specs.Rows.{BlockRow}
 use Rattle.table.specs.Rules.{zeroOk, indexOk, usedFields}
 use Rattle.encode.specs.Fits.{fieldRows}
-use Rattle.table.proofs.Bools.{join}
+use Rattle.wire.proofs.Tests.{both, both-true}
 
 -- a block's row, where so many field rows are before its own
 unfoldable pub rowFor : ℕ → BlockRow → Row
@@ -29,7 +29,7 @@ zeros-for before (b ∷ bs) = zeros-for (before + (length (b .body) + length (b 
 pub index-for : (before : ℕ) (bs : List BlockRow) → indexOk before (rowsFor before bs) ≡ true
 unfolding indexOk rowsFor rowFor
 index-for before [] = refl
-index-for before (b ∷ bs) = join (eq-eqb before before refl) (index-for (before + (length (b .body) + length (b .subs))) bs)
+index-for before (b ∷ bs) = both-true (eq-eqb before before refl) (index-for (before + (length (b .body) + length (b .subs))) bs)
 
 pub counts-for : (before : ℕ) (bs : List BlockRow) → usedFields (rowsFor before bs) ≡ fieldRows bs
 unfolding usedFields rowsFor rowFor fieldRows

@@ -9,7 +9,7 @@ use borrow.Author.Tests.{ltb-true, leb-true}
 use Rattle.table.specs.Lists.{every}
 use Rattle.table.specs.Rows.{Table}
 use Rattle.encode.specs.Fits.{fieldRows, fileSize, blockFits, fits}
-use Rattle.table.proofs.Bools.{both}
+use Rattle.wire.proofs.Tests.{both}
 
 pub record Room (tab : Table) : Type 0 where
   pub size : 4 * fieldRows (tab .rows) + 8 * length (tab .rows) + 12 ≤ 8192

@@ -18,11 +18,11 @@ use Rattle.table.specs.Rows.{BlockRow, Table}
 use Rattle.table.specs.Rules.{numberOk, highestOk, offsetOk, apart, steady, firstOk, typeOk, markOk, fieldsOk, blockOk}
 use Rattle.encode.specs.Encode.{u2Bytes, fieldBytes, fieldsPart, rowsPart, unsealed, encode}
 use Rattle.encode.specs.Fits.{fieldRows, countFits, offsetFits, blockFits}
-use Rattle.table.proofs.Bools.{both, join}
 use Rattle.kinds.proofs.Marks.{fits-none}
 use Rattle.table.proofs.Passed.{Meaning}
 use Rattle.encode.proofs.Room.{Room}
 use Rattle.encode.proofs.File.{length-rows}
+use Rattle.wire.proofs.Tests.{both, both-true}
 
 abbrev isByte : ℕ → Bool
 isByte x = ltb x 256
@@ -36,11 +36,11 @@ bytes-at (x ∷ xs) e (suc j) = bytes-at xs (both (isByte x) _ e .1) j
 append : (xs ys : List ℕ) → every isByte xs ≡ true → every isByte ys ≡ true → every isByte (xs ++ ys) ≡ true
 unfolding every
 append [] ys e f = f
-append (x ∷ xs) ys e f = let a = both (isByte x) _ e in join (a .0) (append xs ys (a .1) f)
+append (x ∷ xs) ys e f = let a = both (isByte x) _ e in both-true (a .0) (append xs ys (a .1) f)
 
 two-small : (n : ℕ) → n < 65536 → every isByte (u2Bytes n) ≡ true
 unfolding every u2Bytes
-two-small n h = join (lt-ltb (n % 256) 256 (omega arith)) (join (lt-ltb (n / 256) 256 (omega arith)) refl)
+two-small n h = both-true (lt-ltb (n % 256) 256 (omega arith)) (both-true (lt-ltb (n / 256) 256 (omega arith)) refl)
 
 -- Field rows.
 
@@ -62,7 +62,7 @@ each-small top h (f ∷ fs) o r k m =
     let first : f .first ≤ top = leb-true _ _ (b .0) in
     let kind : f .kind ≤ 10 = leb-true _ _ (both (leb 1 (f .kind)) _ (c .0) .1) in
     let mark = mark-small (f .kind) (f .mark) (d .0) in
-    join (a .0) (join (lt-ltb (f .kind) 256 (omega arith)) (join (lt-ltb (f .first) 256 (omega arith)) (join (lt-ltb (f .mark) 256 mark)
+    both-true (a .0) (both-true (lt-ltb (f .kind) 256 (omega arith)) (both-true (lt-ltb (f .first) 256 (omega arith)) (both-true (lt-ltb (f .mark) 256 mark)
     (each-small top h fs (a .1) (b .1) (c .1) (d .1)))))
 
 fields-small : (top : ℕ) → top ≤ 7 → (fs : List FieldRow) → every offsetFits fs ≡ true → fieldsOk top fs ≡ true → every isByte (fieldBytes fs) ≡ true
@@ -112,8 +112,8 @@ rows-part-small before (b ∷ bs) l n h f =
     let j = both bodies _ (i .0) in
     let next = before + (length (b .body) + length (b .subs)) in
     let rest = rows-part-small next bs (omega arith) (a .1) (c .1) (d .1) in
-    append (u2Bytes (b .number)) _ (two-small (b .number) (omega arith)) (join (lt-ltb (b .highest) 256 (omega arith)) (join (j .0)
-    (append (u2Bytes before) _ (two-small before (omega arith)) (join (j .1) rest))))
+    append (u2Bytes (b .number)) _ (two-small (b .number) (omega arith)) (both-true (lt-ltb (b .highest) 256 (omega arith)) (both-true (j .0)
+    (append (u2Bytes before) _ (two-small before (omega arith)) (both-true (j .1) rest))))
 
 -- The CRC.
 

@@ -14,19 +14,16 @@ use Rattle.rows.specs.declared.FieldRow.{FieldRow}
 use Rattle.table.specs.Rows.{BlockRow, Table}
 use Rattle.encode.specs.Encode.{u2Bytes, unsealed, encode}
 use Rattle.table.specs.Rules.{tableOk}
+use Rattle.rows.specs.Places.{fieldRow}
 
 pub record LimitCase : Type 0 where
   pub name : String
   pub bytes : List ℕ
   pub passes : Bool
 
--- offset, type, first revision, mark
-abbrev field : ℕ → ℕ → ℕ → ℕ → FieldRow
-field offset kind first mark = record { offset = offset; kind = kind; first = first; mark = mark }
-
 -- number, highest revision, body, sub-fields
 abbrev blockRow : ℕ → ℕ → List FieldRow → List FieldRow → BlockRow
-blockRow number highest withBody withSubs = record { number = number; highest = highest; body = withBody; subs = withSubs }
+blockRow number highest body subs = record { number = number; highest = highest; body = body; subs = subs }
 
 abbrev tableWith : List BlockRow → Table
 tableWith rows = record { version = 7; rows = rows }
@@ -42,11 +39,11 @@ abbrev withBody : List FieldRow → List BlockRow
 withBody fs = blockRow 1 3 fs [] ∷ []
 
 abbrev withSubs : List FieldRow → List BlockRow
-withSubs fs = blockRow 1 3 (field 14 u1 0 unmarked ∷ field 15 u1 0 unmarked ∷ []) fs ∷ []
+withSubs fs = blockRow 1 3 (fieldRow 14 u1 0 unmarked ∷ fieldRow 15 u1 0 unmarked ∷ []) fs ∷ []
 
 -- a type and a mark
 abbrev bears : ℕ → ℕ → List BlockRow
-bears kind mark = withBody (field 14 kind 0 mark ∷ [])
+bears kind mark = withBody (fieldRow 14 kind 0 mark ∷ [])
 
 abbrev rows : List LimitCase
 rows =
@@ -59,29 +56,29 @@ rows =
     ∷ bad "numbers falling" (blockRow 2 0 [] [] ∷ blockRow 1 0 [] [] ∷ [])
     ∷ ok "highest 7" (blockRow 1 7 [] [] ∷ [])
     ∷ bad "highest 8" (blockRow 1 8 [] [] ∷ [])
-    ∷ ok "two blocks with fields" (blockRow 1 0 (field 14 u4 0 unmarked ∷ []) [] ∷ blockRow 2 0 (field 14 u4 0 unmarked ∷ []) [] ∷ [])
+    ∷ ok "two blocks with fields" (blockRow 1 0 (fieldRow 14 u4 0 unmarked ∷ []) [] ∷ blockRow 2 0 (fieldRow 14 u4 0 unmarked ∷ []) [] ∷ [])
     ∷ []
 
 abbrev fields : List LimitCase
 fields =
-    bad "a body offset of 13" (withBody (field 13 u1 0 unmarked ∷ []))
-    ∷ ok "a body offset of 255" (withBody (field 255 f8 0 unmarked ∷ []))
-    ∷ ok "a field where the previous one ends" (withBody (field 14 u2 0 unmarked ∷ field 16 u1 0 unmarked ∷ []))
-    ∷ bad "a field before the previous one ends" (withBody (field 14 u2 0 unmarked ∷ field 15 u1 0 unmarked ∷ []))
-    ∷ ok "a gap" (withBody (field 20 u2 0 unmarked ∷ field 30 u1 0 unmarked ∷ []))
-    ∷ ok "first revisions rising to the highest" (withBody (field 14 u1 0 unmarked ∷ field 15 u1 3 unmarked ∷ field 16 u1 3 unmarked ∷ []))
-    ∷ bad "a first revision above the highest" (withBody (field 14 u1 4 unmarked ∷ []))
-    ∷ bad "first revisions falling" (withBody (field 14 u1 1 unmarked ∷ field 15 u1 0 unmarked ∷ []))
-    ∷ ok "sub-fields from 0" (withSubs (field 0 f8 0 unmarked ∷ field 8 u1 1 unmarked ∷ []))
-    ∷ bad "sub-fields that overlap" (withSubs (field 0 f8 0 unmarked ∷ field 7 u1 0 unmarked ∷ []))
-    ∷ bad "first revisions of sub-fields falling" (withSubs (field 0 u1 1 unmarked ∷ field 1 u1 0 unmarked ∷ []))
-    ∷ bad "sub-fields without N and SBLength" (blockRow 1 0 [] (field 0 u1 0 unmarked ∷ []) ∷ [])
-    ∷ bad "N alone" (blockRow 1 0 (field 14 u1 0 unmarked ∷ []) (field 0 u1 0 unmarked ∷ []) ∷ [])
-    ∷ bad "N, SBLength and one more" (blockRow 1 0 (field 14 u1 0 unmarked ∷ field 15 u1 0 unmarked ∷ field 16 u1 0 unmarked ∷ []) (field 0 u1 0 unmarked ∷ []) ∷ [])
-    ∷ bad "N with a mark" (blockRow 1 0 (field 14 u1 0 ones ∷ field 15 u1 0 unmarked ∷ []) (field 0 u1 0 unmarked ∷ []) ∷ [])
-    ∷ bad "SBLength of type i1" (blockRow 1 0 (field 14 u1 0 unmarked ∷ field 15 i1 0 unmarked ∷ []) (field 0 u1 0 unmarked ∷ []) ∷ [])
-    ∷ bad "SBLength at 16" (blockRow 1 0 (field 14 u1 0 unmarked ∷ field 16 u1 0 unmarked ∷ []) (field 0 u1 0 unmarked ∷ []) ∷ [])
-    ∷ bad "SBLength from revision 1" (blockRow 1 1 (field 14 u1 0 unmarked ∷ field 15 u1 1 unmarked ∷ []) (field 0 u1 0 unmarked ∷ []) ∷ [])
+    bad "a body offset of 13" (withBody (fieldRow 13 u1 0 unmarked ∷ []))
+    ∷ ok "a body offset of 255" (withBody (fieldRow 255 f8 0 unmarked ∷ []))
+    ∷ ok "a field where the previous one ends" (withBody (fieldRow 14 u2 0 unmarked ∷ fieldRow 16 u1 0 unmarked ∷ []))
+    ∷ bad "a field before the previous one ends" (withBody (fieldRow 14 u2 0 unmarked ∷ fieldRow 15 u1 0 unmarked ∷ []))
+    ∷ ok "a gap" (withBody (fieldRow 20 u2 0 unmarked ∷ fieldRow 30 u1 0 unmarked ∷ []))
+    ∷ ok "first revisions rising to the highest" (withBody (fieldRow 14 u1 0 unmarked ∷ fieldRow 15 u1 3 unmarked ∷ fieldRow 16 u1 3 unmarked ∷ []))
+    ∷ bad "a first revision above the highest" (withBody (fieldRow 14 u1 4 unmarked ∷ []))
+    ∷ bad "first revisions falling" (withBody (fieldRow 14 u1 1 unmarked ∷ fieldRow 15 u1 0 unmarked ∷ []))
+    ∷ ok "sub-fields from 0" (withSubs (fieldRow 0 f8 0 unmarked ∷ fieldRow 8 u1 1 unmarked ∷ []))
+    ∷ bad "sub-fields that overlap" (withSubs (fieldRow 0 f8 0 unmarked ∷ fieldRow 7 u1 0 unmarked ∷ []))
+    ∷ bad "first revisions of sub-fields falling" (withSubs (fieldRow 0 u1 1 unmarked ∷ fieldRow 1 u1 0 unmarked ∷ []))
+    ∷ bad "sub-fields without N and SBLength" (blockRow 1 0 [] (fieldRow 0 u1 0 unmarked ∷ []) ∷ [])
+    ∷ bad "N alone" (blockRow 1 0 (fieldRow 14 u1 0 unmarked ∷ []) (fieldRow 0 u1 0 unmarked ∷ []) ∷ [])
+    ∷ bad "N, SBLength and one more" (blockRow 1 0 (fieldRow 14 u1 0 unmarked ∷ fieldRow 15 u1 0 unmarked ∷ fieldRow 16 u1 0 unmarked ∷ []) (fieldRow 0 u1 0 unmarked ∷ []) ∷ [])
+    ∷ bad "N with a mark" (blockRow 1 0 (fieldRow 14 u1 0 ones ∷ fieldRow 15 u1 0 unmarked ∷ []) (fieldRow 0 u1 0 unmarked ∷ []) ∷ [])
+    ∷ bad "SBLength of type i1" (blockRow 1 0 (fieldRow 14 u1 0 unmarked ∷ fieldRow 15 i1 0 unmarked ∷ []) (fieldRow 0 u1 0 unmarked ∷ []) ∷ [])
+    ∷ bad "SBLength at 16" (blockRow 1 0 (fieldRow 14 u1 0 unmarked ∷ fieldRow 16 u1 0 unmarked ∷ []) (fieldRow 0 u1 0 unmarked ∷ []) ∷ [])
+    ∷ bad "SBLength from revision 1" (blockRow 1 1 (fieldRow 14 u1 0 unmarked ∷ fieldRow 15 u1 1 unmarked ∷ []) (fieldRow 0 u1 0 unmarked ∷ []) ∷ [])
     ∷ []
 
 abbrev markCases : List LimitCase
@@ -109,7 +106,7 @@ closed bs = bs ++ (u2Bytes (crcOf bs) ++ (0x42 ∷ 0x54 ∷ []))
 
 -- a file of 32 bytes: a field row at 0, block rows at 4 and 12, the trailer at 20
 abbrev small : Table
-small = tableWith (blockRow 1 0 (field 14 u1 0 unmarked ∷ []) [] ∷ blockRow 2 0 [] [] ∷ [])
+small = tableWith (blockRow 1 0 (fieldRow 14 u1 0 unmarked ∷ []) [] ∷ blockRow 2 0 [] [] ∷ [])
 
 -- that file with another byte, and the right CRC
 abbrev other : String → ℕ → ℕ → LimitCase
@@ -120,7 +117,7 @@ files =
     record { name = "the small file"; bytes = closed (unsealed small); passes = true }
     ∷ other "a block row that ends in no zero byte" 11 1
     ∷ other "a first index that is not the sum" 16 0
-    ∷ record { name = "counts that leave a field row"; bytes = closed (set (unsealed (tableWith (withBody (field 14 u1 0 unmarked ∷ [])))) 7 0); passes = false }
+    ∷ record { name = "counts that leave a field row"; bytes = closed (set (unsealed (tableWith (withBody (fieldRow 14 u1 0 unmarked ∷ [])))) 7 0); passes = false }
     ∷ other "counts beyond the field rows" 15 1
     ∷ other "a count that is not R" 22 1
     ∷ other "another distance to the block rows" 24 29

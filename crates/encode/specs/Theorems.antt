@@ -3,8 +3,8 @@
 use mathlib.Core.Bool.{true}
 use mathlib.Core.List.{List}
 use mathlib.Core.Path.{_≡_}
-use Prim.Native.Nat.{ℕ, _<_}
-use lib.ListN.{getD}
+use Prim.Native.Nat.{ℕ}
+use Rattle.wire.specs.Range.{Bytes}
 use Rattle.table.specs.Rows.{Table}
 use Rattle.table.specs.Decode.{decode}
 use Rattle.table.specs.Rules.{meaningOk, tableOk}
@@ -13,11 +13,11 @@ use Rattle.encode.specs.Fits.{fits}
 
 -- a table that passes decodes: what it means gives its bytes back
 abbrev pub Decodes : Type 0
-Decodes = (t : List ℕ) → ((j : ℕ) → getD t j 0 < 256) → tableOk t ≡ true → encode (decode t) ≡ t
+Decodes = (t : List ℕ) → Bytes t → tableOk t ≡ true → encode (decode t) ≡ t
 
 -- the table has a file: bytes that pass, and decode to it
 pub record Encoded (tab : Table) : Type 0 where
-  pub bytes : (j : ℕ) → getD (encode tab) j 0 < 256
+  pub bytes : Bytes (encode tab)
   pub passes : tableOk (encode tab) ≡ true
   pub decodes : decode (encode tab) ≡ tab
 

@@ -8,19 +8,17 @@ use Prim.Native.Nat.{ℕ, zero, suc, _+_, _-_, _≤_, _<_}
 use native.Mathlib.Omega.{arith}
 use lib.ListN.{length, take, drop, getD, length-take, length-drop, length-append, List·getD-append, List·getD-eq-default}
 use lib.Seq.{getD-drop, getD-take, getD-append-add}
+use Rattle.wire.specs.Range.{Bytes}
 use Rattle.wire.proofs.Laws.{range}
 use Rattle.frame.specs.Frame.{lengthAt}
 use Rattle.frame.specs.Judge.{judged}
 use Rattle.frame.specs.declared.Verdict.{Verdict}
 use Rattle.frame.specs.declared.Verdict.the-variants.{Undecided}
-use Rattle.frame.proofs.Tests.{lt?}
+use Rattle.wire.proofs.Tests.{lt?}
 use Rattle.frame.proofs.View.{allows, View, waits-head, waits-body, at-sync0, at-sync1, at-length, at-bad, at-good, view}
 use Rattle.scan.specs.Settle.{Settled, settle}
 use Rattle.scan.specs.Feed.{Intake, unlessBlock, feedBy, feedLit}
 use Rattle.scan.proofs.Settling.{Stopped, settle-rest, settle-stopped}
-
-abbrev pub Bytes : List ℕ → Type 0
-Bytes v = (i : ℕ) → getD v i 0 < 256
 
 pub append-bytes : (u v : List ℕ) → Bytes u → Bytes v → Bytes (u ++ v)
 append-bytes u v bu bv i =

@@ -8,7 +8,7 @@ use native.Mathlib.Omega.{arith}
 use lib.ListN.{length, take, drop, length-drop}
 use lib.Seq.{length-take-le, take-all, take-at, take-append-add, drop-append-le, paste}
 use Rattle.frame.specs.Judge.{judged, judgedLast}
-use Rattle.frame.proofs.Tests.{lt?}
+use Rattle.wire.proofs.Tests.{lt?}
 use Rattle.scan.specs.Settle.{Settled, settle}
 use Rattle.scan.specs.Feed.{Intake, feedLit, stop, size}
 use Rattle.scan.specs.Passed.{scannedOf}

@@ -1,5 +1,4 @@
 pub mod Apart
-pub mod Tests
 pub mod Cases
 pub mod View
 pub mod Standing

@@ -6,7 +6,7 @@ use Prim.Native.Nat.{ℕ, min, _+_, _-_, _≤_, _<_}
 use native.Mathlib.Omega.{arith}
 use lib.ListN.{length, take, drop, getD, length-drop}
 use lib.Seq.{take-all, take-add, take-append-le, take-append-add, drop-append-le, drop-append-add, drop-at, length-take-le, getD-append-add}
-use Rattle.frame.proofs.Tests.{lt?}
+use Rattle.wire.proofs.Tests.{lt?}
 
 -- a byte of the second
 pub get-right : (a b : List ℕ) (i : ℕ) → length a ≤ i → getD (a ++ b) i 0 ≡ getD b (i - length a) 0

@@ -12,7 +12,7 @@ use Rattle.frame.specs.Frame.{syncAt, lengthAt, allowed, endsWithin, crc
 use Rattle.frame.specs.Judge.{judged}
 use Rattle.frame.specs.declared.Verdict.{Verdict}
 use Rattle.frame.specs.declared.Verdict.the-variants.{NoFrame, Frame, Undecided}
-use Rattle.frame.proofs.Tests.{both-left, both-right, both-true}
+use Rattle.wire.proofs.Tests.{both-left, both-right, both-true}
 use Rattle.frame.proofs.Cases.{good}
 use Rattle.frame.proofs.View.{allows, View, waits-head, waits-body, at-sync0, at-sync1, at-length, at-bad, at-good, view}
 

@@ -13,7 +13,7 @@ use Rattle.frame.specs.Judge.{judged}
 use Rattle.frame.specs.declared.Verdict.{Verdict}
 use Rattle.frame.specs.declared.Reason.the-variants.{NoSync, LengthNotAllowed, CrcWrong}
 use Rattle.frame.specs.declared.Verdict.the-variants.{NoFrame, Frame, Undecided}
-use Rattle.frame.proofs.Tests.{bool?, lt?, eq?, both-left, both-right}
+use Rattle.wire.proofs.Tests.{bool?, lt?, eq?, both-left, both-right}
 use Rattle.frame.proofs.Cases.{empty, sync0, one, sync1, short, bad-length, part, good, bad}
 
 pub record Head (v : List ℕ) : Type 0 where

@@ -14,7 +14,7 @@ use Rattle.frame.specs.declared.Reason.{Reason}
 use Rattle.frame.specs.declared.Reason.the-variants.{NoSync, LengthNotAllowed, CrcWrong, FewLeft, PastEnd}
 use Rattle.frame.specs.declared.Verdict.{Verdict}
 use Rattle.frame.specs.declared.Verdict.the-variants.{NoFrame, Frame, Undecided}
-use Rattle.frame.proofs.Tests.{bool?, lt?, both-left, both-right, both-true, never}
+use Rattle.wire.proofs.Tests.{bool?, lt?, both-left, both-right, both-true, never}
 use Rattle.frame.proofs.Cases.{short, part}
 use Rattle.frame.proofs.View.{Head, View, waits-head, waits-body, at-sync0, at-sync1, at-length, at-bad, at-good, view}
 use Rattle.scan.proofs.Stable.{judging, last-decides, frame-last, last-frame}

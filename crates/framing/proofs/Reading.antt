@@ -16,7 +16,7 @@ use Rattle.frame.specs.Judge.{judged, judgedLast}
 use Rattle.frame.specs.declared.Reason.{Reason}
 use Rattle.frame.specs.declared.Verdict.{Verdict}
 use Rattle.frame.specs.declared.Verdict.the-variants.{NoFrame, Frame, Undecided}
-use Rattle.frame.proofs.Tests.{bool?}
+use Rattle.wire.proofs.Tests.{bool?}
 use Rattle.frame.proofs.Standing.{front-judged, judged-front}
 use Rattle.scan.specs.Settle.{Settled, settleBy, settle}
 use Rattle.scan.specs.Feed.{Intake, unlessBlock, feedBy, feedLit, size}

@@ -13,7 +13,7 @@ use Rattle.crc.specs.Crc.{crcOf}
 use Rattle.wire.proofs.Laws.{little-drop}
 use Rattle.frame.specs.Frame.{syncAt, crcAt, lengthAt, allowed, endsWithin, crcRight, frameAt}
 use Rattle.frame.specs.declared.Verdict.the-variants.{Frame}
-use Rattle.frame.proofs.Tests.{lt?}
+use Rattle.wire.proofs.Tests.{lt?}
 use Rattle.frame.proofs.Cases.{byte0, byte, body}
 use Rattle.frame.proofs.Standing.{front-judged, judged-front}
 use Rattle.framing.specs.Theorems.{JudgedRight}

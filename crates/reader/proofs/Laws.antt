@@ -9,7 +9,7 @@ use native.Mathlib.Omega.{arith}
 use lib.ListN.{length}
 use lib.Dec.{leb}
 use borrow.Author.Tests.{leb-true}
-use Rattle.frame.proofs.Tests.{both-left, both-right}
+use Rattle.wire.proofs.Tests.{both-left, both-right}
 use Rattle.reader.specs.State.{limit, sound}
 use Rattle.reader.specs.Refusals.{need, longHold, longStore}
 use Rattle.reader.specs.declared.State.{State}

@@ -15,7 +15,6 @@ use Rattle.rows.specs.declared.Row.{Row}
 use Rattle.table.specs.Lists.{tabulate, pick}
 use Rattle.rows.specs.Places.{fieldAt}
 use Rattle.table.specs.Decode.{blockOf, decode}
-use Rattle.table.proofs.Bools.{both}
 use Rattle.table.proofs.Lists.{every-at, pick-in, pick-out}
 use Rattle.record.specs.declared.Answer.{Answer}
 use Rattle.record.specs.declared.Answer.the-variants as answer
@@ -31,6 +30,7 @@ use Rattle.block.specs.Block.{revisionIn, endsBy, bodyFits, matchedSays, subMat
 use Rattle.record.specs.Calls.{fieldSaid, fieldOr9, bodyBy, bodyField, subSlice, subBy, subField, nowhere, placeBy, subPlace, numberBy, subBlockRefusal}
 use Rattle.record.proofs.Fields.{same}
 use Rattle.block.proofs.Blocks.{fine-at}
+use Rattle.wire.proofs.Tests.{both}
 
 pub refuses : (x : Refusal) → Answers (answer.Refused x) (fieldRefused (numberFor x))
 refuses x = record { says = refl; case = ap answer.Refused (back x) }

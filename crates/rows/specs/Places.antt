@@ -26,6 +26,10 @@ unfoldable pub fieldAt : List ℕ → ℕ → FieldRow
 fieldAt t i =
     record { offset = getD t (4 * i) 0; kind = getD t (4 * i + 1) 0; first = getD t (4 * i + 2) 0; mark = getD t (4 * i + 3) 0 }
 
+-- offset, type, first revision, mark
+abbrev pub fieldRow : ℕ → ℕ → ℕ → ℕ → FieldRow
+fieldRow offset kind first mark = record { offset = offset; kind = kind; first = first; mark = mark }
+
 -- "Block row: number u2 ..; highest revision u1 ..; body field count u1; index of the first field row u2; sub-field count u1; a zero byte"
 unfoldable pub rowFrom : List ℕ → ℕ → Row
 rowFrom t p =

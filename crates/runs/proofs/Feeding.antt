@@ -94,11 +94,8 @@ id-is v l n w =
 pub report-is : (v l : List ℕ) (p n : ℕ) → Whole n v → reportAt (v ++ l) p n ≡ reported p n v
 report-is v l p n w = ap (λ (i : ℕ). record { place = p; number = numberOf i; revision = revisionOf i; size = n }) (id-is v l n w)
 
-whole-of : (o : Option ℕ) (v : List ℕ) (n : ℕ) → WholeIf o v → o ≡ some n → Whole n v
-whole-of o v n w e = subst (λ (x : Option ℕ). WholeIf x v) e w
-
 pub whole-some : (o : Option ℕ) (v : List ℕ) (n : ℕ) → WholeIf o v → o ≡ some n → Whole n v
-whole-some = whole-of
+whole-some o v n w e = subst (λ (x : Option ℕ). WholeIf x v) e w
 
 -- ---- numbers
 

@@ -8,10 +8,7 @@ use mathlib.Core.Option.{none, some}
 use Rattle.record.specs.Answer.{single, unsigned, doNotUse}
 use Rattle.demands.specs.World.{stage, bytes, body, sub, subBytes, tow, wnc, openRun, feed, finish, table, look, part, value, _⇒_}
 use Rattle.samples.specs.Transcript.{Transcript, replayed, versionIs, moreIs, blockIs, foundIs, endIs, refusalIs, report}
-
--- (b), and (c) with 88 for 89
-abbrev pub sampleB : List ℕ
-sampleB = 0x24 ∷ 0x40 ∷ 0xA9 ∷ 0x89 ∷ 0x00 ∷ 0x00 ∷ 0x08 ∷ 0x00 ∷ []
+use Rattle.answers.specs.Samples.{sampleB, twelve}
 
 abbrev pub sampleC : List ℕ
 sampleC = 0x24 ∷ 0x40 ∷ 0xA9 ∷ 0x88 ∷ 0x00 ∷ 0x00 ∷ 0x08 ∷ 0x00 ∷ []
@@ -32,9 +29,6 @@ length4 = 0x24 ∷ 0x40 ∷ 0x00 ∷ 0x00 ∷ 0x00 ∷ 0x00 ∷ 0x04 ∷ 0x00 �
 
 abbrev pub length9 : List ℕ
 length9 = 0x24 ∷ 0x40 ∷ 0x91 ∷ 0x9E ∷ 0x00 ∷ 0x00 ∷ 0x09 ∷ 0x00 ∷ 0x00 ∷ []
-
-abbrev pub length12 : List ℕ
-length12 = 0x24 ∷ 0x40 ∷ 0xE3 ∷ 0x0B ∷ 0x00 ∷ 0x00 ∷ 0x0C ∷ 0x00 ∷ 0x00 ∷ 0x00 ∷ 0x00 ∷ 0x00 ∷ []
 
 -- (g): a header with L = 20, and then (b)
 abbrev pub sampleG : List ℕ
@@ -83,7 +77,7 @@ cases =
     -- (e) "lengths 4 and 9 make no frame"; on their other side, 8 makes one, see (b), and so does 12
     ∷ run (feed length4 ⇒ moreIs 8 ∷ finish ⇒ endIs 8 0 8 ∷ [])
     ∷ run (feed length9 ⇒ moreIs 9 ∷ finish ⇒ endIs 9 0 9 ∷ [])
-    ∷ run (feed length12 ⇒ blockIs 12 (report 0 0 0 12) ∷ finish ⇒ endIs 12 1 0 ∷ [])
+    ∷ run (feed twelve ⇒ blockIs 12 (report 0 0 0 12) ∷ finish ⇒ endIs 12 1 0 ∷ [])
     -- (f) "one byte 24 before (b) gives the block at place 1"
     ∷ run (feed (0x24 ∷ sampleB) ⇒ blockIs 9 (report 1 0 0 8) ∷ look bytes ⇒ part none sampleB ∷ finish ⇒ endIs 9 1 1 ∷ [])
     -- (g) "24 40 00 00 00 00 14 00 and then (b), 16 bytes: nothing until Finish, then a block at 8 and 8 skipped"

@@ -9,15 +9,7 @@ use lib.ListN.{getD}
 use lib.Dec.{eqb}
 use borrow.Author.Tests.{eqb-false}
 use Rattle.scan.specs.Scan.{NoDollar}
-use Rattle.frame.proofs.Tests.{eq?, lt?}
-
-pub neither-left : (a b : Bool) → (a || b) ≡ false → a ≡ false
-neither-left true b e = e
-neither-left false b e = refl
-
-pub neither-right : (a b : Bool) → (a || b) ≡ false → b ≡ false
-neither-right true b e = let z : _≡_ {A = ℕ} 0 1 = cc in let f : ⊥ = omega arith in absurd f
-neither-right false b e = e
+use Rattle.wire.proofs.Tests.{eq?, lt?, neither-left, neither-right}
 
 module _ (s : List ℕ) (k : ℕ) where
   abbrev is : ℕ → Bool

@@ -21,7 +21,7 @@ use Rattle.scan.specs.declared.Passed.{Passed}
 use Rattle.scan.specs.declared.Scanned.{Scanned}
 use Rattle.scan.specs.declared.Stretch.{Stretch}
 use Rattle.scan.specs.declared.Stretch.the-variants.{Block, Waits, Through}
-use Rattle.frame.proofs.Tests.{eq?}
+use Rattle.wire.proofs.Tests.{eq?}
 use Rattle.frame.proofs.Cases.{sync0, sync1, byte0, byte}
 
 -- ---- at a place

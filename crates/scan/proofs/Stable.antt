@@ -16,7 +16,7 @@ use Rattle.frame.specs.Judge.{judged, lastBy, judgedLast}
 use Rattle.frame.specs.declared.Reason.the-variants.{NoSync, CrcWrong, FewLeft, PastEnd}
 use Rattle.frame.specs.declared.Verdict.{Verdict}
 use Rattle.frame.specs.declared.Verdict.the-variants.{NoFrame, Frame, Undecided}
-use Rattle.frame.proofs.Tests.{bool?, lt?}
+use Rattle.wire.proofs.Tests.{bool?, lt?}
 use Rattle.frame.proofs.Cases.{empty, sync0, sync1, bad-length, part, good, bad}
 use Rattle.frame.proofs.View.{Head, allows, View, waits-head, waits-body, at-sync0, at-sync1, at-length, at-bad, at-good, view}
 use Rattle.scan.proofs.Judging.{FitsFor, Fits, bytesNeeded, Judging}

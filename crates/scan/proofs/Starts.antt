@@ -6,7 +6,7 @@ use Prim.Native.Nat.{ℕ, _+_, _≤_, _<_}
 use native.Mathlib.Omega.{arith}
 use lib.ListN.{length, getD}
 use Rattle.scan.specs.Scan.{NoDollar, NoStart}
-use Rattle.frame.proofs.Tests.{lt?, eq?}
+use Rattle.wire.proofs.Tests.{lt?, eq?}
 
 module _ (s : List ℕ) where
   -- what is asked of a place that is passed

@@ -3,14 +3,6 @@
 use mathlib.Core.Bool.{Bool, true, false, _&&_, and-assoc, and-comm, and-false}
 use mathlib.Core.Path.{_≡_, refl, sym}
 
-pub both : (a b : Bool) → (a && b) ≡ true → (a ≡ true) × (b ≡ true)
-both true b e = (refl, e)
-both false true e = (e, refl)
-both false false e = (e, e)
-
-pub join : {a b : Bool} → a ≡ true → b ≡ true → (a && b) ≡ true
-join e f = rw (e, f)
-
 -- a test that another implies adds nothing to it
 pub implied : (a b : Bool) → (b ≡ true → a ≡ true) → (a && b) ≡ b
 implied true b h = refl

@@ -16,8 +16,9 @@ use Rattle.table.specs.Rows.{BlockRow, ends}
 use Rattle.table.specs.Decode.{blockOf}
 use Rattle.table.specs.Rules.{zeroOk, indexOk, usedFields, usedOk, numberOk, risingOk, highestOk, offsetOk, apart, steady, firstOk, typeOk, markOk, fieldsOk, blockOk}
 use Rattle.table.specs.Code.{fieldStep, fieldPass, blockPass, rowStep, rowPass}
-use Rattle.table.proofs.Bools.{both, join, implied, zip5, zip7, sorted7}
+use Rattle.table.proofs.Bools.{implied, zip5, zip7, sorted7}
 use Rattle.table.proofs.Lists.{starts, chain-starts, neighbours-starts, starts-ext, every-map, neighbours-map}
+use Rattle.wire.proofs.Tests.{both, both-true}
 
 -- Field rows.
 
@@ -44,7 +45,7 @@ above low f (g ∷ gs) h e =
     let a = both (apart f g) _ e in
     let n : ends f ≤ g .offset = leb-true _ _ (a .0) in
     let m : low ≤ g .offset = omega arith in
-    join (le-leb low (g .offset) m) (above low g gs (omega arith) (a .1))
+    both-true (le-leb low (g .offset) m) (above low g gs (omega arith) (a .1))
 
 -- so it is enough that the first one does
 all-from : (low : ℕ) (fs : List FieldRow) → (every (from low) fs && neighbours apart fs) ≡ starts (from low) apart fs

@@ -21,11 +21,11 @@ use Rattle.table.specs.Code.{rowPass}
 use Rattle.table.specs.Answer.{checkVersion, checkRefused, checkOf}
 use Rattle.table.specs.Lookup.{hasNumber, findRow, Finding}
 use Rattle.table.specs.Theorems.{OneRow}
-use Rattle.table.proofs.Bools.{both}
 use Rattle.table.proofs.Lists.{first-map}
 use Rattle.table.proofs.Fused.{rows-are}
 use Rattle.table.proofs.Loops.{numbered}
 use Rattle.table.proofs.Passed.{passed, stands}
+use Rattle.wire.proofs.Tests.{both}
 
 -- the file's rules
 module _ (t : List ℕ) where

@@ -9,7 +9,7 @@ use native.Mathlib.Nat.{add-zero, not-suc-le-zero}
 use native.Mathlib.Omega.{arith}
 use lib.ListN.{length}
 use Rattle.table.specs.Lists.{tabulate, every, chain, neighbours, firstThat, pick}
-use Rattle.table.proofs.Bools.{both}
+use Rattle.wire.proofs.Tests.{both}
 
 module _ {A : Type 0} (f : ℕ → A) where
   pub tab-none : (i k : ℕ) → k ≡ 0 → tabulate f i k ≡ []

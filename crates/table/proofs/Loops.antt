@@ -15,8 +15,8 @@ use Rattle.rows.specs.Places.{fieldAt, rowAt}
 use Rattle.table.specs.Decode.{blockOf}
 use Rattle.table.specs.Rules.{zeroOk, isCount, isPair}
 use Rattle.table.specs.Code.{fieldStep, fieldPass, blockPass, rowStep, rowPass}
-use Rattle.table.proofs.Bools.{both}
 use Rattle.table.proofs.Lists.{tab-none, tab-more, length-tab}
+use Rattle.wire.proofs.Tests.{both}
 
 -- field rows
 module _ (t : List ℕ) (at k low rev top : ℕ) (whole : Bool) (inv : whole ≡ fieldPass low rev top (tabulate (fieldAt t) at k)) where

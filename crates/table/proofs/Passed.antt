@@ -18,8 +18,8 @@ use Rattle.table.specs.Decode.{toBlocks, toFields, crcField, covered, ro
 use Rattle.table.specs.Rules.{sizeOk, partsOk, countOk, toBlocksOk, toFieldsOk, crcOk, closingOk, fileOk, zeroOk, indexOk, usedFields, usedOk, formOk}
 use Rattle.table.specs.Rules.{numberOk, risingOk, highestOk, blockOk, meaningOk, tableOk}
 use Rattle.table.specs.Lookup.{Stands}
-use Rattle.table.proofs.Bools.{both, join}
 use Rattle.table.proofs.Lists.{every-at, every-map}
+use Rattle.wire.proofs.Tests.{both, both-true}
 
 pub record File (t : List ℕ) : Type 0 where
   pub least : 20 ≤ length t
@@ -59,10 +59,10 @@ file t e =
 pub file-ok : (t : List ℕ) → File t → fileOk t ≡ true
 unfolding fileOk
 file-ok t f =
-    let size : sizeOk t ≡ true = join (le-leb _ _ (f .least)) (le-leb _ _ (f .most)) in
-    let closing : closingOk t ≡ true = join (eq-eqb _ _ (f .low)) (eq-eqb _ _ (f .high)) in
-    let counted = join (join size (eq-eqb _ _ (f .parts))) (le-leb _ _ (f .count)) in
-    join (join (join (join counted (eq-eqb _ _ (f .blocks))) (eq-eqb _ _ (f .fields))) (eq-eqb _ _ (f .crc))) closing
+    let size : sizeOk t ≡ true = both-true (le-leb _ _ (f .least)) (le-leb _ _ (f .most)) in
+    let closing : closingOk t ≡ true = both-true (eq-eqb _ _ (f .low)) (eq-eqb _ _ (f .high)) in
+    let counted = both-true (both-true size (eq-eqb _ _ (f .parts))) (le-leb _ _ (f .count)) in
+    both-true (both-true (both-true (both-true counted (eq-eqb _ _ (f .blocks))) (eq-eqb _ _ (f .fields))) (eq-eqb _ _ (f .crc))) closing
 
 pub record Meaning (tab : Table) : Type 0 where
   pub numbers : every numberOk (tab .rows) ≡ true

@@ -5,5 +5,9 @@ use mathlib.Core.List.{List}
 use lib.ListN.{getD}
 use Rattle.wire.specs.Little.{littleAt}
 
+-- these are bytes
+abbrev pub Bytes : List ℕ → Type 0
+Bytes s = (j : ℕ) → getD s j 0 < 256
+
 abbrev pub InRange : Type 0
-InRange = (k : ℕ) (s : List ℕ) (i : ℕ) → ((j : ℕ) → getD s j 0 < 256) → littleAt k s i < 256 ^ k
+InRange = (k : ℕ) (s : List ℕ) (i : ℕ) → Bytes s → littleAt k s i < 256 ^ k

@@ -10,6 +10,7 @@ use lib.Dec.{ltb, eqb·suc-zero}
 use borrow.Author.Tests.{ltb-false, le-ltb}
 use Rattle.words.specs.Words.{keyFrom, keyOf}
 use Rattle.words.specs.Theorems.{Keyed, KeysApart}
+use Rattle.words.proofs.Reading.{key-short}
 
 -- a byte is below 256
 abbrev Bytes : List ℕ → Type 0
@@ -93,10 +94,6 @@ few : (w : List ℕ) → 0 < keyOf w → length w ≤ 8
 unfolding keyOf
 few w p = ltb-false 8 (length w) (passed (ltb 8 (length w)) (keyFrom 0 w) p .0)
 
-shown : (w : List ℕ) → length w ≤ 8 → keyOf w ≡ keyFrom 0 w
-unfolding keyOf
-shown w h = rw (le-ltb 8 (length w) h)
-
 nonzero : (w : List ℕ) (k : ℕ) → 0 < keyFrom k w → (j : ℕ) → j < length w → 0 < getD w j 0
 nonzero [] k p j l = omega arith
 nonzero (zero ∷ w) k p j l = omega (arith, at-zero k w)
@@ -119,8 +116,8 @@ begins (c ∷ w) p = omega arith
 
 apart : (v w : List ℕ) → Bytes v → Bytes w → 0 < keyOf v → keyOf v ≡ keyOf w → v ≡ w
 apart v w a b p e =
-    let x = shown v (few v p) in
-    let y = shown w (few w (omega arith)) in
+    let x = key-short v (few v p) in
+    let y = key-short w (few w (omega arith)) in
     let q : 0 < keyFrom 0 v = omega arith in
     let r : 0 < keyFrom 0 w = omega arith in
     let s : length v < length w → ⊥ = λ l. omega (arith, longer v w a l r) in
@@ -131,9 +128,9 @@ pub told-apart : KeysApart
 told-apart =
     record {
       apart = apart;
-      has = λ w h. let y = shown w (h .few) in let i = positive w 0 (omega (arith, h .any)) (h .nonzero) in omega arith;
+      has = λ w h. let y = key-short w (h .few) in let i = positive w 0 (omega (arith, h .any)) (h .nonzero) in omega arith;
       only = λ w p.
-          let y = shown w (few w p) in
+          let y = key-short w (few w p) in
           let q : 0 < keyFrom 0 w = omega arith in
           record { any = begins w q; few = few w p; nonzero = nonzero w 0 q };
     }

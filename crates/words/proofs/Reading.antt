@@ -31,17 +31,13 @@ low : (l c : ℕ) (t : Bool) → ltb c l ≡ t → leb l c ≡ not t
 low l c true e = lt-leb l c (ltb-true c l e)
 low l c false e = le-leb l c (ltb-false c l e)
 
-high : (c h : ℕ) (t : Bool) → ltb h c ≡ t → leb c h ≡ not t
-high c h true e = lt-leb c h (ltb-true h c e)
-high c h false e = le-leb c h (ltb-false h c e)
-
 out : (a b : Bool) → (a || b) ≡ true → (not a && not b) ≡ false
 out true b e = refl
 out false true e = refl
 out false false e = never e refl
 
 outside : (l c h : ℕ) → (ltb c l || ltb h c) ≡ true → (leb l c && leb c h) ≡ false
-outside l c h e = ap₂ _&&_ (low l c (ltb c l) refl) (high c h (ltb h c) refl) ∙ out (ltb c l) (ltb h c) e
+outside l c h e = ap₂ _&&_ (low l c (ltb c l) refl) (low c h (ltb h c) refl) ∙ out (ltb c l) (ltb h c) e
 
 at-cons : (s : List ℕ) (i : ℕ) → i < length s → drop i s ≡ getD s i 0 ∷ drop (i + 1) s
 at-cons s i h = rw (add-one, drop-cons s i 0)

@@ -6,10 +6,11 @@ use Prim.Native.Nat.{ℕ, _-_, _+_, _≤_, min}
 use native.Mathlib.Omega.{arith}
 use lib.ListN.{length, drop}
 use lib.Seq.{length-take-le}
+use Rattle.wire.specs.Range.{Bytes}
 use Rattle.scan.specs.Feed.{Intake, feedLit}
 use Rattle.scan.specs.Passed.{scannedOf}
 use Rattle.feed.specs.Hold.{restOf}
-use Rattle.feed.proofs.Bounds.{Bytes, take-bytes, drop-bytes, fed-held}
+use Rattle.feed.proofs.Bounds.{take-bytes, drop-bytes, fed-held}
 use Rattle.feed.proofs.Literally.{roomed, rest-length, sum, few, whole, numbers-are, kept}
 use borrow.Author.Needs.{needs}
 use Rattle.feed.proofs.feed.Statement.{statement}

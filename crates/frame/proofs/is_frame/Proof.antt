@@ -9,7 +9,7 @@ use lib.Dec.{eqb}
 use Rattle.frame.specs.Frame.{lengthAt, frameAt, wholeFrame}
 use Rattle.frame.specs.Judge.{judged}
 use Rattle.frame.proofs.Standing.{front-judged, judged-front}
-use Rattle.frame.proofs.Tests.{bool?}
+use Rattle.wire.proofs.Tests.{bool?}
 use Rattle.frame.proofs.Apart.{no-frame}
 use borrow.Author.Needs.{needs}
 use Rattle.frame.proofs.is_frame.Statement.{statement}

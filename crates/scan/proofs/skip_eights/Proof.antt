@@ -5,9 +5,10 @@ use Prim.Native.Nat.{_-_, _+_}
 use native.Mathlib.Omega.{arith}
 use lib.ListN.{length}
 use Rattle.scan.specs.Scan.{NoDollar}
-use Rattle.scan.proofs.Eights.{neither-left, neither-right, no-dollar-on}
+use Rattle.scan.proofs.Eights.{no-dollar-on}
 use Rattle.scan.proofs.skip_eights.Statement.{statement}
 use Rattle.scan.proofs.skip_eights.Tie as tie
+use Rattle.wire.proofs.Tests.{neither-left, neither-right}
 
 abbrev Inv-loop : tie.InvT-loop
 Inv-loop s i k₀ k = NoDollar s i k
