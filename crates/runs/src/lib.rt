@@ -60,7 +60,7 @@ fn feed_on(s: State, hold: &mut [u8], piece: &[u8]) -> FeedAnswer
             state,
         };
     }
-    let block = after::block_at(hold, next.counts.taken - next.held, len);
+    let block = after::report_at(hold, next.counts.taken - next.held, len);
     FeedAnswer {
         answer: Fed::Block(taken, block),
         state,
@@ -98,7 +98,7 @@ fn finish_on(s: State, hold: &mut [u8]) -> FinishAnswer
             state,
         };
     }
-    let block = after::block_at(hold, next.counts.taken - next.held, len);
+    let block = after::report_at(hold, next.counts.taken - next.held, len);
     FinishAnswer {
         answer: Finished::Block(block),
         state,

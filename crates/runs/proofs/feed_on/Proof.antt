@@ -112,8 +112,8 @@ returns c =
     (sym (ap (λ (o : Option ℕ). reportIf o (front (runOn phase.Feeding (entry d .args .s .run) (meaning d))) (meaning d .held)) e)))
     (state-is w) (left d)
 
-sub-block-at : tie.Need-sub-block-at
-sub-block-at c =
+sub-report-at : tie.Need-sub-report-at
+sub-report-at c =
     let w = c .before .before .before in
     let d = w .before .before .before .before in
     let f = room (entry d) in
@@ -123,8 +123,8 @@ sub-block-at c =
     let b = ap (λ (r : Run). r .held) n in
     omega (arith, k .held, f .0 .within, f .0 .front, a, b)
 
-block-at-requires : tie.Need-block-at-requires
-block-at-requires c κs =
+report-at-requires : tie.Need-report-at-requires
+report-at-requires c κs =
     let d = c .before .before .before .before .before .before .before in
     omega (arith, room (entry d) .1, long-left d)
 
@@ -142,7 +142,7 @@ returns-2 c =
     same-outcome
     (ap₂ (λ (t : ℕ) (o : Option Report). took t o) (ap (λ (x : HoldNumbers). x .taken) (numbers d))
     (ap some
-    (c .block-at .ensures ∙ ap (λ (h : List ℕ). reportAt h (front (w .before .went-on .result)) n) (left d)
+    (c .report-at .ensures ∙ ap (λ (h : List ℕ). reportAt h (front (w .before .went-on .result)) n) (left d)
     ∙ report-is (meaning d .held) (drop (length (meaning d .held)) (entry d .args .hold .now)) (front (w .before .went-on .result)) n (whole-some (meaning d .standing) (meaning d .held) n (whole d) es)
     ∙ ap (λ (r : Run). reported (front r) n (meaning d .held)) (run-is (w .before)))
     ∙ sym (ap (λ (o : Option ℕ). reportIf o (front (runOn phase.Feeding (entry d .args .s .run) (meaning d))) (meaning d .held)) es)))
@@ -158,7 +158,7 @@ feed-on-spec =
     with-run-requires
     same-length
     returns
-    sub-block-at
-    block-at-requires
+    sub-report-at
+    report-at-requires
     same-length-2
     returns-2)
