@@ -74,4 +74,4 @@ by-the-table w before mid h l =
     subst⁻¹ (λ (x : List ℕ). ReadsBy (decode x) l (step (look l) u .answer)) (r .is) (look-by t l u (good-end mid (atOpen w before) (h .fed) (s .good)) r)
 
 pub demand-2 : Demand2
-demand-2 = record { first = first-ones; more = more-decided; records = by-the-table }
+demand-2 = record { firstOnes = first-ones; more = more-decided; records = by-the-table }

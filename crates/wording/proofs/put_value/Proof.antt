@@ -108,7 +108,7 @@ returns c =
 returns-2 : tie.Need-returns-2
 returns-2 c =
     let b = c .before .before .before .before .before in
-    let e = ap (λ (z : ℤ). take (b .args .at) (b .args .out .now) ++ (wordSigned ++ integerText z)) (toZ-ofZ w64 (c .before .before .before .v2 .given .0 .0) (record { sfits = c .before .before .known-word-number2 .given .0 .1 })) in
+    let e = ap (λ (z : ℤ). take (b .args .at) (b .args .out .now) ++ (wordSigned ++ integerText z)) (toZ-ofZ w64 (c .before .before .before .v2 .given .0 .0) (record { sfits = c .before .before .known-told2 .given .0 .1 })) in
     (omega (arith, c .signed .ensures .0, b .pre), rw (c .before .before .before .v2 .given .1) (c .signed .ensures .1 ∙ e))
 
 returns-3 : tie.Need-returns-3
