@@ -26,7 +26,7 @@ use Rattle.block.specs.declared.Matched.{Matched}
 use Rattle.block.specs.declared.Matched.the-variants.{At, Refused}
 use Rattle.block.specs.declared.SubMatched.the-variants as sub
 use Rattle.block.specs.Block.{numberIn, revisionIn, countIn, subLengthIn, endsBy, bodyFits, subSpan, subsFit, row, seenRow, seen, seenSubRow, seenSub, matchedSays, Fine, FineIfAny, Matching, SubFine, SubMatching}
-use Rattle.block.specs.Code.{Judging, ByAnyRow}
+use Rattle.block.specs.Code.{Fitting, ByAnyRow}
 use Rattle.wire.proofs.Tests.{both}
 
 -- the product of two bytes
@@ -81,18 +81,18 @@ module _ (t b : List ℕ) (r : Row) where
   long e = leb-true _ _ (both (leb 14 (length b)) _ e .0)
 
   -- refusals 7 and 8
-  pub judge-7 : bodyFits b (blockOf t r) ≡ false → Judging t b r (Refused TooShort)
+  pub fit-7 : bodyFits b (blockOf t r) ≡ false → Fitting t b r (Refused TooShort)
   unfolding seenRow
-  judge-7 e = record { is = rw e; fine = tt }
+  fit-7 e = record { is = rw e; fine = tt }
 
   module _ (fit : bodyFits b (blockOf t r) ≡ true) where
-    pub judge-8 : subsFit b (blockOf t r) ≡ false → Judging t b r (Refused BadSubBlocks)
+    pub fit-8 : subsFit b (blockOf t r) ≡ false → Fitting t b r (Refused BadSubBlocks)
     unfolding seenRow
-    judge-8 e = record { is = rw (fit, e); fine = tt }
+    fit-8 e = record { is = rw (fit, e); fine = tt }
 
-    pub judge-at : subsFit b (blockOf t r) ≡ true → wholeFrame b ≡ true → r .start + r .bodies + r .subs ≤ fieldCount t → Judging t b r (At r)
+    pub fit-at : subsFit b (blockOf t r) ≡ true → wholeFrame b ≡ true → r .start + r .bodies + r .subs ≤ fieldCount t → Fitting t b r (At r)
     unfolding seenRow
-    judge-at e w i = record { is = rw (fit, e); fine = record { inside = i; long = sixteen b w (long fit); body = fit; subs = e } }
+    fit-at e w i = record { is = rw (fit, e); fine = record { inside = i; long = sixteen b w (long fit); body = fit; subs = e } }
 
 -- refusals 10 and 6
 module _ (t b : List ℕ) where
@@ -109,7 +109,7 @@ module _ (t b : List ℕ) where
     unfolding seenRow
     look-6 h = record { is = sym (seen-by ∙ ap (λ (x : RowFound). seenRow b (lookup.rowSays t x)) h); fine = tt }
 
-    pub look-at : {r : Row} {l : Matched} → f ≡ found.At r → Judging t b r l → Matching t b l
+    pub look-at : {r : Row} {l : Matched} → f ≡ found.At r → Fitting t b r l → Matching t b l
     look-at h j = record { is = j .is ∙ sym (seen-by ∙ ap (λ (x : RowFound). seenRow b (lookup.rowSays t x)) h); fine = j .fine }
 
 pub stands-at : (t : List ℕ) {n : ℕ} {f : RowFound} {r : Row} → Finding t n f → f ≡ found.At r → r .start + r .bodies + r .subs ≤ fieldCount t

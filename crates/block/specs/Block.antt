@@ -60,8 +60,8 @@ subSpan r b k = record { at = 16 + k * subLengthIn b; size = subLengthIn b }
 -- or 16 + N x SBLength is over L": N sub-blocks end where one more would start
 unfoldable pub subsFit : List ℕ → BlockRow → Bool
 subsFit b r =
-    not (hasSubs r)
-    || (eqb (countIn b) 0 || every (endsBy (revisionIn b) (subLengthIn b)) (r .subs)) && leb (subSpan r b (countIn b) .at) (lengthIn b)
+    let end = subSpan r b (countIn b) in
+    not (hasSubs r) || (eqb (countIn b) 0 || every (endsBy (revisionIn b) (end .size)) (r .subs)) && leb (end .at) (lengthIn b)
 
 -- the row that a block is read by, or the number of a refusal
 pub data Seen : Type 0 where

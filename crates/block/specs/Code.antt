@@ -12,7 +12,7 @@ use Rattle.block.specs.declared.Matched.{Matched}
 use Rattle.block.specs.Block.{subSpan, seenRow, matchedSays, FineIfAny}
 
 -- of a row whose block is a whole frame: what refusals 7 and 8 make of it
-pub record Judging (t b : List ℕ) (r : Row) (l : Matched) : Type 0 where
+pub record Fitting (t b : List ℕ) (r : Row) (l : Matched) : Type 0 where
   pub is : matchedSays t l ≡ seenRow b (some (blockOf t r))
   pub fine : FineIfAny t b l
 

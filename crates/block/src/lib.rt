@@ -8,7 +8,7 @@ ghost use Rattle.rows.specs.Places.{fieldCount, fieldAt};
 ghost use Rattle.table.specs.Decode.{blockOf};
 ghost use Rattle.table.specs.Rules.{tableOk};
 ghost use Rattle.block.specs.Block.{numberIn, revisionIn, endsBy, bodyFits, subsFit, Matching, SubMatching};
-ghost use Rattle.block.specs.Code.{Judging, ByAnyRow};
+ghost use Rattle.block.specs.Code.{Fitting, ByAnyRow};
 ghost use Rattle.frame.specs.Frame.{wholeFrame};
 use refusal::Refusal;
 use rows::FieldRow;
@@ -115,7 +115,7 @@ fn subs_fit(t: &[u8], row: Row, block: &[u8]) -> bool
 // Refusals 7 and 8, in this order.
 fn fitted(t: &[u8], row: Row, block: &[u8]) -> Matched
     requires { ⌜ (wholeFrame (now block) ≡ true) × (row .start + row .bodies + row .subs ≤ fieldCount (now t)) ⌝ }
-    ensures { λ l. ⌜ Judging (now (t .entry)) (now (block .entry)) row l ⌝ }
+    ensures { λ l. ⌜ Fitting (now (t .entry)) (now (block .entry)) row l ⌝ }
 {
     if !body_fits(t, row, block) {
         return Matched::Refused(Refusal::TooShort);

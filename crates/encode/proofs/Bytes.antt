@@ -101,7 +101,7 @@ module _ (t : List ℕ) (bytes : Bytes t) where
     all : Passed t
     all = passed t ok
 
-    length-rows : length (decode t .rows) ≡ blockCount t
+    pub length-rows : length (decode t .rows) ≡ blockCount t
     unfolding decode rowsOf
     length-rows = length-map (tabulate (rowAt t) 0 (blockCount t)) (blockOf t) ∙ length-tab (rowAt t) 0 (blockCount t)
 

@@ -8,3 +8,4 @@ pub mod File
 pub mod Room
 pub mod Small
 pub mod Encoded
+pub mod Passing

@@ -17,7 +17,7 @@ use Rattle.kinds.specs.Marks.{markFits}
 use Rattle.table.specs.Rows.{BlockRow, Table}
 use Rattle.table.specs.Rules.{numberOk, highestOk, offsetOk, apart, steady, firstOk, typeOk, markOk, fieldsOk, blockOk}
 use Rattle.encode.specs.Encode.{u2Bytes, fieldBytes, fieldsPart, rowsPart, unsealed, encode}
-use Rattle.encode.specs.Fits.{fieldRows, countFits, offsetFits, blockFits}
+use Rattle.encode.specs.Fits.{fieldRows, u1Numbers, countFits, offsetFits, blockFits}
 use Rattle.kinds.proofs.Marks.{fits-none}
 use Rattle.table.proofs.Passed.{Meaning}
 use Rattle.encode.proofs.Room.{Room}
@@ -26,6 +26,10 @@ use Rattle.wire.proofs.Tests.{both, both-true}
 
 abbrev isByte : ℕ → Bool
 isByte x = ltb x 256
+
+-- what fits in a u1 is a byte
+small : (n : ℕ) → ltb n u1Numbers ≡ true → isByte n ≡ true
+small n e = let l : n < u1Numbers = ltb-true n u1Numbers e in lt-ltb n 256 (omega arith)
 
 bytes-at : (xs : List ℕ) → every isByte xs ≡ true → (j : ℕ) → getD xs j 0 < 256
 unfolding every
@@ -62,7 +66,7 @@ each-small top h (f ∷ fs) o r k m =
     let first : f .first ≤ top = leb-true _ _ (b .0) in
     let kind : f .kind ≤ 10 = leb-true _ _ (both (leb 1 (f .kind)) _ (c .0) .1) in
     let mark = mark-small (f .kind) (f .mark) (d .0) in
-    both-true (a .0) (both-true (lt-ltb (f .kind) 256 (omega arith)) (both-true (lt-ltb (f .first) 256 (omega arith)) (both-true (lt-ltb (f .mark) 256 mark)
+    both-true (small (f .offset) (a .0)) (both-true (lt-ltb (f .kind) 256 (omega arith)) (both-true (lt-ltb (f .first) 256 (omega arith)) (both-true (lt-ltb (f .mark) 256 mark)
     (each-small top h fs (a .1) (b .1) (c .1) (d .1)))))
 
 fields-small : (top : ℕ) → top ≤ 7 → (fs : List FieldRow) → every offsetFits fs ≡ true → fieldsOk top fs ≡ true → every isByte (fieldBytes fs) ≡ true
@@ -112,8 +116,8 @@ rows-part-small before (b ∷ bs) l n h f =
     let j = both bodies _ (i .0) in
     let next = before + (length (b .body) + length (b .subs)) in
     let rest = rows-part-small next bs (omega arith) (a .1) (c .1) (d .1) in
-    append (u2Bytes (b .number)) _ (two-small (b .number) (omega arith)) (both-true (lt-ltb (b .highest) 256 (omega arith)) (both-true (j .0)
-    (append (u2Bytes before) _ (two-small before (omega arith)) (both-true (j .1) rest))))
+    append (u2Bytes (b .number)) _ (two-small (b .number) (omega arith)) (both-true (lt-ltb (b .highest) 256 (omega arith)) (both-true (small (length (b .body)) (j .0))
+    (append (u2Bytes before) _ (two-small before (omega arith)) (both-true (small (length (b .subs)) (j .1)) rest))))
 
 -- The CRC.
 

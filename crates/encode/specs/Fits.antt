@@ -18,13 +18,17 @@ fieldRows (b ∷ bs) = length (b .body) + length (b .subs) + fieldRows bs
 unfoldable pub fileSize : Table → ℕ
 fileSize tab = 4 * fieldRows (tab .rows) + 8 * length (tab .rows) + 12
 
+-- how many numbers a u1 has room for
+abbrev pub u1Numbers : ℕ
+u1Numbers = 256
+
 -- "body field count u1; .. sub-field count u1"
 abbrev pub countFits : List FieldRow → Bool
-countFits fs = ltb (length fs) 256
+countFits fs = ltb (length fs) u1Numbers
 
 -- "offset u1"
 abbrev pub offsetFits : FieldRow → Bool
-offsetFits f = ltb (f .offset) 256
+offsetFits f = ltb (f .offset) u1Numbers
 
 unfoldable pub blockFits : BlockRow → Bool
 blockFits b = countFits (b .body) && countFits (b .subs) && every offsetFits (b .body) && every offsetFits (b .subs)

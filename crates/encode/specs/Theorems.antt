@@ -24,3 +24,8 @@ pub record Encoded (tab : Table) : Type 0 where
 -- a table whose meaning is right and that fits encodes
 abbrev pub Encodes : Type 0
 Encodes = (tab : Table) → meaningOk tab ≡ true → fits tab ≡ true → Encoded tab
+
+-- and nothing that passes is left out: its meaning fits. It is right by `tableOk`, so tables that pass and tables whose meaning is right and
+-- that fit correspond one to one
+abbrev pub PassingFits : Type 0
+PassingFits = (t : List ℕ) → Bytes t → tableOk t ≡ true → fits (decode t) ≡ true

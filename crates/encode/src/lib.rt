@@ -1,5 +1,5 @@
 // From a table's meaning to its bytes: theorems about tables there and back, and the rules at their limits. No code.
-ghost use Rattle.encode.specs.Theorems.{Decodes, Encodes};
+ghost use Rattle.encode.specs.Theorems.{Decodes, Encodes, PassingFits};
 ghost use Rattle.encode.specs.Limits.{LimitsHold};
 
 // A table that passes decodes, and its meaning gives its bytes back.
@@ -10,6 +10,11 @@ pub fn decodes()
 // A table whose meaning is right and that fits encodes to a file that passes and decodes to it.
 pub fn encodes()
     ensures { λ _. ⌜ Encodes ⌝ }
+{}
+
+// The meaning of a table that passes fits.
+pub fn passing_fits()
+    ensures { λ _. ⌜ PassingFits ⌝ }
 {}
 
 // The rules hold on both sides of their limits.
