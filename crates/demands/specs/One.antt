@@ -5,11 +5,14 @@
 use Prim.Native.Nat.{ℕ}
 use mathlib.Core.Path.{_≡_}
 use mathlib.Core.List.{List}
+use mathlib.Core.Option.{Option}
 use Rattle.wire.specs.Parts.{past}
 use Rattle.record.specs.Answer.{Answers, handedSays}
 use Rattle.record.specs.Answer.{FieldSaid}
 use Rattle.record.specs.declared.Answer.{Answer}
 use Rattle.record.specs.declared.Handed.{Handed}
+use Rattle.record.specs.declared.Placed.{Placed}
+use Rattle.block.specs.declared.Span.{Span}
 use Rattle.reader.specs.Said.{Said, refusalOf}
 use Rattle.tables.specs.Said.{saidOpened, saidStaged, saidWithdrawn}
 use Rattle.runs.specs.Said.{saidFed, saidFinished}
@@ -29,6 +32,10 @@ One {A} said o = (a b : A) (s t : State) (l m : List ℕ) → outcome (said a) s
 abbrev pub OnePart : List ℕ → ℕ × ℕ → Type 0
 OnePart part at = (v w : List ℕ) (p q : ℕ × ℕ) → v ≡ part → p ≡ at → w ≡ part → q ≡ at → (v ≡ w) × (p ≡ q)
 
+-- two answers of a place that say this are one
+abbrev pub OnePlace : Option ℕ → Span → Type 0
+OnePlace n at = (x y : Placed) → handedSays (x .handed) ≡ n → x .span ≡ at → handedSays (y .handed) ≡ n → y .span ≡ at → x ≡ y
+
 -- two answers of a field that say this are one, its case too
 abbrev pub OneField : FieldSaid → Type 0
 OneField said = (a b : Answer) → Answers a said → Answers b said → a ≡ b
@@ -46,5 +53,6 @@ pub record OneOutcome : Type 0 where
   pub sub-bytes : (s : State) (force b : List ℕ) (p : ℕ × ℕ) (k : ℕ) → OnePart (subBytesOf s force b k) (past p (subPlaceOf s force b k .at))
   pub sub-bytes-refused : (s : State) (force b : List ℕ) (k : ℕ) (x y : Handed) → handedSays x ≡ subBytesRefusal s force b k
       → handedSays y ≡ subBytesRefusal s force b k → x ≡ y
+  pub sub-places : (s : State) (force b : List ℕ) (k : ℕ) → OnePlace (subBytesRefusal s force b k) (subPlaceOf s force b k)
   pub tows : (s : State) (b : List ℕ) → OneField (towOf s b)
   pub wncs : (s : State) (b : List ℕ) → OneField (wncOf s b)

@@ -64,8 +64,8 @@ pub fn body_field(table: &[u8], block: &[u8], i: usize) -> Answer
     }
 }
 
-// The part of a block that stands there.
-fn part(block: &[u8], s: Span) -> &[u8]
+// The part of a block that stands there. Every part of a block that is handed back is made here.
+pub fn part(block: &[u8], s: Span) -> &[u8]
     requires { ⌜ s .at + s .size ≤ length (now block) ⌝ }
     ensures { λ r. ⌜ (now r ≡ subSlice (now (block .entry)) s) × (length (now r) ≡ s .size) ⌝ }
     ensures { λ r. ⌜ r .ptr ≡ past (block .entry .ptr) (s .at) ⌝ }

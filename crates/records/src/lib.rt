@@ -65,7 +65,7 @@ pub fn sub_bytes<'a, 'b>(s: State, in_force: &'a [u8], block: &'b [u8], k: usize
     let c = of_ask(s, in_force);
     let n = s.in_force;
     match c {
-        Check::Refused(_) => &block[..0],
+        Check::Refused(_) => record::part(block, Span { at: 0, size: 0 }),
         Check::Passed => record::sub_block(&in_force[..n], block, k),
     }
 }

@@ -17,9 +17,9 @@ part-requires c κs = c .sub-place .ensures .1 .1
 
 returns : tie.Need-returns
 returns c =
-    let place = c .before .sub-place .ensures .1 .0 in
-    ( c .part .ensures .0 .0 ∙ ap (subSlice _) place ∙ part-at _ _ _
-    , c .part .ensures .1 ∙ ap (λ (s : Span). past (c .before .before .before .before .args .block .ptr) (s .at)) place
+    let place = c .before .sub-place .ensures .1 .0 in (
+      c .part .ensures .0 .0 ∙ ap (subSlice _) place ∙ part-at _ _ _,
+      c .part .ensures .1 ∙ ap (λ (s : Span). past (c .before .before .before .before .args .block .ptr) (s .at)) place,
     )
 
 pub sub-block-spec : {M : Type 1} → statement M
