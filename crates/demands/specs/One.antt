@@ -1,13 +1,18 @@
 -- "it is proved that one input admits one outcome": of every input, two outcomes that meet a call's contract are one. Each statement has the
--- very definition that the contract cites: the answer, the new state and the lent bytes; the part handed back; a field's answer.
+-- very definition that the contract cites: the answer, the new state and the lent bytes; the part handed back, its bytes and where it
+-- stands; a field's answer.
 -- Assumes nothing.
 use Prim.Native.Nat.{ℕ}
 use mathlib.Core.Path.{_≡_}
 use mathlib.Core.List.{List}
+use mathlib.Core.Option.{Option}
+use Rattle.wire.specs.Parts.{past}
 use Rattle.record.specs.Answer.{Answers, handedSays}
 use Rattle.record.specs.Answer.{FieldSaid}
 use Rattle.record.specs.declared.Answer.{Answer}
 use Rattle.record.specs.declared.Handed.{Handed}
+use Rattle.record.specs.declared.Placed.{Placed}
+use Rattle.block.specs.declared.Span.{Span}
 use Rattle.reader.specs.Said.{Said, refusalOf}
 use Rattle.tables.specs.Said.{saidOpened, saidStaged, saidWithdrawn}
 use Rattle.runs.specs.Said.{saidFed, saidFinished}
@@ -15,7 +20,7 @@ use Rattle.runs.specs.Refusals.{bytesRefusal}
 use Rattle.reader.specs.Outcome.{Outcome, outcome}
 use Rattle.tables.specs.Calls.{openOf, stageOf, withdrawOf}
 use Rattle.runs.specs.Calls.{feedOf, finishOf, bytesOf}
-use Rattle.records.specs.Calls.{bodyOf, subOf, subBytesOf, subBytesRefusal, towOf, wncOf}
+use Rattle.records.specs.Calls.{bodyOf, subOf, subBytesOf, subPlaceOf, subBytesRefusal, towOf, wncOf}
 use Rattle.reader.specs.declared.Check.{Check}
 use Rattle.reader.specs.declared.State.{State}
 
@@ -23,9 +28,13 @@ use Rattle.reader.specs.declared.State.{State}
 abbrev pub One : {A : Type 0} → (A → Said) → Outcome → Type 0
 One {A} said o = (a b : A) (s t : State) (l m : List ℕ) → outcome (said a) s l ≡ o → outcome (said b) t m ≡ o → ((a ≡ b) × (s ≡ t)) × (l ≡ m)
 
--- two parts that are this one are one
-abbrev pub OnePart : List ℕ → Type 0
-OnePart part = (v w : List ℕ) → v ≡ part → w ≡ part → v ≡ w
+-- two parts of these bytes, at this pointer, are one
+abbrev pub OnePart : List ℕ → ℕ × ℕ → Type 0
+OnePart part at = (v w : List ℕ) (p q : ℕ × ℕ) → v ≡ part → p ≡ at → w ≡ part → q ≡ at → (v ≡ w) × (p ≡ q)
+
+-- two answers of a place that say this are one
+abbrev pub OnePlace : Option ℕ → Span → Type 0
+OnePlace n at = (x y : Placed) → handedSays (x .handed) ≡ n → x .span ≡ at → handedSays (y .handed) ≡ n → y .span ≡ at → x ≡ y
 
 -- two answers of a field that say this are one, its case too
 abbrev pub OneField : FieldSaid → Type 0
@@ -37,12 +46,13 @@ pub record OneOutcome : Type 0 where
   pub finishes : (s : State) (hold : List ℕ) → One saidFinished (finishOf s hold)
   pub stages : (s : State) (wait t : List ℕ) → One saidStaged (stageOf s wait t)
   pub withdraws : (s : State) → One saidWithdrawn (withdrawOf s)
-  pub bytes : (s : State) (hold : List ℕ) → OnePart (bytesOf s hold)
+  pub bytes : (s : State) (hold : List ℕ) (p : ℕ × ℕ) → OnePart (bytesOf s hold) p
   pub bytes-refused : (s : State) (hold : List ℕ) (a b : Check) → refusalOf a ≡ bytesRefusal s hold → refusalOf b ≡ bytesRefusal s hold → a ≡ b
   pub bodies : (s : State) (force b : List ℕ) (i : ℕ) → OneField (bodyOf s force b i)
   pub subs : (s : State) (force b : List ℕ) (k j : ℕ) → OneField (subOf s force b k j)
-  pub sub-bytes : (s : State) (force b : List ℕ) (k : ℕ) → OnePart (subBytesOf s force b k)
+  pub sub-bytes : (s : State) (force b : List ℕ) (p : ℕ × ℕ) (k : ℕ) → OnePart (subBytesOf s force b k) (past p (subPlaceOf s force b k .at))
   pub sub-bytes-refused : (s : State) (force b : List ℕ) (k : ℕ) (x y : Handed) → handedSays x ≡ subBytesRefusal s force b k
       → handedSays y ≡ subBytesRefusal s force b k → x ≡ y
+  pub sub-places : (s : State) (force b : List ℕ) (k : ℕ) → OnePlace (subBytesRefusal s force b k) (subPlaceOf s force b k)
   pub tows : (s : State) (b : List ℕ) → OneField (towOf s b)
   pub wncs : (s : State) (b : List ℕ) → OneField (wncOf s b)

@@ -2,6 +2,7 @@
 ghost use mathlib.Core.Path.{_≡_};
 ghost use Prim.Native.Nat.{_+_, _≤_};
 ghost use lib.ListN.{length};
+ghost use Rattle.wire.specs.Parts.{past};
 ghost use Rattle.record.specs.Answer.{Answers, handedSays};
 ghost use Rattle.reader.specs.Said.{refusalOf};
 ghost use Rattle.records.specs.Calls.{askRefusal, bodyOf, subOf, subBytesOf, subPlaceOf, subBytesRefusal, towOf, wncOf};
@@ -59,11 +60,12 @@ pub fn sub(s: State, in_force: &[u8], block: &[u8], k: usize, j: usize) -> Answe
 // The bytes of sub-block k, as a part of the block; an empty part where the call is refused.
 pub fn sub_bytes<'a, 'b>(s: State, in_force: &'a [u8], block: &'b [u8], k: usize) -> &'b [u8]
     ensures { λ r. ⌜ now r ≡ subBytesOf s (now («in_force» .entry)) (now (block .entry)) k ⌝ }
+    ensures { λ r. ⌜ r .ptr ≡ past (block .entry .ptr) (subPlaceOf s (now («in_force» .entry)) (now (block .entry)) k .at) ⌝ }
 {
     let c = of_ask(s, in_force);
     let n = s.in_force;
     match c {
-        Check::Refused(_) => &block[..0],
+        Check::Refused(_) => record::part(block, Span { at: 0, size: 0 }),
         Check::Passed => record::sub_block(&in_force[..n], block, k),
     }
 }

@@ -121,6 +121,7 @@ pub fn finish(s: State, hold: &mut [u8]) -> FinishAnswer
 // The block just reported, as a part of the hold; an empty part where none stands or the call is refused.
 pub fn bytes(s: State, hold: &[u8]) -> &[u8]
     ensures { λ r. ⌜ now r ≡ bytesOf s (now (hold .entry)) ⌝ }
+    ensures { λ r. ⌜ r .ptr ≡ hold .entry .ptr ⌝ }
 {
     let c = refusals::of_bytes(s, hold.len());
     let run = s.run;

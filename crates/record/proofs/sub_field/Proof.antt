@@ -31,13 +31,13 @@ part-requires : tie.Need-part-requires
 part-requires c κs = let k = c .before .before .before .before in let f = sub-fine _ _ _ (k .before .before .before .sub-row-of .ensures) (k .before .row .given .1) in f .within
 
 field-said-requires : tie.Need-field-said-requires
-field-said-requires c κs = let e = c .before .before .before in let k = e .before .before in sub-ends _ _ _ (k .before .before .before .sub-row-of .ensures) _ _ (k .before .row .given .1) _ (e .if1 .left) (c .before .before .field-at .ensures .0) (c .before .revision .ensures) (c .part .ensures .1)
+field-said-requires c κs = let e = c .before .before .before in let k = e .before .before in sub-ends _ _ _ (k .before .before .before .sub-row-of .ensures) _ _ (k .before .row .given .1) _ (e .if1 .left) (c .before .before .field-at .ensures .0) (c .before .revision .ensures) (c .part .ensures .0 .1)
 
 enum-known-x : tie.Need-enum-known-x
 enum-known-x c = search needs
 
 returns-2 : tie.Need-returns-2
-returns-2 c = let e = c .before .before .before .before in let k = e .before .before in sub-says _ _ _ (k .before .before .before .sub-row-of .ensures) _ _ (k .before .row .given .1) _ (e .if1 .left) (c .before .before .before .field-at .ensures .0) (c .before .before .revision .ensures) (c .before .part .ensures .0) (c .field-said .ensures)
+returns-2 c = let e = c .before .before .before .before in let k = e .before .before in sub-says _ _ _ (k .before .before .before .sub-row-of .ensures) _ _ (k .before .row .given .1) _ (e .if1 .left) (c .before .before .before .field-at .ensures .0) (c .before .before .revision .ensures) (c .before .part .ensures .0 .0) (c .field-said .ensures)
 
 returns-3 : tie.Need-returns-3
 returns-3 c = sub-refused _ _ _ (c .before .before .before .sub-row-of .ensures) _ (c .before .x .given .1)

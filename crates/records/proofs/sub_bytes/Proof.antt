@@ -1,14 +1,19 @@
 -- `records::sub_bytes` meets its contract: refused, or answered by the table in force.
 -- Assumes nothing.
-use mathlib.Core.Path.{_≡_, sym, ap, _∙_}
+use mathlib.Core.Path.{_≡_, refl, sym, ap, _∙_}
 use mathlib.Core.Option.{Option, none}
+use mathlib.Core.List.{List, []}
 use Prim.Native.Nat.{ℕ}
+use native.Mathlib.Omega.{arith}
 use lib.Seq.{length-take-le}
+use Rattle.wire.specs.Parts.{past}
 use Rattle.table.specs.Decode.{decode}
-use Rattle.record.specs.Calls.{subBlock}
+use Rattle.block.specs.declared.Span.{Span}
+use Rattle.record.specs.Calls.{subSlice, subBlock, subPlace}
+use Rattle.reader.specs.declared.State.{State}
 use Rattle.reader.specs.Said.{refusalOf}
 use Rattle.reader.specs.Outcome.{partUnless}
-use Rattle.records.specs.Calls.{tableInForce, askRefusal, subBytesOf}
+use Rattle.records.specs.Calls.{tableInForce, askRefusal, subBytesOf, placeUnless, subPlaceOf}
 use Rattle.records.proofs.Asking.{asked}
 use borrow.Author.Needs.{needs}
 use Rattle.records.proofs.sub_bytes.Statement.{statement}
@@ -20,8 +25,8 @@ of-ask-requires c κs = search needs
 enum-told : tie.Need-enum-told
 enum-told c = search needs
 
-slice-aggregate-result : tie.Need-slice-aggregate-result
-slice-aggregate-result c = search needs
+part-requires : tie.Need-part-requires
+part-requires c κs = omega arith
 
 enum-told-2 : tie.Need-enum-told-2
 enum-told-2 c = search needs
@@ -41,20 +46,36 @@ sub-block-requires c κs =
     let a = e .before .before .before .before .before .args in
     asked (a .s) (a .in-force .now) (free e) .ok
 
+-- what is handed back, and where it stands, by what was asked before
+module _ (s : State) (force block : List ℕ) (k : ℕ) where
+  bytes-by : {o : Option ℕ} → askRefusal s force ≡ o → partUnless o (subBlock (decode (tableInForce s force)) block k) ≡ subBytesOf s force block k
+  unfolding subBytesOf
+  bytes-by e = sym (ap (λ (x : Option ℕ). partUnless x (subBlock (decode (tableInForce s force)) block k)) e)
+
+  place-by : {o : Option ℕ} → askRefusal s force ≡ o → placeUnless o (subPlace (decode (tableInForce s force)) block k) ≡ subPlaceOf s force block k
+  unfolding subPlaceOf
+  place-by e = sym (ap (λ (x : Option ℕ). placeUnless x (subPlace (decode (tableInForce s force)) block k)) e)
+
+-- a part of size 0 is empty, wherever it stands
+none-of : (b : List ℕ) (n : ℕ) → subSlice b (record { at = n; size = 0 }) ≡ []
+unfolding subSlice
+none-of b n = refl
+
 returns : tie.Need-returns
-unfolding subBytesOf
 returns c =
     let e = c .before in
     let o = e .before .before in
     let a = o .before .before .before .args in
-    sym (ap (λ (x : Option ℕ). partUnless x (subBlock (decode (tableInForce (a .s) (a .in-force .now))) (a .block .now) (a .k))) (sym (o .of-ask .ensures) ∙ ap refusalOf (e .enum-told .given .1)))
+    let refused = sym (o .of-ask .ensures) ∙ ap refusalOf (e .enum-told .given .1) in
+    (c .part .ensures .0 .0 ∙ none-of (a .block .now) _ ∙ bytes-by (a .s) (a .in-force .now) (a .block .now) (a .k) refused, c .part .ensures .1 ∙ ap (λ (x : Span). past (a .block .ptr) (x .at)) (place-by (a .s) (a .in-force .now) (a .block .now) (a .k) refused))
 
 returns-2 : tie.Need-returns-2
-unfolding subBytesOf
 returns-2 c =
     let e = c .before .before in
-    let a = e .before .before .before .before .before .args in
-    c .sub-block .ensures ∙ sym (ap (λ (x : Option ℕ). partUnless x (subBlock (decode (tableInForce (a .s) (a .in-force .now))) (a .block .now) (a .k))) (free e))
+    let a = e .before .before .before .before .before .args in (
+      c .sub-block .ensures .0 ∙ bytes-by (a .s) (a .in-force .now) (a .block .now) (a .k) (free e),
+      c .sub-block .ensures .1 ∙ ap (λ (x : Span). past (a .block .ptr) (x .at)) (place-by (a .s) (a .in-force .now) (a .block .now) (a .k) (free e)),
+    )
 
 pub sub-bytes-spec : {M : Type 1} → statement M
 sub-bytes-spec =
@@ -62,7 +83,7 @@ sub-bytes-spec =
     (tie.spec
     of-ask-requires
     enum-told
-    slice-aggregate-result
+    part-requires
     enum-told-2
     slice-aggregate-sub-block
     sub-block-requires

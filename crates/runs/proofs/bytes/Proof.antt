@@ -44,14 +44,14 @@ returns c =
     let e = c .before in
     let w = e .before .before .before in
     let a = w .before .before .args in
-    sym (ap (λ (o : Option ℕ). partUnless o (take (a .s .run .standing) (a .hold .now))) (sym (w .of-bytes .ensures _ refl) ∙ ap refusalOf (e .enum-told .given .1)))
+    (sym (ap (λ (o : Option ℕ). partUnless o (take (a .s .run .standing) (a .hold .now))) (sym (w .of-bytes .ensures _ refl) ∙ ap refusalOf (e .enum-told .given .1))), refl)
 
 returns-2 : tie.Need-returns-2
 unfolding bytesOf
 returns-2 c =
     let e = c .before in
     let a = e .before .before .before .before .before .args in
-    sym (ap (λ (o : Option ℕ). partUnless o (take (a .s .run .standing) (a .hold .now))) (free e))
+    (sym (ap (λ (o : Option ℕ). partUnless o (take (a .s .run .standing) (a .hold .now))) (free e)), refl)
 
 pub bytes-spec : {M : Type 1} → statement M
 bytes-spec =

@@ -57,7 +57,7 @@ returns-2 c =
     let hold = a .hold .now in
     let t = w .state-of .result in
     let r = sym (b .bytes-refused .ensures) ∙ ap refusalOf (c .enum-told .given .1) in
-    let l = ap length (y .bytes .ensures) in
+    let l = ap length (y .bytes .ensures .0) in
     hands-it (λ (t : State). bytesRefusal t hold) (λ (t : State). 0) (λ (t : State). bytesOf t hold) hold (λ (t : State) (e : sound t ≡ false). bytes-one t e hold) (stateOf (a .s)) t (length (y .bytes .result .now)) (w .state-of .ensures) r refl l (rw l (bytes-cut t hold r))
 
 pub alderflute-bytes-spec : {M : Type 1} → statement M

@@ -1,0 +1,230 @@
+-- An exported call on the C form of a world does what the reader's call does on the world; so do calls one after the other.
+-- Assumes nothing.
+use Prim.Native.Nat.{ℕ, zero, suc, _<_}
+use native.Mathlib.Omega.{arith}
+use mathlib.Core.Path.{_≡_, refl, sym, ap, ap₂, _∙_}
+use mathlib.Core.Bool.{true, false}
+use mathlib.Core.List.{List, [], _∷_}
+use mathlib.Core.Logic.{inl, inr}
+use mathlib.Core.Option.{Option, none, some, Option·getD}
+use lib.ListN.{length}
+use borrow.Author.Tests.{ne-eqb}
+use Rattle.block.specs.Block.{Seen, refusedBy, row, seenSub}
+use Rattle.table.specs.Decode.{decode}
+use Rattle.record.specs.Calls.{numberBy, placeBy, subPlace, subBlockRefusal}
+use Rattle.reader.specs.declared.Phase.the-variants.{Closed, Feeding, Finishing}
+use Rattle.reader.specs.declared.State.{State}
+use Rattle.runs.specs.Refusals.{bytesRefusal}
+use Rattle.runs.specs.Calls.{feedOf, finishOf, bytesOf}
+use Rattle.records.specs.Calls.{tableInForce, askRefusal, firstOf, placeUnless, subBytesOf, subPlaceOf, subBytesRefusal}
+use Rattle.reader.specs.Outcome.{Outcome}
+use Rattle.tables.specs.Calls.{openOf, stageOf, withdrawOf}
+use Rattle.records.specs.Calls.{bodyOf, subOf, towOf, wncOf}
+use Rattle.record.specs.Answer.{FieldSaid}
+use Rattle.cform.specs.declared.CField.{CField}
+use Rattle.cform.specs.declared.CState.{CState}
+use Rattle.cform.specs.State.{stateOf, stateC, inPhase}
+use Rattle.cform.specs.Answer.{replyC, fieldC, partC}
+use Rattle.cform.specs.Theorems.{answerBack, fieldBack}
+use Rattle.cform.proofs.Phases.{closed-of, feeding-of, finishing-of, none-over}
+use Rattle.cform.proofs.Back.{nothing-lost}
+use Rattle.capi.specs.Calls.{Left, Handing, goesOn, openC, feedC, finishC, stageC, withdrawC, tells, bodyC, subC, towC, wncC, hands, bytesC, subBytesC}
+use Rattle.demands.specs.World.{World, stage, withdraw, Look, bytes, body, sub, subBytes, tow, wnc, Call, openRun, feed, finish, table, look, Reply, said, part, value, told, looked, step, end, Line, _⇒_, trace}
+use Rattle.demands.specs.Refusals.{Order, Given, order}
+use Rattle.demands.specs.Demand1.{Demand1}
+use Rattle.demands.proofs.Listed.{nothing-there}
+use Rattle.demands.proofs.Refusing.{demand-1}
+use Rattle.ccalls.specs.ThroughC.{CWorld, worldC, CStep, lookedC, stepC, refusalBack, replyBack, endC, traceC, ThroughC}
+use Rattle.ccalls.proofs.Answers.{open-back, feed-back, end-back, stage-back, withdraw-back}
+
+-- what the state of C's stands for
+back : (t : State) → stateOf (stateC t) ≡ some t
+back = nothing-lost .state
+
+-- ---- a refusal's number is over 0
+
+over : (n : ℕ) → 0 < n → refusalBack n ≡ some n
+over n h = rw (ne-eqb n 0 (λ e. omega arith))
+
+abbrev AllOver : Order → Type 0
+AllOver [] = Unit {0}
+AllOver (d ∷ ds) = (0 < d .number) × AllOver ds
+
+given-over : (o : Order) (n : ℕ) → AllOver o → Given o n → 0 < n
+given-over [] n a g = absurd g
+given-over (d ∷ ds) n a (inl g) = omega (arith, a .0, g .0)
+given-over (d ∷ ds) n a (inr g) = given-over ds n (a .1) (g .1)
+
+part-back : (x : Option ℕ) (o l : ℕ) → ((n : ℕ) → x ≡ some n → 0 < n) → refusalBack (partC x o l .refusal) ≡ x
+part-back none o l h = refl
+part-back (some n) o l h = over n (h n refl)
+
+bytes-over : (w : World) (n : ℕ) → bytesRefusal (w .state) (w .hold) ≡ some n → 0 < n
+unfolding step
+bytes-over w n e = given-over (order (look bytes) w) n (omega arith, tt) (demand-1 .refused (look bytes) w .gives n e)
+
+sub-over : (w : World) (b : List ℕ) (k n : ℕ) → subBytesRefusal (w .state) (w .force) b k ≡ some n → 0 < n
+unfolding step
+sub-over w b k n e =
+    given-over (order (look (subBytes b k)) w) n
+    (omega arith, (omega arith, (omega arith, (omega arith, (omega arith, (omega arith, (omega arith, (omega arith, tt))))))))
+    (demand-1 .refused (look (subBytes b k)) w .gives n e)
+
+-- ---- one call
+
+-- the call is made with the state that C's stands for
+module _ (call : State → Outcome) (s : State) (lent : List ℕ) where
+  goes : goesOn call (stateC s) lent (stateOf (stateC s)) ≡ record { reply = replyC (call s .said) (stateC (call s .state)); lent = call s .lent }
+  goes = ap (goesOn call (stateC s) lent) (back s)
+
+tells-it : (call : State → FieldSaid) (s : State) → fieldBack (tells call (stateOf (stateC s))) ≡ call s
+tells-it call s = ap (λ (o : Option State). fieldBack (tells call o)) (back s) ∙ nothing-lost .fields (call s)
+
+hands-it : (refusal : State → Option ℕ) (offset : State → ℕ) (cut : State → List ℕ) (s : State)
+    → hands refusal offset cut (stateOf (stateC s)) ≡ record { part = partC (refusal s) (offset s) (length (cut s)); bytes = cut s }
+hands-it refusal offset cut s = ap (hands refusal offset cut) (back s)
+
+module _ (w : World) where
+  opens : openC (stateC (w .state)) (w .force) (w .wait) ≡ record { reply = replyC (openOf (w .state) (w .force) (w .wait) .said) (stateC (openOf (w .state) (w .force) (w .wait) .state)); lent = openOf (w .state) (w .force) (w .wait) .lent }
+  unfolding openC
+  opens = goes (λ t. openOf t (w .force) (w .wait)) (w .state) (w .force)
+
+  feeds : (piece : List ℕ) → feedC (stateC (w .state)) (w .hold) piece ≡ record { reply = replyC (feedOf (w .state) (w .hold) piece .said) (stateC (feedOf (w .state) (w .hold) piece .state)); lent = feedOf (w .state) (w .hold) piece .lent }
+  unfolding feedC
+  feeds piece = goes (λ t. feedOf t (w .hold) piece) (w .state) (w .hold)
+
+  finishes : finishC (stateC (w .state)) (w .hold) ≡ record { reply = replyC (finishOf (w .state) (w .hold) .said) (stateC (finishOf (w .state) (w .hold) .state)); lent = finishOf (w .state) (w .hold) .lent }
+  unfolding finishC
+  finishes = goes (λ t. finishOf t (w .hold)) (w .state) (w .hold)
+
+  stages : (t : List ℕ) → stageC (stateC (w .state)) (w .wait) t ≡ record { reply = replyC (stageOf (w .state) (w .wait) t .said) (stateC (stageOf (w .state) (w .wait) t .state)); lent = stageOf (w .state) (w .wait) t .lent }
+  unfolding stageC
+  stages t = goes (λ s. stageOf s (w .wait) t) (w .state) (w .wait)
+
+  withdraws : withdrawC (stateC (w .state)) ≡ record { reply = replyC (withdrawOf (w .state) .said) (stateC (withdrawOf (w .state) .state)); lent = withdrawOf (w .state) .lent }
+  unfolding withdrawC
+  withdraws = goes withdrawOf (w .state) []
+
+looks : (l : Look) (w : World) → replyBack (look l) (lookedC l (worldC w)) ≡ looked l w
+unfolding bytesC bodyC subC subBytesC towC wncC
+looks bytes w =
+    ap (λ (h : Handing). part (refusalBack (h .part .refusal)) (h .bytes)) (hands-it (λ t. bytesRefusal t (w .hold)) (λ t. 0) (λ t. bytesOf t (w .hold)) (w .state))
+    ∙ ap (λ (x : Option ℕ). part x (bytesOf (w .state) (w .hold))) (part-back (bytesRefusal (w .state) (w .hold)) _ _ (bytes-over w))
+looks (body b i) w = ap value (tells-it (λ t. bodyOf t (w .force) b i) (w .state))
+looks (sub b k j) w = ap value (tells-it (λ t. subOf t (w .force) b k j) (w .state))
+looks (subBytes b k) w =
+    ap (λ (h : Handing). part (refusalBack (h .part .refusal)) (h .bytes)) (hands-it (λ t. subBytesRefusal t (w .force) b k) (λ t. subPlaceOf t (w .force) b k .at) (λ t. subBytesOf t (w .force) b k) (w .state))
+    ∙ ap (λ (x : Option ℕ). part x (subBytesOf (w .state) (w .force) b k)) (part-back (subBytesRefusal (w .state) (w .force) b k) _ _ (sub-over w b k))
+looks (tow b) w = ap value (tells-it (λ t. towOf t b) (w .state))
+looks (wnc b) w = ap value (tells-it (λ t. wncOf t b) (w .state))
+
+means : (c : Call) (w : World) → replyBack c (stepC c (worldC w) .answer) ≡ step c w .answer
+unfolding stepC step
+means openRun w = ap said (ap (λ (l : Left). answerBack false (l .reply .answer)) (opens w) ∙ open-back (w .state) (w .force) (w .wait))
+means (feed piece) w = ap said (ap (λ (l : Left). answerBack false (l .reply .answer)) (feeds w piece) ∙ feed-back (w .state) (w .hold) piece)
+means finish w = ap said (ap (λ (l : Left). answerBack true (l .reply .answer)) (finishes w) ∙ end-back (w .state) (w .hold))
+means (table (stage t)) w = ap said (ap (λ (l : Left). answerBack false (l .reply .answer)) (stages w t) ∙ stage-back (w .state) (w .wait) t)
+means (table withdraw) w = ap said (ap (λ (l : Left). answerBack false (l .reply .answer)) (withdraws w) ∙ withdraw-back (w .state))
+means (look l) w = looks l w
+
+leaves : (c : Call) (w : World) → stepC c (worldC w) .world ≡ worldC (step c w .world)
+unfolding stepC step
+leaves openRun w = ap (λ (l : Left). record { state = l .reply .state; hold = w .hold; force = l .lent; wait = w .wait }) (opens w)
+leaves (feed piece) w = ap (λ (l : Left). record { state = l .reply .state; hold = l .lent; force = w .force; wait = w .wait }) (feeds w piece)
+leaves finish w = ap (λ (l : Left). record { state = l .reply .state; hold = l .lent; force = w .force; wait = w .wait }) (finishes w)
+leaves (table (stage t)) w = ap (λ (l : Left). record { state = l .reply .state; hold = w .hold; force = w .force; wait = l .lent }) (stages w t)
+leaves (table withdraw) w = ap (λ (l : Left). record { state = l .reply .state; hold = w .hold; force = w .force; wait = w .wait }) (withdraws w)
+leaves (look l) w = refl
+
+-- ---- calls one after the other
+
+ends : (cs : List Call) (w : World) → endC cs (worldC w) ≡ worldC (end cs w)
+unfolding endC end
+ends [] w = refl
+ends (c ∷ cs) w = ap (endC cs) (leaves c w) ∙ ends cs (step c w .world)
+
+answers : (cs : List Call) (w : World) → traceC cs (worldC w) ≡ trace cs w
+unfolding traceC trace
+answers [] w = refl
+answers (c ∷ cs) w =
+    ap₂ (λ (a : Reply) (ls : List Line). c ⇒ a ∷ ls) (means c w) (ap (traceC cs) (leaves c w) ∙ answers cs (step c w .world))
+
+-- ---- a state that is made up
+
+unknown-look : (l : Look) (w : CWorld) → stateOf (w .state) ≡ none → told (replyBack (look l) (lookedC l w)) .refusal ≡ some 1
+unfolding bytesC bodyC subC subBytesC towC wncC
+unknown-look bytes w e = rw e
+unknown-look (body b i) w e = rw e
+unknown-look (sub b k j) w e = rw e
+unknown-look (subBytes b k) w e = rw e
+unknown-look (tow b) w e = rw e
+unknown-look (wnc b) w e = rw e
+
+unknown : (c : Call) (w : CWorld) → stateOf (w .state) ≡ none → told (replyBack c (stepC c w .answer)) .refusal ≡ some 1
+unfolding stepC openC feedC finishC stageC withdrawC
+unknown openRun w e = rw e
+unknown (feed piece) w e = rw e
+unknown finish w e = rw e
+unknown (table (stage t)) w e = rw e
+unknown (table withdraw) w e = rw e
+unknown (look l) w e = unknown-look l w e
+
+keeps : (c : Call) (w : CWorld) → stateOf (w .state) ≡ none → stepC c w .world ≡ w
+unfolding stepC openC feedC finishC stageC withdrawC
+keeps openRun w e = rw e
+keeps (feed piece) w e = rw e
+keeps finish w e = rw e
+keeps (table (stage t)) w e = rw e
+keeps (table withdraw) w e = rw e
+keeps (look l) w e = refl
+
+-- ---- every other state is one of the reader's
+
+in-phase : (s : CState) (n : ℕ) → s .phase ≡ n → s ≡ record { phase = n; held = s .held; standing = s .standing; counts = s .counts; «in_force» = s .«in_force»; waiting = s .waiting }
+in-phase s n e = ap (λ (x : ℕ). record { phase = x; held = s .held; standing = s .standing; counts = s .counts; «in_force» = s .«in_force»; waiting = s .waiting }) e
+
+same-state : (s : CState) {t u : State} → stateOf s ≡ some t → stateOf s ≡ some u → u ≡ t
+same-state s {t} {u} e f = ap (λ (o : Option State). Option·getD o u) (sym f ∙ e)
+
+known-by : (s : CState) (t : State) (n : ℕ) → s .phase ≡ n → stateOf s ≡ some t → s ≡ stateC t
+known-by s t zero e f = in-phase s 0 e ∙ ap stateC (same-state s f (closed-of s e))
+known-by s t (suc zero) e f = in-phase s 1 e ∙ ap stateC (same-state s f (feeding-of s e))
+known-by s t (suc (suc zero)) e f = in-phase s 2 e ∙ ap stateC (same-state s f (finishing-of s e))
+known-by s t (suc (suc (suc n))) e f = nothing-there (sym (none-over s (omega arith)) ∙ f)
+
+-- ---- where parts stand
+
+at-by : (o : Option ℕ) (x : Seen) (b : List ℕ) (k l : ℕ) → partC (firstOf o (numberBy x)) (placeUnless o (placeBy b k x) .at) l .offset ≡ placeUnless o (placeBy b k x) .at
+at-by (some n) x b k l = refl
+at-by none (refusedBy n) b k l = refl
+at-by none (row r) b k l = refl
+
+start-by : (x : Option ℕ) (l : ℕ) → partC x 0 l .offset ≡ 0
+start-by none l = refl
+start-by (some n) l = refl
+
+bytes-at : (s : State) (hold : List ℕ) → bytesC (stateC s) hold .part .offset ≡ 0
+unfolding bytesC
+bytes-at s hold =
+    ap (λ (h : Handing). h .part .offset) (hands-it (λ t. bytesRefusal t hold) (λ t. 0) (λ t. bytesOf t hold) s)
+    ∙ start-by (bytesRefusal s hold) (length (bytesOf s hold))
+
+sub-bytes-at : (s : State) (force b : List ℕ) (k : ℕ) → subBytesC (stateC s) force b k .part .offset ≡ subPlaceOf s force b k .at
+unfolding subBytesC subBytesRefusal subBlockRefusal subPlaceOf subPlace
+sub-bytes-at s force b k =
+    ap (λ (h : Handing). h .part .offset) (hands-it (λ t. subBytesRefusal t force b k) (λ t. subPlaceOf t force b k .at) (λ t. subBytesOf t force b k) s)
+    ∙ at-by (askRefusal s force) (seenSub (decode (tableInForce s force)) b k) b k (length (subBytesOf s force b k))
+
+pub through-c : ThroughC
+through-c =
+    record {
+      means = means;
+      leaves = leaves;
+      answers = answers;
+      ends = ends;
+      known = λ s t. known-by s t (s .phase) refl;
+      unknown = unknown;
+      keeps = keeps;
+      bytes-at = bytes-at;
+      sub-bytes-at = sub-bytes-at;
+    }

@@ -1,0 +1,106 @@
+-- Calls through C are calls of the reader: the world of a caller in C, what an exported call does in it, and what its answer means. It is
+-- made of the very functions that the contracts of the exported calls cite.
+-- Assumes nothing.
+use Prim.Native.Nat.{ℕ}
+use mathlib.Core.Path.{_≡_}
+use mathlib.Core.Bool.{Bool, true, false, cond}
+use mathlib.Core.List.{List, [], _∷_}
+use mathlib.Core.Option.{Option, none, some}
+use lib.Dec.{eqb}
+use Rattle.reader.specs.declared.State.{State}
+use Rattle.records.specs.Calls.{subPlaceOf}
+use Rattle.cform.specs.declared.CAnswer.{CAnswer}
+use Rattle.cform.specs.declared.CField.{CField}
+use Rattle.cform.specs.declared.CState.{CState}
+use Rattle.cform.specs.State.{stateOf, stateC}
+use Rattle.cform.specs.Theorems.{answerBack, fieldBack}
+use Rattle.capi.specs.Calls.{Left, openC, feedC, finishC, stageC, withdrawC, bodyC, subC, towC, wncC, Handing, bytesC, subBytesC}
+use Rattle.demands.specs.World.{World, TableCall, stage, withdraw, Look, bytes, body, sub, subBytes, tow, wnc, Call, openRun, feed, finish, table, look, Reply, said, part, value, told, step, end, Line, _⇒_, trace}
+
+-- the state as C has it, and the three buffers
+pub record CWorld : Type 0 where
+  pub state : CState
+  pub hold : List ℕ
+  pub force : List ℕ
+  pub wait : List ℕ
+
+-- a world of the reader's, as C has it
+abbrev pub worldC : World → CWorld
+worldC w = record { state = stateC (w .state); hold = w .hold; force = w .force; wait = w .wait }
+
+-- what an exported call answers; a part with the bytes in it
+pub data CSaid : Type 0 where
+  cAnswer : CAnswer → CSaid
+  cField : CField → CSaid
+  cPart : Handing → CSaid
+
+-- ---- what an exported call does
+
+pub record CStep : Type 0 where
+  pub answer : CSaid
+  pub world : CWorld
+
+-- a reply, and the buffers after it
+abbrev pub leavingC : Left → List ℕ → List ℕ → List ℕ → CStep
+leavingC l hold force wait =
+    record { answer = cAnswer (l .reply .answer); world = record { state = l .reply .state; hold = hold; force = force; wait = wait } }
+
+abbrev pub lookedC : Look → CWorld → CSaid
+lookedC bytes w = cPart (bytesC (w .state) (w .hold))
+lookedC (body b i) w = cField (bodyC (w .state) (w .force) b i)
+lookedC (sub b k j) w = cField (subC (w .state) (w .force) b k j)
+lookedC (subBytes b k) w = cPart (subBytesC (w .state) (w .force) b k)
+lookedC (tow b) w = cField (towC (w .state) b)
+lookedC (wnc b) w = cField (wncC (w .state) b)
+
+unfoldable pub stepC : Call → CWorld → CStep
+stepC openRun w = let l = openC (w .state) (w .force) (w .wait) in leavingC l (w .hold) (l .lent) (w .wait)
+stepC (feed piece) w = let l = feedC (w .state) (w .hold) piece in leavingC l (l .lent) (w .force) (w .wait)
+stepC finish w = let l = finishC (w .state) (w .hold) in leavingC l (l .lent) (w .force) (w .wait)
+stepC (table (stage t)) w = let l = stageC (w .state) (w .wait) t in leavingC l (w .hold) (w .force) (l .lent)
+stepC (table withdraw) w = leavingC (withdrawC (w .state)) (w .hold) (w .force) (w .wait)
+stepC (look l) w = record { answer = lookedC l w; world = w }
+
+-- ---- what its answer means
+
+-- a block comes from Feed with a count taken, from Finish without one
+abbrev pub isFinish : Call → Bool
+isFinish openRun = false
+isFinish (feed piece) = false
+isFinish finish = true
+isFinish (table t) = false
+isFinish (look l) = false
+
+-- C's 0 is no refusal
+abbrev pub refusalBack : ℕ → Option ℕ
+refusalBack n = cond (eqb n 0) none (some n)
+
+abbrev pub replyBack : Call → CSaid → Reply
+replyBack c (cAnswer a) = said (answerBack (isFinish c) a)
+replyBack c (cField f) = value (fieldBack f)
+replyBack c (cPart h) = part (refusalBack (h .part .refusal)) (h .bytes)
+
+-- ---- sequences
+
+unfoldable pub endC : List Call → CWorld → CWorld
+endC [] w = w
+endC (c ∷ cs) w = endC cs (stepC c w .world)
+
+unfoldable pub traceC : List Call → CWorld → List Line
+traceC [] w = []
+traceC (c ∷ cs) w = c ⇒ replyBack c (stepC c w .answer) ∷ traceC cs (stepC c w .world)
+
+pub record ThroughC : Type 0 where
+  -- one call: its answer means the reader's, and it leaves what the reader's leaves
+  pub means : (c : Call) (w : World) → replyBack c (stepC c (worldC w) .answer) ≡ step c w .answer
+  pub leaves : (c : Call) (w : World) → stepC c (worldC w) .world ≡ worldC (step c w .world)
+  -- any calls, one after the other: what the demands say of the reader's answers and worlds, they say of C's
+  pub answers : (cs : List Call) (w : World) → traceC cs (worldC w) ≡ trace cs w
+  pub ends : (cs : List Call) (w : World) → endC cs (worldC w) ≡ worldC (end cs w)
+  -- every state of C's is one of the reader's, or is made up: every call refuses it with 1, and changes nothing
+  pub known : (s : CState) (t : State) → stateOf s ≡ some t → s ≡ stateC t
+  pub unknown : (c : Call) (w : CWorld) → stateOf (w .state) ≡ none → told (replyBack c (stepC c w .answer)) .refusal ≡ some 1
+  pub keeps : (c : Call) (w : CWorld) → stateOf (w .state) ≡ none → stepC c w .world ≡ w
+  -- C's parts stand where the reader's do: the block just reported where the hold starts, a sub-block at its place in the block
+  pub bytes-at : (s : State) (hold : List ℕ) → bytesC (stateC s) hold .part .offset ≡ 0
+  pub sub-bytes-at : (s : State) (force b : List ℕ) (k : ℕ) → subBytesC (stateC s) force b k .part .offset ≡ subPlaceOf s force b k .at

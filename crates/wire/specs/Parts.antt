@@ -1,0 +1,7 @@
+-- Where a part of a buffer stands: a pointer is a block of memory and an offset in it.
+-- Assumes nothing.
+use Prim.Native.Nat.{ℕ, _+_}
+
+-- n bytes on from there
+abbrev pub past : ℕ × ℕ → ℕ → ℕ × ℕ
+past p n = (p .0, p .1 + n)
