@@ -103,7 +103,7 @@ def sample_e():
 
 
 def sample_g():
-    """Nothing until Finish, then a block at 8 and 8 skipped."""
+    """S7: the block shows at Finish."""
     data = bytes.fromhex("2440000000001400") + SAMPLE_B
     player = model.Player()
     player.line(b"stage " + scripts.hexed(model.shipped_table(1)))
@@ -115,7 +115,7 @@ def sample_g():
 
 
 def sample_j():
-    """A block of length 8 whose number has a row gives refusal 7."""
+    """S10: a record call on a block of 8 bytes."""
     data = content.seal(bytes(4) + (5943).to_bytes(2, "little") + bytes(2))
     table = bytearray(model.shipped_table(1))
     state = model.NEW_READER._replace(force=len(table))
@@ -160,8 +160,8 @@ def cuts_agree():
 
 
 def moved_agree():
-    """Table calls moved, in their order, to just after the run's end change
-    no answer, nor the final state and lent bytes (demand 3)."""
+    """D3: the same answers, state and bytes where the table calls of a run
+    are made right after it."""
     rng = random.Random(5)
     for _ in range(25):
         data = content.stream(rng, model.shipped_rows(), rng.randrange(1, 9))
@@ -213,7 +213,7 @@ def tables_agree():
 
 
 def shipped_agree():
-    """The rows shipped, made from the documents alone, are those of samples/."""
+    """T30 to T36: the model's rows, made without samples/, are those there."""
     with open(os.path.join(TOP, "samples", "shipped-v1.table"), "rb") as file:
         return model.shipped_table(1) == file.read()
 
