@@ -1,5 +1,5 @@
 #!/usr/bin/env python3
-"""The program lister against a reader of the framing rules (F1 to F14), written here from the papers alone that docs/RULES.md restates.
+"""The program lister against a reader of the framing rules (F1 to F14), written here from the papers that docs/RULES.md restates.
 
 test_lister.py         run all streams; stop at the first difference
 test_lister.py SEED    write the stream of one seed to standard output
