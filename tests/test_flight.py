@@ -14,7 +14,7 @@ import programs
 from programs import TOP
 
 PROGRAM = os.path.join(TOP, "target", "bin", "replay")
-BLOCK = "2440a98900000800"  # document 01's sample (b): number 0, revision 0, length 8
+BLOCK = "2440a98900000800"  # S2: number 0, revision 0, length 8
 LONGEST = 270_000
 
 HOLD, FORCE, WAITING = b"\xa5" * 65536, b"\x5a" * 8192, b"\x3c" * 8192

@@ -1,5 +1,5 @@
 #!/usr/bin/env python3
-"""The program lister against a reader of document 01's framing rules written here from the document alone.
+"""The program lister against a reader of the framing rules (F1 to F14), written here from the papers that docs/RULES.md restates.
 
 test_lister.py         run all streams; stop at the first difference
 test_lister.py SEED    write the stream of one seed to standard output
@@ -15,7 +15,7 @@ import tempfile
 import programs
 from programs import TOP, Program
 
-SAMPLE = bytes.fromhex("00 24 40 A9 89 00 00 08 00 24")
+SAMPLE = bytes.fromhex("002440A9890000080024")  # S11
 SAMPLE_LIST = "block 1 0 0 8\nend 10 1 2\n"
 SYNC = b"\x24\x40"
 
@@ -139,7 +139,7 @@ def kept():
 
 def cases():
     """(name, input, expected output); what is kept as expected is held to the rule too."""
-    for name, data, kept_list in [("document 01's sample", SAMPLE, SAMPLE_LIST)] + list(kept()):
+    for name, data, kept_list in [("the sample of S11", SAMPLE, SAMPLE_LIST)] + list(kept()):
         yield f"test_lister: {name}, as kept", data, kept_list
         yield f"test_lister: {name}", data, listed(data)
     for seed in SEEDS:

@@ -43,7 +43,7 @@ SECONDS = 300
 
 # -------------------------------------------------- the model's own samples
 
-SAMPLE_B = bytes.fromhex("2440A98900000800")
+SAMPLE_S2 = bytes.fromhex("2440A98900000800")
 
 
 def run_by_calls(data, cuts):
@@ -83,7 +83,7 @@ def sample_run(data, blocks, end):
     return whole(data) == (blocks, end) and by_calls[:2] == (blocks, end)
 
 
-def sample_d():
+def sample_s4():
     cases = (("3717", 5943, 0), ("3737", 5943, 1), ("FFFF", 8191, 7))
     for ident, number, revision in cases:
         data = content.seal(bytes(4) + bytes.fromhex(ident) + bytes(2))
@@ -92,7 +92,7 @@ def sample_d():
     return True
 
 
-def sample_e():
+def sample_s5():
     for length in (4, 9):
         body = bytes(2) + length.to_bytes(2, "little") + bytes(8)
         check = model.crc(body[:length - 4])
@@ -102,9 +102,9 @@ def sample_e():
     return True
 
 
-def sample_g():
-    """Nothing until Finish, then a block at 8 and 8 skipped."""
-    data = bytes.fromhex("2440000000001400") + SAMPLE_B
+def sample_s7():
+    """S7: the block shows at Finish."""
+    data = bytes.fromhex("2440000000001400") + SAMPLE_S2
     player = model.Player()
     player.line(b"stage " + scripts.hexed(model.shipped_table(1)))
     player.line(b"open")
@@ -114,8 +114,8 @@ def sample_g():
             and player.call(b"finish", []) == ("end", 16, 1, 8))
 
 
-def sample_j():
-    """A block of length 8 whose number has a row gives refusal 7."""
+def sample_s10():
+    """S10: a record call on a block of 8 bytes."""
     data = content.seal(bytes(4) + (5943).to_bytes(2, "little") + bytes(2))
     table = bytearray(model.shipped_table(1))
     state = model.NEW_READER._replace(force=len(table))
@@ -160,8 +160,8 @@ def cuts_agree():
 
 
 def moved_agree():
-    """Table calls moved, in their order, to just after the run's end change
-    no answer, nor the final state and lent bytes (demand 3)."""
+    """D3: the same answers, state and bytes where the table calls of a run
+    are made right after it."""
     rng = random.Random(5)
     for _ in range(25):
         data = content.stream(rng, model.shipped_rows(), rng.randrange(1, 9))
@@ -213,7 +213,7 @@ def tables_agree():
 
 
 def shipped_agree():
-    """The rows shipped, made from the documents alone, are those of samples/."""
+    """T30 to T36: the model's rows, made without samples/, are those there."""
     with open(os.path.join(TOP, "samples", "shipped-v1.table"), "rb") as file:
         return model.shipped_table(1) == file.read()
 
@@ -221,22 +221,22 @@ def shipped_agree():
 def samples():
     """[(name, whether it holds)]"""
     lister = bytes.fromhex("002440A9890000080024")
-    wrong = SAMPLE_B.replace(b"\x89", b"\x88")
+    wrong = SAMPLE_S2.replace(b"\x89", b"\x88")
     dnu, kept = 0xD09502F9, 0xD09502F8
     value = model.value
     return [
-        ("(a)", sample_run(b"", [], ("end", 0, 0, 0))),
-        ("(b)", sample_run(SAMPLE_B, [(0, 0, 0, 8)], ("end", 8, 1, 0))),
-        ("(c)", sample_run(wrong, [], ("end", 8, 0, 8))),
-        ("(d)", sample_d()), ("(e)", sample_e()),
-        ("(f)", sample_run(b"\x24" + SAMPLE_B, [(1, 0, 0, 8)],
-                           ("end", 9, 1, 1))),
-        ("(g)", sample_g()),
-        ("(h)", value(dnu.to_bytes(4, "little"), 0, 9, 3) == ("do-not-use",)
+        ("S1", sample_run(b"", [], ("end", 0, 0, 0))),
+        ("S2", sample_run(SAMPLE_S2, [(0, 0, 0, 8)], ("end", 8, 1, 0))),
+        ("S3", sample_run(wrong, [], ("end", 8, 0, 8))),
+        ("S4", sample_s4()), ("S5", sample_s5()),
+        ("S6", sample_run(b"\x24" + SAMPLE_S2, [(1, 0, 0, 8)],
+                          ("end", 9, 1, 1))),
+        ("S7", sample_s7()),
+        ("S8", value(dnu.to_bytes(4, "little"), 0, 9, 3) == ("do-not-use",)
          and value(kept.to_bytes(4, "little"), 0, 9, 3) == ("single", kept)),
-        ("(i)", value(b"\xff\xff", 0, 2, 1) == ("do-not-use",)
+        ("S9", value(b"\xff\xff", 0, 2, 1) == ("do-not-use",)
          and value(b"\xfe\xff", 0, 2, 1) == ("unsigned", 65534)),
-        ("(j)", sample_j()),
+        ("S10", sample_s10()),
         ("lister", model.list_run(lister) == b"block 1 0 0 8\nend 10 1 2\n"),
         ("crc", crcs_agree()), ("feed", feeds_agree()),
         ("cuts", cuts_agree()), ("moved", moved_agree()),

@@ -8,7 +8,7 @@ extern void *memset(void *to, int byte, size_t count);
 
 static uint8_t hold[ALDERFLUTE_HOLD], in_force[ALDERFLUTE_STORE], waiting[ALDERFLUTE_STORE], before[ALDERFLUTE_HOLD];
 static const uint8_t sample[8] = {0x24, 0x40, 0xa9, 0x89, 0, 0, 8, 0};
-/* The smallest table that document 01 allows: version 7, one row, block 0, no fields. */
+/* The smallest table that T1 to T17 allow: version 7, one row, block 0, no fields. */
 static const uint8_t table[20] = {0, 0, 0, 0, 0, 0, 0, 0, 7, 0, 1, 0, 20, 0, 20, 0, 0x59, 0x9c, 0x42, 0x54};
 static unsigned passed, failed;
 

@@ -1,9 +1,10 @@
-"""An independent model of the SBF reader of document 01.
+"""An independent model of the SBF reader of docs/RULES.md.
 
-Written from the documents alone, by someone who had seen neither the code nor
-its definitions: document 01 says what every call answers, docs/REPLAY.md the
-text language at the end of this file.  Each part names the sentence it
-follows.  Choices between readings are in CHOICES.md.
+Written by someone who had seen neither the code nor its definitions, from the
+papers alone that docs/RULES.md restates, and before it did: the rule that each
+part names was put in later, the code is as it was.  The text language at the
+end of this file is that of docs/REPLAY.md.  Choices between readings are in
+CHOICES.md.
 
 Run as a program it behaves like `replay`: python3 model.py < script
 """
@@ -16,8 +17,7 @@ import sys
 from collections import namedtuple
 
 # ------------------------------------------------------------------ the CRC
-# "polynomial x^16+x^12+x^5+1, high bit first, start 0, nothing reflected, no
-# final xor".  binascii.crc_hqx is that CRC; crc_plain is the sentence itself.
+# F7.  binascii.crc_hqx is that CRC; crc_plain is the rule itself, bit by bit.
 
 
 def crc(data):
@@ -40,25 +40,24 @@ def crc_plain(data):
 
 
 def length_allowed(length):
-    """ "L is a multiple of 4 and at least 8" """
+    """F4: is this length allowed?"""
     return length % 4 == 0 and length >= 8
 
 
 def length_field(data, place):
-    """ "at p+6 the Length L", 16 bits, little-endian """
+    """F3 and F1: L, 16 bits, little-endian."""
     return data[place + 6] | data[place + 7] << 8
 
 
 def crc_right(data, place, length):
-    """ "the CRC field equals the CRC of the bytes from p+4 to p+L-1" """
+    """F6: does the CRC field hold the CRC?"""
     field = data[place + 2] | data[place + 3] << 8
     return field == crc(data[place + 4:place + length])
 
 
 def frame_at(data, place):
     """The length of the frame that stands at `place` of the run `data`, the
-    run's end being the end of data; 0 if none stands there ("A frame stands
-    at place p of a run when all of this holds")."""
+    run's end being the end of data; 0 if none stands there (F8)."""
     if place + 8 > len(data):
         return 0
     if data[place] != 0x24 or data[place + 1] != 0x40:
@@ -70,16 +69,13 @@ def frame_at(data, place):
 
 
 def block_of(data, place):
-    """Number, revision and length of the frame at `place`: "The low
-    thirteen bits of the ID are the block number, the top three its
-    revision." """
+    """F9: number, revision and length of the frame at `place`."""
     ident = data[place + 4] | data[place + 5] << 8
     return ident % 8192, ident // 8192, length_field(data, place)
 
 
 # ---------------------------------------------------------- reading a run
-# "start at place 0. If a frame stands at the place, it is a block and reading
-# goes on at p+L. Otherwise that one byte is skipped."
+# F11: what is a block, and what is skipped.
 
 
 def read_run(data):
@@ -98,9 +94,7 @@ def read_run(data):
 
 
 def decided(data, place):
-    """ "While a run is fed, a place is decided once it has a wrong sync byte,
-    or eight bytes with a length not allowed, or all its L bytes, and not
-    before."  None: not decided by these bytes; 0: skipped; L: a block."""
+    """F12.  None: not decided by these bytes; 0: skipped; L: a block."""
     have = len(data) - place
     if have < 1:
         return None
@@ -121,8 +115,8 @@ def decided(data, place):
 
 
 def feed_plain(held, piece):
-    """ "takes bytes one at a time until a block is decided, the piece is
-    spent" (the caller has cut the piece at the run's limit).  Answers (bytes
+    """C6, after the drop: byte by byte, to a block or to the end of the piece
+    (the caller has cut the piece at the run's limit).  Answers (bytes
     skipped, bytes taken, length of the block or 0).  Literal; feed_fast is
     compared with it in the self-test."""
     data, place, took = bytearray(held), 0, 0
@@ -181,8 +175,7 @@ def feed_fast(held, piece):
 
 
 def finish_scan(data):
-    """ "When the run is finished, a header whose length passes the end is no
-    frame, so its bytes are read on one by one."  (skipped, length or 0)"""
+    """F13: no place waits for bytes past the end.  (skipped, length or 0)"""
     place = 0
     while place < len(data):
         if data[place] != 0x24:
@@ -197,8 +190,8 @@ def finish_scan(data):
 
 
 # ---------------------------------------------------------------- the state
-# "State goes in and comes back by value."  force and waits are the lengths of
-# the tables, 0 for none; stands the length of the standing block, 0 for none.
+# C1: by value.  force and waits are the lengths of the tables, 0 for none;
+# stands the length of the standing block, 0 for none.
 
 CLOSED, FEEDING, FINISHING = 0, 1, 2
 RUN_LIMIT = 4294967295
@@ -210,13 +203,12 @@ NEW_READER = State(CLOSED, 0, 0, 0, 0, 0, 0, 0)
 
 
 def refused(number, state):
-    """ "A refusal returns its number and the old state and stores
-    nothing." """
+    """R21: the number, and the state as it was."""
     return ("refused", number), state
 
 
 def spoiled(state):
-    """Refusal 1, the part about the state, in the words of the table."""
+    """R1, the part about the state."""
     return (state.held > HELD_MOST
             or state.held > state.taken
             or state.stands > state.held
@@ -226,8 +218,8 @@ def spoiled(state):
 
 
 def fault_one(state, hold=None, force=None, waiting=None):
-    """Refusal 1: "a lent buffer is too short; or the state has ...", and
-    "Refusal 1 looks only at what that call is lent." """
+    """R1, of the buffers that the call is lent (None: it is not lent that
+    one), and of the state."""
     if hold is not None and len(hold) < HOLD_LEAST:
         return True
     if force is not None and len(force) < STORE_LEAST:
@@ -238,28 +230,22 @@ def fault_one(state, hold=None, force=None, waiting=None):
 
 
 # ------------------------------------------------------------ the block table
-# "A file of T bytes, 20 to 8,192: field rows of 4 bytes, block rows of 8,
-# then a trailer of 12 that points back."
+# T1 to T17: the file, its trailer and its rows.
 
 Field = namedtuple("Field", "offset type first mark")
 Row = namedtuple("Row", "number highest body subs")
 Table = namedtuple("Table", "version rows")
 
-# "Types and sizes: 1 u1 1; 2 u2 2; 3 u4 4; 4 u8 8; 5 i1 1; ..."
+# V1: the size of each type.
 SIZES = {1: 1, 2: 2, 3: 4, 4: 8, 5: 1, 6: 2, 7: 4, 8: 8, 9: 4, 10: 8}
 UNSIGNED, SIGNED, FLOAT = (1, 2, 3, 4), (5, 6, 7, 8), (9, 10)
-# "Marks: 0 none; 1 all ones (unsigned); 2 zero (unsigned); 3 minus 2 x 10^10
-# (float ...); 4 the least value (signed)."
+# V3: the types that each mark may stand on.
 MARKED = {0: UNSIGNED + SIGNED + FLOAT, 1: UNSIGNED, 2: UNSIGNED, 3: FLOAT,
           4: SIGNED}
 
 
 def fields_right(fields, least, highest):
-    """ "Offsets in a body are at least 14; within body or sub-fields no field
-    starts before the previous one ends. First revisions do not fall along the
-    rows of a body or of sub-fields and are at most the block's highest."
-    "An unlisted type or mark, or a mark on another kind of type, breaks the
-    rules." """
+    """T12 to T15, for the rows of a body (least 14) or of sub-fields (0)."""
     end, revision = least, 0
     for field in fields:
         if field.type not in SIZES or field.mark not in MARKED:
@@ -276,34 +262,31 @@ def fields_right(fields, least, highest):
 
 
 def row_right(row):
-    """The rules of one block's rows."""
+    """The rules of one block's rows: T8 of one number, T9, T12 to T16."""
     if row.number > 8191 or row.highest > 7:
         return False
     if not fields_right(row.body, 14, row.highest):
         return False
     if not fields_right(row.subs, 0, row.highest):
         return False
-    # "If there are sub-fields, the body is exactly two u1 rows at 14 and 15
-    # (N and SBLength), first revision 0, mark 0"
+    # T16: N and SBLength
     if row.subs and row.body != (Field(14, 1, 0, 0), Field(15, 1, 0, 0)):
         return False
     return True
 
 
 def block_rows(raw, fields):
-    """ "Block row: number u2, 0 to 8,191, strictly rising; highest revision
-    u1, 0 to 7; body field count u1; index of the first field row u2;
-    sub-field count u1; a zero byte."  None if a rule is broken."""
+    """T7 to T10 and T17.  None if a rule is broken."""
     rows, before, used = [], -1, 0
     for at in range(0, len(raw), 8):
         number, highest, bodies, first, subs, zero = struct.unpack_from(
             "<HBBHBB", raw, at)
-        # "The first index is the sum of all counts before it"
+        # T8, T17, and T10: the index
         if number <= before or zero != 0 or first != used:
             return None
         if used + bodies + subs > len(fields):
             return None
-        # "A block's body rows stand first, then its sub-field rows."
+        # T10: body rows before sub-field rows
         middle = used + bodies
         row = Row(number, highest, tuple(fields[used:middle]),
                   tuple(fields[middle:middle + subs]))
@@ -311,20 +294,18 @@ def block_rows(raw, fields):
             return None
         rows.append(row)
         before, used = number, middle + subs
-    # "all counts together use every field row"
+    # T10: no field row is left over
     return tuple(rows) if used == len(fields) else None
 
 
 @functools.lru_cache(maxsize=64)
 def read_table(data):
-    """The table in these bytes, or None if it breaks a table rule."""
+    """The table in these bytes, or None if it breaks one of T1 to
+    T17."""
     total = len(data)
     if not 20 <= total <= 8192:
         return None
-    # "Trailer: version u2; count R of block rows u2, at least 1; distance from
-    # the file's end back to the first block row u2, which is 12 + 8R; distance
-    # back to the first field row u2, which is T; CRC u2, as above, of the T-4
-    # bytes before it; the bytes 0x42 0x54."
+    # T2 to T6: the trailer
     version, count, to_blocks, to_fields, check = struct.unpack_from(
         "<5H", data, total - 12)
     if count < 1 or to_blocks != 12 + 8 * count or to_fields != total:
@@ -345,7 +326,7 @@ def read_table(data):
 
 
 def call_open(state, force, waiting):
-    """Open; order of refusals 1, 2, 5, 4."""
+    """Open (C5); order of refusals 1, 2, 5, 4 (R20)."""
     if fault_one(state, force=force, waiting=waiting):
         return refused(1, state)
     if state.phase != CLOSED:
@@ -358,17 +339,14 @@ def call_open(state, force, waiting):
     table = read_table(raw)
     if table is None:
         return refused(4, state)
-    # "if a table waits, its bytes are copied over the start of the in-force
-    # store and nothing waits. Counts become zero, the hold counts as empty.
-    # Answers the version in force."
+    # C5: the copy, the answer and the state of a fresh run
     force[:length] = raw
     return ("opened", table.version), State(FEEDING, length, 0, 0, 0, 0, 0, 0)
 
 
 def report(state, hold, held, phase, skipped, length):
-    """A block at the start of `held` is reported: "the held bytes, a standing
-    block first, begin at offset 0 of the hold"; place is the count of bytes
-    of the run before it."""
+    """A block at the start of `held` is reported (C4, C7); place is the count
+    of bytes of the run before it."""
     hold[:len(held)] = held
     after = state._replace(
         phase=phase, held=len(held), stands=length,
@@ -378,18 +356,17 @@ def report(state, hold, held, phase, skipped, length):
 
 
 def call_feed(state, hold, piece):
-    """Feed; order of refusals 1, 2, 3."""
+    """Feed (C6); order of refusals 1, 2, 3 (R20)."""
     if fault_one(state, hold=hold):
         return refused(1, state)
     if state.phase != FEEDING:
         return refused(2, state)
-    # "drops the block last reported"
+    # C6: the drop
     held = bytes(hold[state.stands:state.held])
-    # "the piece is spent or the run has 4,294,967,295 bytes"
+    # C6: what the run may still take
     room = RUN_LIMIT - state.taken
     skipped, took, length = feed_fast(held, piece[:room])
-    # "the run has 4,294,967,295 bytes, the held bytes give no block and the
-    # piece is not empty"
+    # R3: the run is full
     if room == 0 and length == 0 and len(piece) > 0:
         return refused(3, state)
     taken = state._replace(taken=state.taken + took)
@@ -397,20 +374,19 @@ def call_feed(state, hold, piece):
     if length:
         answer, after = report(taken, hold, left, FEEDING, skipped, length)
         return ("fed", took) + answer, after
-    # "one that answers More has decided all it can"
+    # C14: all that can be decided is
     hold[:len(left)] = left
     return ("fed", took, "more"), taken._replace(
         held=len(left), stands=0, skipped=state.skipped + skipped)
 
 
 def call_finish(state, hold):
-    """Finish; order of refusals 1, 2."""
+    """Finish (C8); order of refusals 1, 2 (R20)."""
     if fault_one(state, hold=hold):
         return refused(1, state)
     if state.phase == CLOSED:
         return refused(2, state)
-    # "drops the block last reported, then answers Block, or End (bytes,
-    # blocks, skipped bytes), which closes the run"
+    # C8: the drop, then a block or the run's end
     held = bytes(hold[state.stands:state.held])
     skipped, length = finish_scan(held)
     if length:
@@ -421,16 +397,14 @@ def call_finish(state, hold):
 
 
 def call_bytes(state, hold):
-    """Bytes: "the block just reported, handed back as a part of the hold
-    itself; an empty part if none stands."  Refusal 1 only."""
+    """Bytes (C9).  Refusal 1 only (R20)."""
     if fault_one(state, hold=hold):
         return refused(1, state)
     return ("part", bytes(hold[:state.stands])), state
 
 
 def call_stage(state, waiting, table):
-    """Stage: "checks a table and copies it to the start of the waiting store,
-    replacing any that waits; answers its version".  Refusals 1, 4."""
+    """Stage (C10); order of refusals 1, 4 (R20)."""
     if fault_one(state, waiting=waiting):
         return refused(1, state)
     read = read_table(bytes(table))
@@ -441,20 +415,19 @@ def call_stage(state, waiting, table):
 
 
 def call_withdraw(state):
-    """Withdraw: "nothing waits any more; answers whether one did".  It is
-    lent nothing, so refusal 1 looks at the state alone."""
+    """Withdraw (C11).  It is lent nothing, so refusal 1 looks at the state
+    alone."""
     if fault_one(state):
         return refused(1, state)
     return ("withdrawn", 1 if state.waits else 0), state._replace(waits=0)
 
 
 # ---------------------------------------------------------- the record calls
-# "Record calls 1, 5, 4, 10, 6, 7, 8, 9"
+# C13; order of refusals 1, 5, 4, 10, 6, 7, 8, 9 (R20).
 
 
 def carried(field, revision):
-    """ "A revision carries a field when the field's first revision is not
-    above it." """
+    """V5: does this revision carry the field?"""
     return field.first <= revision
 
 
@@ -467,11 +440,10 @@ def ends_past(fields, revision, limit):
 def layout_fault(row, data):
     """Refusals 7 and 8, in this order, or 0."""
     _, revision, length = block_of(data, 0)
-    # "a body field that its revision carries ends past L, or L is below 14"
+    # R7: the block is too short for its fields
     if length < 14 or ends_past(row.body, revision, length):
         return 7
-    # "the block's row has sub-fields, and either N is over 0 and a carried
-    # sub-field ends past SBLength, or 16 + N x SBLength is over L"
+    # R8: with N = count and SBLength = size
     if row.subs:
         count, size = data[14], data[15]
         if count > 0 and ends_past(row.subs, revision, size):
@@ -490,7 +462,7 @@ def row_for(state, force, data):
     table = read_table(bytes(force[:state.force]))
     if table is None:
         return 4, None
-    # "the bytes given to a record call are not one whole frame"
+    # R10: one whole frame, and nothing more
     if len(data) == 0 or frame_at(data, 0) != len(data):
         return 10, None
     number = block_of(data, 0)[0]
@@ -501,8 +473,7 @@ def row_for(state, force, data):
 
 
 def marked(bits, kind, mark):
-    """Is this value the field's Do-Not-Use value?  "Do-Not-Use is told by
-    bits." """
+    """Is this value the field's Do-Not-Use value (V3, V4)?"""
     width = 8 * SIZES[kind]
     if mark == 1:
         return bits == (1 << width) - 1
@@ -516,8 +487,8 @@ def marked(bits, kind, mark):
 
 
 def value(data, at, kind, mark):
-    """The value of the field at `at`: "unsigned, signed, single float, double
-    float, Do-Not-Use"; floats are given by their bits."""
+    """V7: the value of the field at `at`, or Do-Not-Use; floats are given by
+    their bits (V2)."""
     size = SIZES[kind]
     bits = int.from_bytes(data[at:at + size], "little")
     if marked(bits, kind, mark):
@@ -530,7 +501,7 @@ def value(data, at, kind, mark):
 
 
 def answer_field(fields, index, data, base):
-    """A field by number: refusal 9, "not in this revision" or its value."""
+    """A field by number: refusal 9, that it is not carried, or its value."""
     if index >= len(fields):
         return ("refused", 9)
     field = fields[index]
@@ -556,7 +527,7 @@ def call_sub(state, force, block, index, data):
 
 
 def call_subbytes(state, force, block, data):
-    """ "a sub-block's bytes as a part that starts inside the block" """
+    """C13, T18: a sub-block's bytes."""
     fault, row = row_for(state, force, data)
     if fault:
         return refused(fault, state)
@@ -567,8 +538,7 @@ def call_subbytes(state, force, block, data):
 
 
 def call_time(state, data, at, kind):
-    """ "TOW (u4 at 8) and WNc (u2 at 12) stand in every block with mark 1";
-    "read no table and give only 1, 10 and, for L below 14, 7" """
+    """TOW and WNc (V8); order of refusals 1, 10, 7 (R20)."""
     if fault_one(state):
         return refused(1, state)
     if len(data) == 0 or frame_at(data, 0) != len(data):
@@ -605,7 +575,7 @@ def make_table(version, rows):
 
 
 # --------------------------------------------------------------- rows shipped
-# "Rows shipped", with document 001 for PVTCartesian and BaseVectorCart.
+# T30 to T36, with the newer guide for PVTCartesian and BaseVectorCart.
 
 U1, U2, U4, I2, F4, F8 = 1, 2, 3, 6, 9, 10
 
@@ -644,7 +614,7 @@ def base_vector_sub():
 
 def shipped_rows(reserved=True):
     """All rows shipped, rising; reserved False leaves AttEuler's Reserved row
-    out (the table of before the release in document 00's story)."""
+    out (the table of before the release that RULES.md, D, tells of)."""
     floats = [(F4, 3, 0)]
     attitude = [Field(14, U1, 0, 1), Field(15, U1, 0, 0), Field(16, U2, 0, 0)]
     if reserved:
@@ -670,7 +640,7 @@ def shipped_table(version):
 
 
 def list_run(data):
-    """What the lister prints for the run `data`."""
+    """What the lister prints for the run `data` (S11)."""
     blocks, skipped = read_run(bytes(data))
     lines = ["block %d %d %d %d" % block for block in blocks]
     lines.append("end %d %d %d" % (len(data), len(blocks), skipped))

@@ -1,4 +1,4 @@
--- The rows shipped, as a person writes them (document 01, 'Rows shipped'). Written by tools/table from samples/shipped-v1.table.txt.
+-- The rows shipped, as a person writes them (rules T30 to T36). Written by tools/table from samples/shipped-v1.table.txt.
 -- Assumes nothing.
 use mathlib.Core.List.{List, [], _∷_}
 use Rattle.kinds.specs.Types.{u1, u2, u4, u8, i1, i2, i4, i8, f4, f8}
