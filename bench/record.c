@@ -1,6 +1,5 @@
-/* Single calls by a table, for bench/record to count: record TABLE CALL NUMBER LENGTH prepares the call, with one word more it
-   makes it too. The block has that number and length, and bytes that are 1 behind its time stamps. The status is 0 where the
-   call is not refused. */
+/* Single calls by a table, for bench/record to count: record TABLE CALL NUMBER LENGTH TIMES makes the call so many times. The
+   block has that number and length, and bytes that are 1 behind its time stamps. The status is 0 where no call is refused. */
 #include <stdio.h>
 #include "alderflute.h"
 #include "block.h"
@@ -30,7 +29,7 @@ static unsigned ask(const char *call, alderflute_state s, const uint8_t *b, size
 
 int main(int argc, char **argv)
 {
-    FILE *file = argc > 4 ? fopen(argv[1], "rb") : NULL;
+    FILE *file = argc > 5 ? fopen(argv[1], "rb") : NULL;
     if (!file) return 2;
     size_t size = fread(table, 1, sizeof table, file);
     unsigned number = (unsigned)strtoul(argv[3], NULL, 10), length = (unsigned)strtoul(argv[4], NULL, 10);
@@ -39,5 +38,7 @@ int main(int argc, char **argv)
     alderflute_reply r = alderflute_stage(alderflute_new(), waiting, sizeof waiting, table, size);
     if (strcmp(argv[2], "open")) r = alderflute_open(r.state, in_force, sizeof in_force, waiting, sizeof waiting);
     if (r.answer.refusal != 0) return 1;
-    return argc > 5 ? ask(argv[2], r.state, hold, length, size) != 0 : 0;
+    unsigned refusals = 0;
+    for (unsigned long times = strtoul(argv[5], NULL, 10); times > 0; times--) refusals += ask(argv[2], r.state, hold, length, size);
+    return refusals != 0;
 }

@@ -70,8 +70,8 @@
  *                   there. Each byte more in its piece can add 131,000. With finish it is the same.
  *   body, sub, subbytes   8,000 to 10,000 by the table shipped and blocks of 44 and 272 bytes, 685,000 by a table of 8,192
  *                   bytes and a block of 65,532: each checks the table in force, and the block's CRC.
- *   tow, wnc        730 for a block of 44 bytes, 525,000 for one of 65,532.
- *   stage, open     7,000 for the table shipped, 156,000 for one of 8,192 bytes.
+ *   tow, wnc        850 for a block of 44 bytes, 525,000 for one of 65,532.
+ *   stage, open     7,100 for the table shipped, 156,000 for one of 8,192 bytes.
  * The others look at no bytes.
  *
  * MEMORY. A reader has 81,920 bytes of buffers, and 64 of state. Nothing is called back and nothing recurs, so a call's stack
