@@ -2,6 +2,11 @@
  * Alderflute for C and C++: reads Septentrio's SBF stream. It finds the blocks in a run of bytes and reads their fields by
  * number through a block table. Every call is proved against its definition; crates/capi of the repository has both.
  *
+ * WORDS. A run is the bytes from an open to END; a piece is what one feed is given of it, cut anywhere. A block has a number,
+ * which says what it is, and a revision, which grows as fields are added to it. A table has a row for each block number: where
+ * its fields stand, their types, from which revision on, and which values mean that there is none. Body fields stand once in a
+ * block; a sub-block repeats its fields.
+ *
  * CALLS IN ORDER. alderflute_new once; stage a table; open a run; feed it, and after each BLOCK ask for its bytes and fields;
  * finish until END. Then open the next run. Stage and withdraw may come at any time: a staged table waits for the next open.
  *
@@ -9,8 +14,9 @@
  * alderflute.pc in place, and then `cc .. $(pkg-config --cflags --libs alderflute)` links. The archive is position-independent
  * code for x86-64 Linux and the System V ABI, about 14 kB with its constants. Of a C library it wants memmove and nothing
  * else, so it links into a freestanding program that has one. It allocates nothing, keeps no variables, calls nothing back and
- * starts no threads. It uses the SSE registers and the red zone below the stack pointer. At the start compare alderflute_abi()
- * with ALDERFLUTE_ABI, as the example does: where they differ, header and archive do not belong together.
+ * starts no threads. It uses the SSE registers and the red zone below the stack pointer. This header includes stddef.h and
+ * stdint.h only. At the start compare alderflute_abi() with ALDERFLUTE_ABI, as the example does: where they differ, header and
+ * archive do not belong together.
  *
  * THREADS. Calls of one reader come one after the other, also where they are lent different buffers. Feed and stage, say, both
  * return the next state: of two that begin with the same state, what the one did is lost. Where threads share a reader, one
@@ -19,9 +25,10 @@
  * STATE. A reader is an alderflute_state and its three buffers. alderflute_new() is the only start; a struct of zeros is none:
  * a later version refuses it. The state goes into every call by value. A call that returns an alderflute_reply returns the
  * next state in it: go on with that one, and with no older one. The others (bytes, body, sub, subbytes, tow, wnc) change
- * nothing. Keep the struct where you like, but write nothing into it. Refusal 1 finds those made-up states that its line below
- * names, and no others: any other state is taken at its word, whatever the buffers have in them. A block may then be reported
- * at a place where none was, and END counts what the state says. But no call ever reads or writes past the buffers given.
+ * nothing. The struct has no pointers: keep it where you like, move or save it with the buffers, but write nothing into it.
+ * Of made-up states refusal 1 finds those that its line below names, and no others. Any other is taken at its word: five held
+ * bytes are a standing block where the state says so, places and the counts of END come from the state, and a count that was
+ * close to its bound may pass it, which the next call refuses. But no call reads or writes past the buffers given.
  *
  * BUFFERS. You own every buffer; a call borrows it until it returns, and no pointer is kept after that. Three buffers belong
  * to one reader from alderflute_new on, and between calls nobody else may write to them:
@@ -40,8 +47,8 @@
  *     good until the next feed or finish with that hold, a part of a block as long as the block's bytes.
  *
  * ANSWERS. refusal is 0 where the call was done, else the number of the refusal; kind says which values are set. All other
- * values are 0. A refused call returns the state that it was given and has written nothing, so a block that stood before a
- * refused feed stands after it. The same arguments and bytes give the same answer.
+ * values are 0. A refused call returns the state that it was given and has written nothing: go on as if it had not been made. A
+ * block that stood before a refused feed stands after it. The same arguments and bytes give the same answer.
  *
  * REFUSALS. The numbers have names, ALDERFLUTE_REFUSAL_.., and alderflute_refusal_text gives a line for a log.
  *    1  BAD_BUFFER. A buffer of the reader is shorter than above, or a number in the state is out of bounds: phase is above
@@ -272,7 +279,8 @@ uint32_t alderflute_abi(void);
 alderflute_state alderflute_new(void);
 
 /* Opens a run. A table that waits is copied to the in-force store first, and waits no more. The counts begin at 0, and the
-   hold counts as empty. TABLE_VERSION: of the table in force from now on. Field numbers belong to a version. */
+   hold counts as empty. TABLE_VERSION: of the table in force from now on. Field numbers belong to a version: where it is not
+   the one that yours were taken from (ALDERFLUTE_NAMES_VERSION of a header by `tools/table c`), ask for no fields by them. */
 alderflute_reply alderflute_open(alderflute_state state, uint8_t *in_force, size_t in_force_length, const uint8_t *waiting,
                                  size_t waiting_length);
 
