@@ -312,15 +312,16 @@ def installed(env):
 
 
 def flags_of(env, folder):
-    """The compiler's and the linker's flags of alderflute.pc: by pkg-config, or read where there is none."""
-    if shutil.which("pkg-config"):
-        both = [ran(["pkg-config", word, "alderflute"], dict(env, PKG_CONFIG_PATH=folder)) for word in ("--cflags", "--libs")]
-        expect("pkg-config finds alderflute.pc", all(one[0] == 0 for one in both), both[0][2])
-        return [one[1].decode().split() for one in both]
+    """The compiler's and the linker's flags of alderflute.pc; where there is pkg-config, it is to say the same."""
     text = read(os.path.join(folder, "alderflute.pc"))
-    for name, value in re.findall(r"^(\w+)=(.*)$", text, re.M):
-        text = text.replace("${%s}" % name, value)
-    return [re.search(rf"^{key}: (.*)$", text, re.M)[1].split() for key in ("Cflags", "Libs")]
+    values = dict(re.findall(r"^(\w+)=(.*)$", text, re.M))
+    while "${" in text:
+        text = re.sub(r"\$\{(\w+)\}", lambda m: values[m[1]], text)
+    flags = [re.search(rf"^{key}: (.*)$", text, re.M)[1].split() for key in ("Cflags", "Libs")]
+    if shutil.which("pkg-config"):
+        said = [ran(["pkg-config", word, "alderflute"], dict(env, PKG_CONFIG_PATH=folder))[1].decode().split() for word in ("--cflags", "--libs")]
+        expect("pkg-config reads alderflute.pc", said == flags, said)
+    return flags
 
 
 def stack(env):
