@@ -2,13 +2,33 @@
  * Alderflute for C and C++: reads Septentrio's SBF stream. It finds the blocks in a run of bytes and reads their fields by
  * number through a block table. Every call is proved against its definition; crates/capi of the repository has both.
  *
- * LINKING. tools/capi builds target/staticlib/libcapi.a: code for x86-64 Linux that follows the System V ABI. Of a C library
- * it wants memmove and nothing else. It allocates nothing, keeps no variables between calls and starts no threads, so two
- * readers do not know of each other, and calls on different buffers may run at the same time.
+ * WORDS. A run is the bytes from an open to END; a piece is what one feed is given of it, cut anywhere. A block has a number,
+ * which says what it is, and a revision, which grows as fields are added to it. A table has a row for each block number: where
+ * its fields stand, their types, from which revision on, and which values mean that there is none. Body fields stand once in a
+ * block; a sub-block repeats its fields.
  *
- * STATE. alderflute_state goes into every call by value. A call that can change it returns the new one in its reply; go on
- * with that one. The others (bytes, body, sub, subbytes, tow, wnc) change nothing. Keep the struct where you like and copy
- * it as you like, but do not write into it: a state that does not hold together is refused with 1.
+ * CALLS IN ORDER. alderflute_new once; stage a table; open a run; feed it, and after each BLOCK ask for its bytes and fields;
+ * finish until END. Then open the next run. Stage and withdraw may come at any time: a staged table waits for the next open.
+ *
+ * LINKING. tools/capi, or make, builds target/staticlib/libalderflute.a; `make install PREFIX=..` puts header, archive and
+ * alderflute.pc in place, and then `cc .. $(pkg-config --cflags --libs alderflute)` links. The archive is position-independent
+ * code for x86-64 Linux and the System V ABI, about 14 kB with its constants. Of a C library it wants memmove and nothing
+ * else, so it links into a freestanding program that has one. It allocates nothing, keeps no variables, calls nothing back and
+ * starts no threads. It uses the SSE registers and the red zone below the stack pointer. This header includes stddef.h and
+ * stdint.h only. At the start compare alderflute_abi() with ALDERFLUTE_ABI, as the example does: where they differ, header and
+ * archive do not belong together.
+ *
+ * THREADS. Calls of one reader come one after the other, also where they are lent different buffers. Feed and stage, say, both
+ * return the next state: of two that begin with the same state, what the one did is lost. Where threads share a reader, one
+ * lock goes around each call and the keeping of its state. Calls of different readers may run at the same time.
+ *
+ * STATE. A reader is an alderflute_state and its three buffers. alderflute_new() is the only start; a struct of zeros is none:
+ * a later version refuses it. The state goes into every call by value. A call that returns an alderflute_reply returns the
+ * next state in it: go on with that one, and with no older one. The others (bytes, body, sub, subbytes, tow, wnc) change
+ * nothing. The struct has no pointers: keep it where you like, move or save it with the buffers, but write nothing into it.
+ * Of made-up states refusal 1 finds those that its line below names, and no others. Any other is taken at its word: five held
+ * bytes are a standing block where the state says so, places and the counts of END come from the state, and a count that was
+ * close to its bound may pass it, which the next call refuses. But no call reads or writes past the buffers given.
  *
  * BUFFERS. You own every buffer; a call borrows it until it returns, and no pointer is kept after that. Three buffers belong
  * to one reader from alderflute_new on, and between calls nobody else may write to them:
@@ -22,73 +42,84 @@
  *   - No buffer that a call writes may overlap another argument of that call: not the hold and the piece, not the in-force
  *     and the waiting store, not the waiting store and the table to be staged. Nothing checks this.
  *   - A buffer is a pointer and a length in bytes; all of these bytes must be there. With length 0 any pointer will do, NULL
- *     too.
+ *     too. No alignment is asked for.
  *   - A part that is handed back is an offset and a length in the buffer that you gave. It is no copy: a part of the hold is
  *     good until the next feed or finish with that hold, a part of a block as long as the block's bytes.
  *
  * ANSWERS. refusal is 0 where the call was done, else the number of the refusal; kind says which values are set. All other
- * values are 0. A refused call returns the old state and has written nothing; after a refused feed the last block still
- * stands. The same arguments and bytes give the same answer.
+ * values are 0. A refused call returns the state that it was given and has written nothing: go on as if it had not been made. A
+ * block that stood before a refused feed stands after it. The same arguments and bytes give the same answer.
  *
- * REFUSALS
- *    1  A buffer of the reader is too short, or the state does not hold together: over 65,532 held bytes, more held than
- *       taken, a standing block longer than the held bytes, a table length over 8,192, over 4,294,967,295 taken, blocks or
- *       skipped above taken, or a phase over 2.
- *    2  Out of turn: open in an open run, feed without one or after the first finish, finish without one.
- *    3  The run is full: it has 4,294,967,295 bytes, the held bytes give no block and the piece is not empty.
- *    4  The table breaks a rule: the one to be staged, the one to be opened or the one in force.
- *    5  No table: open with none waiting and none in force, or a field or a sub-block asked for with none in
- *       force.
- *    6  The table has no row for the block's number.
- *    7  The block is too short: a body field that its revision carries ends past its end, or it is below 14 bytes.
- *    8  The sub-blocks do not fit: one is shorter than the fields that its revision carries, or they end past the block's
- *       end.
- *    9  No such field or no such sub-block.
- *   10  The bytes given are not one whole block: sync bytes, length and CRC do not all fit them.
+ * REFUSALS. The numbers have names, ALDERFLUTE_REFUSAL_.., and alderflute_refusal_text gives a line for a log.
+ *    1  BAD_BUFFER. A buffer of the reader is shorter than above, or a number in the state is out of bounds: phase is above
+ *       2; held above 65,532, above taken or below standing; in_force or waiting above 8,192; taken above 4,294,967,295;
+ *       blocks or skipped above taken.
+ *    2  OUT_OF_TURN. open while a run is open; feed or finish while none is; feed once finish was called.
+ *    3  RUN_FULL. feed: the run has had its 4,294,967,295 bytes, and no block is left among those held. Only an empty piece
+ *       is taken then.
+ *    4  BAD_TABLE. The table breaks a rule: the one to be staged, the one to be opened or the one in force.
+ *    5  NO_TABLE. open with none waiting and none in force; body, sub and subbytes with none in force.
+ *    6  NO_ROW. The table has no row for the block's number.
+ *    7  TOO_SHORT. The block ends before the body that its revision has by the row, or has fewer than 14 bytes.
+ *    8  BAD_SUB_BLOCKS. The block's sub-blocks are shorter than the fields that its revision has by the row, or end past
+ *       the block's end.
+ *    9  NO_SUCH_FIELD. The row has no field of that number, or the block no such sub-block.
+ *   10  NOT_ONE_FRAME. What was given as a block is not exactly one: sync bytes, length and CRC do not all fit it.
  * Where several hold, open gives the first of 1, 2, 5, 4; feed of 1, 2, 3; finish of 1, 2; bytes and withdraw 1; stage of
  * 1, 4; body, sub and subbytes of 1, 5, 4, 10, 6, 7, 8, 9; tow and wnc of 1, 10, 7.
  *
+ * TIME. No call waits, and every call ends. How long it takes is measured and not promised: x86-64 instructions, counted by
+ * bench/worst and bench/record of the repository with the kit that its README names.
+ *   feed            1,300 for a block of 44 bytes in one piece, 525,000 for the last byte of a block of 65,532.
+ *                   A header in noise holds back as many bytes as its length says, up to 65,532, and the feed that ends it
+ *                   decides all of them: 600,000 where they are zeros, but 4,570,000,000 where they are full of such
+ *                   headers, the dearest that we could make: 1.4 s on one core of an Intel Xeon. Smaller pieces do not help
+ *                   there. Each byte more in its piece can add 131,000. With finish it is the same.
+ *   body, sub, subbytes   8,000 to 10,000 by the table shipped and blocks of 44 and 272 bytes, 685,000 by a table of 8,192
+ *                   bytes and a block of 65,532: each checks the table in force, and the block's CRC.
+ *   tow, wnc        850 for a block of 44 bytes, 525,000 for one of 65,532.
+ *   stage, open     7,100 for the table shipped, 156,000 for one of 8,192 bytes.
+ * The others look at no bytes.
+ *
+ * MEMORY. A reader has 81,920 bytes of buffers, and 64 of state. Nothing is called back and nothing recurs, so a call's stack
+ * does not grow with its input. The deepest measured is feed's, 1,360 bytes, with what its caller has there for arguments and
+ * reply: tests/capi/stack.c paints the stack and looks how far down the paint is gone.
+ *
  * EXAMPLE (samples/example.c)
  *
- *     // Lists the blocks of the SBF on standard input, with time of week and, of AttEuler, the heading: example TABLE <FILE
+ *     // Lists the blocks of the SBF on standard input, with time of week and, of AttEuler, the heading: example <FILE
  *     #include <stdio.h>
  *     #include <string.h>
  *     #include "alderflute.h"
+ *     #include "shipped-v1.table.h" // a table and its names, as `tools/table c` writes them
  *
  *     static uint8_t hold[ALDERFLUTE_HOLD], in_force[ALDERFLUTE_STORE], waiting[ALDERFLUTE_STORE];
  *
- *     // A block that was just reported: its bytes stand in the hold until the next Feed or Finish.
+ *     // A float comes as bits.
+ *     static double degrees(uint64_t bits)
+ *     {
+ *         uint32_t low = (uint32_t)bits;
+ *         float f;
+ *         memcpy(&f, &low, sizeof f);
+ *         return (double)f;
+ *     }
+ *
+ *     // A block that was just reported: its bytes stand in the hold until the next feed or finish.
  *     static void show(alderflute_state state, alderflute_block b)
  *     {
  *         alderflute_part part = alderflute_bytes(state, hold, sizeof hold);
  *         const uint8_t *block = hold + part.offset;
- *         alderflute_field tow = alderflute_tow(state, block, part.length);
- *         // In the table shipped, field 4 of AttEuler is Heading.
- *         alderflute_field heading = alderflute_body(state, in_force, sizeof in_force, block, part.length, 4);
+ *         alderflute_field tow = alderflute_tow(state, block, part.length), heading = {0};
+ *         if (b.number == ALDERFLUTE_ATTEULER)
+ *             heading = alderflute_body(state, in_force, sizeof in_force, block, part.length, ALDERFLUTE_ATTEULER_HEADING);
  *         printf("block %llu %u %u %llu", (unsigned long long)b.place, b.number, b.revision, (unsigned long long)b.length);
  *         if (tow.kind == ALDERFLUTE_UNSIGNED) printf(" tow %llu", (unsigned long long)tow.number);
- *         if (b.number == 5938 && heading.kind == ALDERFLUTE_SINGLE) {
- *             uint32_t bits = (uint32_t)heading.bits;
- *             float degrees;
- *             memcpy(&degrees, &bits, sizeof degrees);
- *             printf(" heading %.3f", (double)degrees);
- *         }
+ *         if (heading.kind == ALDERFLUTE_SINGLE) printf(" heading %.3f", degrees(heading.bits));
  *         printf("\n");
  *     }
  *
- *     // Reads a table file. One byte more than a store has room for, so that a file that is too long is refused and not cut.
- *     static int read_table(const char *name, uint8_t *table, size_t *length)
- *     {
- *         FILE *file = fopen(name, "rb");
- *         if (file == NULL) return 0;
- *         *length = fread(table, 1, ALDERFLUTE_STORE + 1, file);
- *         int good = !ferror(file);
- *         fclose(file);
- *         return good;
- *     }
- *
- *     // Feeds a piece until all of it is taken and no block is left in it. MORE with a rest: the run is full, and the next feed
- *     // is refused.
+ *     // Feeds a piece until all of it is taken and no block is left in it. MORE with a rest: the run is full, and the next
+ *     // feed is refused.
  *     static alderflute_reply feed_all(alderflute_reply r, const uint8_t *piece, size_t n)
  *     {
  *         size_t at = 0;
@@ -100,15 +131,16 @@
  *         return r;
  *     }
  *
- *     int main(int argc, char **argv)
+ *     int main(void)
  *     {
- *         uint8_t table[ALDERFLUTE_STORE + 1], piece[4096];
+ *         uint8_t piece[4096];
  *         size_t n;
- *         if (argc != 2 || !read_table(argv[1], table, &n)) {
- *             fprintf(stderr, "usage: example TABLE <FILE, with a block table that can be read\n");
+ *         if (alderflute_abi() != ALDERFLUTE_ABI) {
+ *             fprintf(stderr, "example: alderflute.h and libalderflute.a do not belong together\n");
  *             return 2;
  *         }
- *         alderflute_reply r = alderflute_stage(alderflute_new(), waiting, sizeof waiting, table, n);
+ *         alderflute_state new_one = alderflute_new();
+ *         alderflute_reply r = alderflute_stage(new_one, waiting, sizeof waiting, alderflute_table, sizeof alderflute_table);
  *         if (r.answer.refusal == 0) r = alderflute_open(r.state, in_force, sizeof in_force, waiting, sizeof waiting);
  *         while (r.answer.refusal == 0 && (n = fread(piece, 1, sizeof piece, stdin)) > 0) r = feed_all(r, piece, n);
  *         if (ferror(stdin)) {
@@ -120,7 +152,7 @@
  *             if (r.answer.kind == ALDERFLUTE_BLOCK) show(r.state, r.answer.block);
  *         }
  *         if (r.answer.refusal != 0) {
- *             fprintf(stderr, "example: refused with %u; alderflute.h says what that means\n", (unsigned)r.answer.refusal);
+ *             fprintf(stderr, "example: refused: %s\n", alderflute_refusal_text(r.answer.refusal));
  *             return 1;
  *         }
  *         printf("end %llu %llu %llu\n", (unsigned long long)r.answer.end.bytes, (unsigned long long)r.answer.end.blocks,
@@ -138,6 +170,9 @@
 extern "C" {
 #endif
 
+/* The number of this interface. It rises where a program that was compiled with an older header would go wrong. */
+#define ALDERFLUTE_ABI 1
+
 /* The least lengths of the lent buffers. */
 #define ALDERFLUTE_HOLD 65536
 #define ALDERFLUTE_STORE 8192
@@ -148,12 +183,12 @@ extern "C" {
 #define ALDERFLUTE_FINISHING 2
 
 /* Kinds of an alderflute_answer. */
-#define ALDERFLUTE_REFUSED 0   /* refusal: the number; also the kind of a refused alderflute_field */
-#define ALDERFLUTE_VERSION 1   /* version */
-#define ALDERFLUTE_BLOCK 2     /* block; from feed also taken */
-#define ALDERFLUTE_MORE 3      /* taken: no block is decided yet */
-#define ALDERFLUTE_END 4       /* end: the run is closed */
-#define ALDERFLUTE_WITHDRAWN 5 /* waited */
+#define ALDERFLUTE_REFUSED 0       /* refusal: the number; also the kind of a refused alderflute_field */
+#define ALDERFLUTE_TABLE_VERSION 1 /* version: of the table that open brought in force, or that stage took */
+#define ALDERFLUTE_BLOCK 2         /* block; from feed also taken */
+#define ALDERFLUTE_MORE 3          /* taken: no block is decided yet */
+#define ALDERFLUTE_END 4           /* end: the run is closed */
+#define ALDERFLUTE_WITHDRAWN 5     /* waited */
 
 /* Kinds of an alderflute_field. */
 #define ALDERFLUTE_UNSIGNED 1   /* number */
@@ -163,7 +198,21 @@ extern "C" {
 #define ALDERFLUTE_DO_NOT_USE 5 /* the block says that the field has no value */
 #define ALDERFLUTE_NOT_IN_REVISION 6 /* the block's revision does not carry the field */
 
-/* A reader. Its table lengths are 0 where no table is in force, or none waits. */
+/* Refusals. Later versions may have more. */
+enum alderflute_refusal {
+    ALDERFLUTE_REFUSAL_BAD_BUFFER = 1,
+    ALDERFLUTE_REFUSAL_OUT_OF_TURN = 2,
+    ALDERFLUTE_REFUSAL_RUN_FULL = 3,
+    ALDERFLUTE_REFUSAL_BAD_TABLE = 4,
+    ALDERFLUTE_REFUSAL_NO_TABLE = 5,
+    ALDERFLUTE_REFUSAL_NO_ROW = 6,
+    ALDERFLUTE_REFUSAL_TOO_SHORT = 7,
+    ALDERFLUTE_REFUSAL_BAD_SUB_BLOCKS = 8,
+    ALDERFLUTE_REFUSAL_NO_SUCH_FIELD = 9,
+    ALDERFLUTE_REFUSAL_NOT_ONE_FRAME = 10
+};
+
+/* A reader's state, 64 bytes. Its table lengths are 0 where no table is in force, or none waits. */
 typedef struct alderflute_state {
     uint64_t phase;
     uint64_t held;     /* bytes of the hold that count, a standing block first */
@@ -200,6 +249,7 @@ typedef struct alderflute_answer {
     alderflute_end end;
 } alderflute_answer;
 
+/* What a call leaves and answers, 136 bytes. */
 typedef struct alderflute_reply {
     alderflute_state state;
     alderflute_answer answer;
@@ -222,18 +272,22 @@ typedef struct alderflute_part {
     uint64_t length;
 } alderflute_part;
 
+/* ALDERFLUTE_ABI of the header that the archive was made for. */
+uint32_t alderflute_abi(void);
+
 /* A new reader: no run, no table. Not refused. */
 alderflute_state alderflute_new(void);
 
 /* Opens a run. A table that waits is copied to the in-force store first, and waits no more. The counts begin at 0, and the
-   hold counts as empty. VERSION of the table in force. */
+   hold counts as empty. TABLE_VERSION: of the table in force from now on. Field numbers belong to a version: where it is not
+   the one that yours were taken from (ALDERFLUTE_NAMES_VERSION of a header by `tools/table c`), ask for no fields by them. */
 alderflute_reply alderflute_open(alderflute_state state, uint8_t *in_force, size_t in_force_length, const uint8_t *waiting,
                                  size_t waiting_length);
 
-/* Drops the block last reported and takes bytes of the piece until a block is decided, the piece is spent or the run has
-   4,294,967,295 bytes. BLOCK or MORE, each with taken. After BLOCK call again with the rest of the piece, which may be empty,
-   until MORE or a refusal. MORE with less than the piece taken: the run is full, and the next feed that is not empty is
-   refused with 3. */
+/* Drops the block last reported and takes bytes of the piece, up to a block that they end, up to the end of the piece, or up
+   to 4,294,967,295 bytes in the run. BLOCK or MORE, each with taken. After BLOCK call again with the rest of the piece, which
+   may be empty, until MORE or a refusal. MORE with less than the piece taken: the run is full, and the next feed that is not
+   empty is refused with 3. */
 alderflute_reply alderflute_feed(alderflute_state state, uint8_t *hold, size_t hold_length, const uint8_t *piece,
                                  size_t piece_length);
 
@@ -244,15 +298,17 @@ alderflute_reply alderflute_finish(alderflute_state state, uint8_t *hold, size_t
 /* The block last reported, as a part of the hold; a part of length 0 where none stands. */
 alderflute_part alderflute_bytes(alderflute_state state, const uint8_t *hold, size_t hold_length);
 
-/* Checks a table and copies it to the waiting store, in place of any that waits. VERSION of that table. At any time: an open
-   run goes on with its own table. */
+/* Checks a table and copies it to the waiting store, in place of any that waits. TABLE_VERSION: of that table. At any time: an
+   open run goes on with its own table. `tools/table make` writes a table's file, `tools/table c` a C header with its bytes
+   and with names for its numbers. */
 alderflute_reply alderflute_stage(alderflute_state state, uint8_t *waiting, size_t waiting_length, const uint8_t *table,
                                   size_t table_length);
 
 /* No table waits any more. WITHDRAWN, with whether one did. At any time. */
 alderflute_reply alderflute_withdraw(alderflute_state state);
 
-/* A body field of a block, by its number in the row: 0 is the first. */
+/* A body field of a block, by its number in the row: 0 is the first. The block is what alderflute_bytes handed back, or a copy
+   of it. */
 alderflute_field alderflute_body(alderflute_state state, const uint8_t *in_force, size_t in_force_length, const uint8_t *block,
                                  size_t block_length, size_t field);
 
@@ -269,6 +325,25 @@ alderflute_field alderflute_tow(alderflute_state state, const uint8_t *block, si
 
 /* The week number of a block (WNc), UNSIGNED or DO_NOT_USE; by no table. */
 alderflute_field alderflute_wnc(alderflute_state state, const uint8_t *block, size_t block_length);
+
+/* What to do about a refusal, in a line for people; a text is there for every number. */
+static inline const char *alderflute_refusal_text(uint32_t refusal)
+{
+    switch (refusal) {
+    case 0: return "not refused";
+    case ALDERFLUTE_REFUSAL_BAD_BUFFER: return "a buffer is too short or the state made up: go on with the last reply's state";
+    case ALDERFLUTE_REFUSAL_OUT_OF_TURN: return "out of turn: open a run, feed it, finish it until END, then open the next";
+    case ALDERFLUTE_REFUSAL_RUN_FULL: return "the run is full: finish it and open the next";
+    case ALDERFLUTE_REFUSAL_BAD_TABLE: return "the table breaks a rule: `tools/table show FILE` says which";
+    case ALDERFLUTE_REFUSAL_NO_TABLE: return "there is no table: stage one, then open a run";
+    case ALDERFLUTE_REFUSAL_NO_ROW: return "the table has no row for this block: pass it by, or stage a table that has";
+    case ALDERFLUTE_REFUSAL_TOO_SHORT: return "the block is too short for its row: pass it by";
+    case ALDERFLUTE_REFUSAL_BAD_SUB_BLOCKS: return "the sub-blocks do not fit their row or their block: pass it by";
+    case ALDERFLUTE_REFUSAL_NO_SUCH_FIELD: return "no such field or sub-block: see the table, and the block's N";
+    case ALDERFLUTE_REFUSAL_NOT_ONE_FRAME: return "no whole block: give the part that alderflute_bytes hands back";
+    default: return "a refusal that this header does not know: header and archive do not belong together";
+    }
+}
 
 #ifdef __cplusplus
 }

@@ -1,42 +1,36 @@
-// Lists the blocks of the SBF on standard input, with time of week and, of AttEuler, the heading: example TABLE <FILE
+// Lists the blocks of the SBF on standard input, with time of week and, of AttEuler, the heading: example <FILE
 #include <stdio.h>
 #include <string.h>
 #include "alderflute.h"
+#include "shipped-v1.table.h" // a table and its names, as `tools/table c` writes them
 
 static uint8_t hold[ALDERFLUTE_HOLD], in_force[ALDERFLUTE_STORE], waiting[ALDERFLUTE_STORE];
 
-// A block that was just reported: its bytes stand in the hold until the next Feed or Finish.
+// A float comes as bits.
+static double degrees(uint64_t bits)
+{
+    uint32_t low = (uint32_t)bits;
+    float f;
+    memcpy(&f, &low, sizeof f);
+    return (double)f;
+}
+
+// A block that was just reported: its bytes stand in the hold until the next feed or finish.
 static void show(alderflute_state state, alderflute_block b)
 {
     alderflute_part part = alderflute_bytes(state, hold, sizeof hold);
     const uint8_t *block = hold + part.offset;
-    alderflute_field tow = alderflute_tow(state, block, part.length);
-    // In the table shipped, field 4 of AttEuler is Heading.
-    alderflute_field heading = alderflute_body(state, in_force, sizeof in_force, block, part.length, 4);
+    alderflute_field tow = alderflute_tow(state, block, part.length), heading = {0};
+    if (b.number == ALDERFLUTE_ATTEULER)
+        heading = alderflute_body(state, in_force, sizeof in_force, block, part.length, ALDERFLUTE_ATTEULER_HEADING);
     printf("block %llu %u %u %llu", (unsigned long long)b.place, b.number, b.revision, (unsigned long long)b.length);
     if (tow.kind == ALDERFLUTE_UNSIGNED) printf(" tow %llu", (unsigned long long)tow.number);
-    if (b.number == 5938 && heading.kind == ALDERFLUTE_SINGLE) {
-        uint32_t bits = (uint32_t)heading.bits;
-        float degrees;
-        memcpy(&degrees, &bits, sizeof degrees);
-        printf(" heading %.3f", (double)degrees);
-    }
+    if (heading.kind == ALDERFLUTE_SINGLE) printf(" heading %.3f", degrees(heading.bits));
     printf("\n");
 }
 
-// Reads a table file. One byte more than a store has room for, so that a file that is too long is refused and not cut.
-static int read_table(const char *name, uint8_t *table, size_t *length)
-{
-    FILE *file = fopen(name, "rb");
-    if (file == NULL) return 0;
-    *length = fread(table, 1, ALDERFLUTE_STORE + 1, file);
-    int good = !ferror(file);
-    fclose(file);
-    return good;
-}
-
-// Feeds a piece until all of it is taken and no block is left in it. MORE with a rest: the run is full, and the next feed
-// is refused.
+// Feeds a piece until all of it is taken and no block is left in it. MORE with a rest: the run is full, and the next
+// feed is refused.
 static alderflute_reply feed_all(alderflute_reply r, const uint8_t *piece, size_t n)
 {
     size_t at = 0;
@@ -48,15 +42,16 @@ static alderflute_reply feed_all(alderflute_reply r, const uint8_t *piece, size_
     return r;
 }
 
-int main(int argc, char **argv)
+int main(void)
 {
-    uint8_t table[ALDERFLUTE_STORE + 1], piece[4096];
+    uint8_t piece[4096];
     size_t n;
-    if (argc != 2 || !read_table(argv[1], table, &n)) {
-        fprintf(stderr, "usage: example TABLE <FILE, with a block table that can be read\n");
+    if (alderflute_abi() != ALDERFLUTE_ABI) {
+        fprintf(stderr, "example: alderflute.h and libalderflute.a do not belong together\n");
         return 2;
     }
-    alderflute_reply r = alderflute_stage(alderflute_new(), waiting, sizeof waiting, table, n);
+    alderflute_state new_one = alderflute_new();
+    alderflute_reply r = alderflute_stage(new_one, waiting, sizeof waiting, alderflute_table, sizeof alderflute_table);
     if (r.answer.refusal == 0) r = alderflute_open(r.state, in_force, sizeof in_force, waiting, sizeof waiting);
     while (r.answer.refusal == 0 && (n = fread(piece, 1, sizeof piece, stdin)) > 0) r = feed_all(r, piece, n);
     if (ferror(stdin)) {
@@ -68,7 +63,7 @@ int main(int argc, char **argv)
         if (r.answer.kind == ALDERFLUTE_BLOCK) show(r.state, r.answer.block);
     }
     if (r.answer.refusal != 0) {
-        fprintf(stderr, "example: refused with %u; alderflute.h says what that means\n", (unsigned)r.answer.refusal);
+        fprintf(stderr, "example: refused: %s\n", alderflute_refusal_text(r.answer.refusal));
         return 1;
     }
     printf("end %llu %llu %llu\n", (unsigned long long)r.answer.end.bytes, (unsigned long long)r.answer.end.blocks,

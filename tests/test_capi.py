@@ -1,6 +1,7 @@
 #!/usr/bin/env python3
-"""The C interface: the header as C and as C++, the example, odd states, and scripts played by tests/capi/play.c and by the
-program replay, whose output is to be the same byte for byte. All C is built with the kit's own clang and ld.lld.
+"""The C interface: the header as C and as C++, what is in the archive, the example, also from an installed copy, odd states, the
+depth of the stack, and scripts played by tests/capi/play.c and by the program replay, whose output is to be the same byte for
+byte. All C is built with the kit's own clang and ld.lld.
 
 test_capi.py         run all cases
 test_capi.py SEED    write the script of one seed to standard output
@@ -10,16 +11,18 @@ import glob
 import os
 import random
 import re
+import shutil
 import struct
 import subprocess
 import sys
+import tempfile
 from concurrent.futures import ThreadPoolExecutor
 
 import programs
 from programs import TOP
 
 BUILT = os.path.join(TOP, "target", "capi")
-ARCHIVE = os.path.join(TOP, "target", "staticlib", "libcapi.a")
+ARCHIVE = os.path.join(TOP, "target", "staticlib", "libalderflute.a")
 REPLAY = os.path.join(TOP, "target", "bin", "replay")
 HEADER = os.path.join(TOP, "include", "alderflute.h")
 EXAMPLE = os.path.join(TOP, "samples", "example.c")
@@ -182,18 +185,30 @@ def script(seed):
 # ---- the parts of the test
 
 def build(env):
-    """The archive, and the three programs."""
+    """The archive, and the programs."""
     status, _, error = ran([os.path.join(TOP, "tools", "capi")], env)
     if not expect("tools/capi builds the archive", status == 0 and os.path.exists(ARCHIVE), error.decode(errors="replace")[-2000:]):
         return False
     os.makedirs(BUILT, exist_ok=True)
-    kit = dict(env, KIT="1", CFLAGS=" ".join(["-O2", "-std=c99"] + CFLAGS))
-    for source in [EXAMPLE] + [os.path.join(TOP, "tests", "capi", name + ".c") for name in ("play", "odd")]:
-        program = os.path.join(BUILT, os.path.basename(source)[:-2])
-        status, _, error = ran([os.path.join(TOP, "tools", "x86cc"), "-o", program, source, ARCHIVE], kit)
-        if not expect(f"{os.path.basename(source)} compiles and links", status == 0, error.decode(errors="replace")):
+    for source in [EXAMPLE] + [os.path.join(TOP, "tests", "capi", name + ".c") for name in ("play", "odd", "stack")]:
+        if not compiled(env, source, os.path.join(BUILT, os.path.basename(source)[:-2]), CFLAGS, [ARCHIVE]):
             return False
     return True
+
+
+def compiled(env, source, program, flags, libraries):
+    """Whether a C file compiles and links."""
+    kit = dict(env, KIT="1", CFLAGS=" ".join(["-O2", "-std=c99"] + flags))
+    status, _, error = ran([os.path.join(TOP, "tools", "x86cc"), "-o", program, source] + libraries, kit)
+    return expect(f"{os.path.basename(source)} compiles and links", status == 0, error.decode(errors="replace"))
+
+
+def syntax(env, name, language, standard):
+    """What clang says of a C file."""
+    clang = os.path.join(env["RATTLE_HOME"], "on", os.uname().machine, "toolchain", "bin", "clang")
+    words = [clang, "--target=x86_64-unknown-linux-gnu", "-x", language, "-std=" + standard, "-fsyntax-only"] + CFLAGS
+    status, _, error = ran(words + [name], env)
+    return "" if status == 0 else error.decode(errors="replace")
 
 
 def header(env):
@@ -201,27 +216,132 @@ def header(env):
     one = os.path.join(BUILT, "header.c")
     with open(one, "w", encoding="ascii") as f:
         f.write('#include "alderflute.h"\n')
-    clang = os.path.join(env["RATTLE_HOME"], "on", os.uname().machine, "toolchain", "bin", "clang")
     for language, standard in [("c", "c99"), ("c", "c11"), ("c++", "c++11"), ("c++", "c++17")]:
-        words = [clang, "--target=x86_64-unknown-linux-gnu", "-x", language, "-std=" + standard, "-fsyntax-only"] + CFLAGS
-        status, _, error = ran(words + [one], env)
-        expect(f"alderflute.h is {standard}", status == 0, error.decode(errors="replace"))
+        said = syntax(env, one, language, standard)
+        expect(f"alderflute.h is {standard}", said == "", said)
+    for language, standard in [("c", "c11"), ("c++", "c++11")]:
+        said = syntax(env, os.path.join(TOP, "tests", "capi", "sizes.c"), language, standard)
+        expect(f"the structs' sizes in {standard}", said == "", said)
     text = read(HEADER)
     shown = "".join(line[7:] + "\n" for line in text.split("EXAMPLE")[1].split("\n */")[0].split("\n")[2:])
     expect("the header's example is samples/example.c", shown == read(EXAMPLE))
     listed = re.findall(r"^ \* +(\d+)  \S", text, re.M)
     expect("the header has a sentence for each refusal", listed == [str(n) for n in range(1, 11)], listed)
-    exported = set()
-    for path in glob.glob(os.path.join(TOP, "crates", "capi", "src", "*.rt")):
-        exported |= set(re.findall(r'extern "C" fn (\w+)', read(path)))
-    declared = set(re.findall(r"^alderflute_\w+ (alderflute_\w+)\(", text, re.M))
-    expect("the header declares what the crate exports", exported == declared and len(exported) == 12, exported ^ declared)
+    names = re.findall(r"^    ALDERFLUTE_REFUSAL_(\w+) = (\d+),?$", text, re.M)
+    numbers = re.findall(r"Refusal::(\w+) => (\d+),", read(os.path.join(TOP, "crates", "refusal", "src", "lib.rt")))
+    wanted = [(re.sub(r"(?<!^)([A-Z])", r"_\1", name).upper(), n) for name, n in numbers]
+    expect("the header's refusals are those of the crate refusal", names == wanted and len(names) == 10, names)
+    told = re.findall(r"^ \* +(\d+)  ([A-Z_]+)\. ", text, re.M)
+    expect("the header's sentences name them", [(name, n) for n, name in told] == wanted, told)
+    exported = exports()
+    declared = set(re.findall(r"^\w+ (alderflute_\w+)\(", text, re.M))
+    expect("the header declares what the crate exports", exported == declared and len(exported) == 13, exported ^ declared)
 
 
-def example(env):
-    """The example on the flight line: the lister's lines, each with what the block's bytes have."""
-    data = read(os.path.join(TOP, "samples", "flight.sbf"), "rb")
-    want = []
+def exports():
+    """The names of the functions that the crate gives to C."""
+    return {name for path in glob.glob(os.path.join(TOP, "crates", "capi", "src", "*.rt"))
+            for name in re.findall(r'extern "C" fn (\w+)', read(path))}
+
+
+def members(archive):
+    """The object files of an archive."""
+    at = 8
+    while at < len(archive):
+        name, size = archive[at:at + 16].rstrip(), int(archive[at + 48:at + 58])
+        if name not in (b"/", b"//"):
+            yield archive[at + 60:at + 60 + size]
+        at += 60 + size + size % 2
+
+
+def symbols(elf):
+    """The sections of a 64-bit object file, as (type, flags, bytes, link), and its symbols, as (name, binding, section)."""
+    start, = struct.unpack_from("<Q", elf, 40)
+    size, count = struct.unpack_from("<HH", elf, 58)
+    sections = []
+    for n in range(count):
+        _, kind, flags, _, at, long, link = struct.unpack_from("<IIQQQQI", elf, start + size * n)
+        sections.append((kind, flags, elf[at:at + long] if kind != 8 else bytes(long), link))
+    found = []
+    for _, _, data, link in (s for s in sections if s[0] == 2):
+        for at in range(24, len(data), 24):
+            name, info, _, section = struct.unpack_from("<IBBH", data, at)
+            text = sections[link][2]
+            found.append((text[name:text.index(b"\0", name)].decode(), info >> 4, section))
+    return sections, found
+
+
+def archive(env):
+    """What is in it: the calls, no variables, and memmove asked for."""
+    data = read(ARCHIVE, "rb")
+    expect("the archive is one", data.startswith(b"!<arch>\n"))
+    objects = [symbols(elf) for elf in members(data)]
+    found = [s for _, names in objects for s in names]
+    given = {name for name, binding, section in found if binding != 0 and section != 0}
+    expect("the archive gives the calls and nothing else", given == exports(), given ^ exports())
+    asked = {name for name, _, section in found if section == 0 and name} - given
+    expect("the archive asks for memmove and nothing else", asked == {"memmove"}, asked)
+    written = [s for sections, _ in objects for s in sections if s[1] & 3 == 3 and s[2]]
+    expect("the archive has no variables", objects and not written, len(written))
+
+
+def installed(env):
+    """`make install` into a folder; the example with the flags of alderflute.pc and no others."""
+    if shutil.which("make") is None:
+        print("test_capi: there is no make here; make install is left out")
+        return
+    with tempfile.TemporaryDirectory() as folder:
+        status, _, error = ran(["make", "install", "PREFIX=/opt/af", "DESTDIR=" + folder], env)
+        expect("make install with DESTDIR", status == 0 and os.path.exists(folder + "/opt/af/lib/libalderflute.a"), error.decode())
+        expect("DESTDIR is in no path", "prefix=/opt/af\n" in read(folder + "/opt/af/lib/pkgconfig/alderflute.pc"))
+        status, _, error = ran(["make", "install", "PREFIX=" + folder], env)
+        expect("make install with PREFIX", status == 0, error.decode())
+        cflags, libs = flags_of(env, os.path.join(folder, "lib", "pkgconfig"))
+        program = os.path.join(folder, "example")
+        if compiled(env, EXAMPLE, program, CFLAGS[:-1] + cflags, libs):
+            status, out, error = ran([os.path.join(TOP, "tools", "x86run"), program], env, flight())
+            expect("the installed copy lists the flight line", (status, out, error) == (0, listed(), b""), out[-300:])
+        # a header of another interface
+        name = os.path.join(folder, "include", "alderflute.h")
+        text = re.sub(r"#define ALDERFLUTE_ABI (\d+)", lambda m: m[0] + "1", read(name))
+        with open(name, "w", encoding="utf-8") as f:
+            f.write(text)
+        if compiled(env, EXAMPLE, program, CFLAGS[:-1] + cflags, libs):
+            status, out, error = ran([os.path.join(TOP, "tools", "x86run"), program], env, flight())
+            expect("the example finds that header and archive differ", (status, out) == (2, b"") and b"belong" in error, error)
+
+
+def flags_of(env, folder):
+    """The compiler's and the linker's flags of alderflute.pc; where there is pkg-config, it is to say the same."""
+    text = read(os.path.join(folder, "alderflute.pc"))
+    values = dict(re.findall(r"^(\w+)=(.*)$", text, re.M))
+    while "${" in text:
+        text = re.sub(r"\$\{(\w+)\}", lambda m: values[m[1]], text)
+    flags = [re.search(rf"^{key}: (.*)$", text, re.M)[1].split() for key in ("Cflags", "Libs")]
+    if shutil.which("pkg-config"):
+        said = [ran(["pkg-config", word, "alderflute"], dict(env, PKG_CONFIG_PATH=folder))[1].decode().split() for word in ("--cflags", "--libs")]
+        expect("pkg-config reads alderflute.pc", said == flags, said)
+    return flags
+
+
+def stack(env):
+    """No call uses more of the stack than the header says."""
+    said = re.search(r"deepest measured is feed's, ([\d,]+) bytes", read(HEADER))
+    if not expect("the header says how deep the stack is", said):
+        return
+    status, out, error = ran([os.path.join(TOP, "tools", "x86run"), os.path.join(BUILT, "stack")], env)
+    deep = [(int(n), name) for name, n in re.findall(r"^(\w+) (\d+)$", out.decode(errors="replace"), re.M)]
+    expect("the depth of every call is measured", status == 0 and {"alderflute_" + name for _, name in deep} | {"alderflute_abi"} == exports(), out)
+    expect("no call is deeper than the header says", deep and max(deep)[0] <= int(said[1].replace(",", "")), deep)
+
+
+def flight():
+    return read(os.path.join(TOP, "samples", "flight.sbf"), "rb")
+
+
+def listed():
+    """What the example prints of the flight line: the lister's lines, each with what the block's bytes have."""
+    data, want = flight(), []
     for line in read(os.path.join(TOP, "samples", "flight.list")).splitlines():
         words = line.split(" ")
         if words[0] == "block":
@@ -231,12 +351,14 @@ def example(env):
             if number == 5938 and data[place + 20:place + 24] != bytes.fromhex("f90295d0"):
                 line += " heading %.3f" % struct.unpack_from("<f", data, place + 20)
         want.append(line)
-    status, out, error = ran([os.path.join(TOP, "tools", "x86run"), os.path.join(BUILT, "example"), TABLE], env, data)
-    expect("the example lists the flight line", (status, out.decode(), error) == (0, "\n".join(want) + "\n", b""), out[-300:])
-    status, out, error = ran([os.path.join(TOP, "tools", "x86run"), os.path.join(BUILT, "example"), EXAMPLE], env, data)
-    expect("the example says that a text is no table", (status, out) == (1, b"") and b"refused with 4" in error, error[-300:])
-    status, out, error = ran([os.path.join(TOP, "tools", "x86run"), os.path.join(BUILT, "example")], env, data)
-    expect("the example says how it is called", (status, out) == (2, b"") and error.startswith(b"usage: "), error[-300:])
+    return ("\n".join(want) + "\n").encode()
+
+
+def example(env):
+    status, out, error = ran([os.path.join(TOP, "tools", "x86run"), os.path.join(BUILT, "example")], env, flight())
+    expect("the example lists the flight line", (status, out, error) == (0, listed(), b""), out[-300:])
+    status, out, error = ran([os.path.join(TOP, "tools", "x86run"), os.path.join(BUILT, "example")], env, b"")
+    expect("the example lists an empty run", (status, out, error) == (0, b"end 0 0 0\n", b""), out[-300:])
 
 
 def odd(env):
@@ -278,8 +400,11 @@ def main():
     env = programs.kit()
     if build(env):
         header(env)
+        archive(env)
         example(env)
+        installed(env)
         odd(env)
+        stack(env)
         scripts(env)
     return CASES.tally()
 

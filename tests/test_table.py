@@ -1,17 +1,19 @@
 #!/usr/bin/env python3
-"""tools/table: text, file and constant of the rows shipped agree, each rule is refused with its place and its name, and
-make and show are inverse. Prints 'N passed, M failed' last; exit status 1 where one failed."""
+"""tools/table: text, file, constant and C header of the rows shipped agree, each rule is refused with its place and its name,
+and make and show are inverse. Prints 'N passed, M failed' last; exit status 1 where one failed. The C that it writes is
+compiled by the kit's clang."""
 import os
 import re
 import subprocess
 import sys
 import tempfile
 
-from programs import TOP as ROOT, Cases
+from programs import TOP as ROOT, Cases, kit
 
 TOOL = os.path.join(ROOT, "tools", "table")
 TEXT = os.path.join(ROOT, "samples", "shipped-v1.table.txt")
 FILE = os.path.join(ROOT, "samples", "shipped-v1.table")
+HEADER = os.path.join(ROOT, "samples", "shipped-v1.table.h")
 CRATE = os.path.join(ROOT, "crates", "shipped")
 
 CASES = Cases()
@@ -192,8 +194,103 @@ def refused_files():
             expect("refused file: %s" % rule, status == 1 and out == "" and (": %s: " % place) in err and rule in err, err)
 
 
+# ---- C headers
+
+def named(text):
+    """Each number of a text by its name in C, worked out from the lines alone."""
+    numbers, block, bodies, subs = {}, "", 0, 0
+    for words in (line.split("#")[0].split() for line in text.split("\n")):
+        if words[:1] == ["version"]:
+            numbers["ALDERFLUTE_NAMES_VERSION"] = int(words[1])
+        elif words[:1] == ["block"]:
+            block, bodies, subs = "ALDERFLUTE_" + words[2].upper(), 0, 0
+            numbers[block] = int(words[1])
+        elif words[:1] == ["body"]:
+            numbers[block + "_" + words[1].upper()], bodies = bodies, bodies + 1
+        elif words[:1] == ["sub"]:
+            numbers[block + "_SUB_" + words[1].upper()], subs = subs, subs + 1
+    return numbers
+
+
+def c_of(text, folder):
+    given = os.path.join(folder, "given.txt")
+    with open(given, "w", encoding="utf-8") as f:
+        f.write(text)
+    return tool("c", given)
+
+
+def compiles(header, numbers, size, folder):
+    """What clang says of a header and of assertions on each of its numbers, in C and in C++, twice included."""
+    with open(os.path.join(folder, "given.h"), "w", encoding="utf-8") as f:
+        f.write(header)
+    with open(os.path.join(folder, "given.c"), "w", encoding="utf-8") as f:
+        f.write("#ifdef __cplusplus\n#define _Static_assert static_assert\n#endif\n")
+        f.write('#include "given.h"\n#include "alderflute.h"\n#include "given.h"\n')
+        f.writelines('_Static_assert(%s == %d, "%s");\n' % (name, n, name) for name, n in numbers.items())
+        f.write('_Static_assert(sizeof alderflute_table == %d, "the size");\n' % size)
+        f.write("int last(void);\nint last(void) { return alderflute_table[%d]; }\n" % (size - 1))
+    clang = os.path.join(kit()["RATTLE_HOME"], "on", os.uname().machine, "toolchain", "bin", "clang")
+    said = ""
+    for language, standard in (("c", "c11"), ("c++", "c++11")):
+        run = subprocess.run([clang, "--target=x86_64-unknown-linux-gnu", "-x", language, "-std=" + standard, "-fsyntax-only", "-Wall",
+                              "-Wextra", "-Werror", "-pedantic", "-nostdinc", "-isystem", os.path.join(ROOT, "tests", "capi", "include"),
+                              "-I" + os.path.join(ROOT, "include"), os.path.join(folder, "given.c")], capture_output=True, text=True)
+        said += run.stderr if run.returncode == 0 else run.stderr + "status %d" % run.returncode
+    return said
+
+
+def headers():
+    status, out, err = tool("c", os.path.relpath(TEXT, ROOT))
+    expect("c takes the text", status == 0, err)
+    expect("the sample is what c writes", out == read(HEADER))
+    with tempfile.TemporaryDirectory() as folder:
+        for name, text in {
+            "the rows shipped": read(TEXT),
+            "names with digits and _": BLOCK.replace(" A ", " 3D_a1 ") + "body _ u1 14 rev 0 mark none\nbody 4 i8 15 rev 3 mark least\n",
+            "a sub-field that is called as a body field": PAIR.replace("sub C", "sub N"),
+            "a name that stands in the example only": BLOCK.replace(" A ", " AttEuler "),
+            "the largest table": "version 65535\n" + "".join("block %d B%d highest 0\n" % (n, n) for n in range(1022)),
+        }.items():
+            data = make(text, folder)[2]
+            status, out, err = c_of(text, folder)
+            expect("c takes %s" % name, status == 0, err)
+            listed = re.search(r"alderflute_table\[\d+\] = \{(.*?)\};", out, re.S)
+            expect("the bytes of %s" % name, listed and bytes(int(n, 16) for n in re.findall(r"0x(..),", listed[1])) == data)
+            expect("the names of %s" % name, set(re.findall(r"#define (\w+) \d", out)) == set(named(text)))
+            said = compiles(out, named(text), len(data), folder)
+            expect("the header of %s compiles, with its numbers" % name, said == "", said[-600:])
+        first, second = (tool("c", "samples/flight-line-v%d.table.txt" % n)[1] for n in (1, 2))
+        expect("headers of two versions do not go into one file", "redefin" in compiles(first + second, {}, 20, folder))
+
+
+# A text that has no header, the line that the tool names, and words of why.
+NAMELESS = [
+    (BLOCK.replace(" A ", " - "), 2, "letters, digits and _ only, and '-' has not"),
+    (BLOCK.replace(" A ", " A-B "), 2, "letters, digits and _ only, and 'A-B' has not"),
+    (BLOCK.replace(" A ", " Höhe "), 2, "letters, digits and _ only, and 'Höhe' has not"),
+    (BLOCK + "body B.1 u1 14 rev 0 mark none\n", 3, "letters, digits and _ only, and 'B.1' has not"),
+    (PAIR.replace("sub C", "sub C*/"), 5, "letters, digits and _ only, and 'C*/' has not"),
+    (BLOCK + "body B u1 14 rev 0 mark none\nbody b u1 15 rev 0 mark none\n", 4, "ALDERFLUTE_A_B, which stands at line 3 already"),
+    (BLOCK + "block 2 a highest 0\n", 3, "ALDERFLUTE_A, which stands at line 2 already"),
+    (BLOCK + "body B u1 14 rev 0 mark none\nblock 2 A_B highest 0\n", 4, "ALDERFLUTE_A_B, which stands at line 3 already"),
+    (BLOCK.replace(" A ", " Hold "), 2, "ALDERFLUTE_HOLD, which stands in alderflute.h already"),
+    (BLOCK.replace(" A ", " Refusal ") + "body Run_full u1 14 rev 0 mark none\n", 3, "ALDERFLUTE_REFUSAL_RUN_FULL, which stands in alderflute.h"),
+    (BLOCK.replace(" A ", " Names ") + "body Version u1 14 rev 0 mark none\n", 3, "ALDERFLUTE_NAMES_VERSION, which stands in each header"),
+    ("version 1\nblock 8192 A highest 0\n", 2, "a block number is 0 to 8191"),
+]
+
+
+def refused_names():
+    with tempfile.TemporaryDirectory() as folder:
+        for text, line, rule in NAMELESS:
+            status, out, err = c_of(text, folder)
+            expect("no header: %s" % rule, status == 1 and out == "" and (": line %d: " % line) in err and rule in err, err)
+
+
 agreement()
 round_trips()
 refused_texts()
 refused_files()
+headers()
+refused_names()
 sys.exit(CASES.tally())

@@ -1,8 +1,9 @@
-/* What no script of `replay` can say: states whose phase is none, buffers of length 0 at NULL, and values that are to be 0.
-   Prints each case that fails, and last 'N passed, M failed'. */
+/* What no script of `replay` can say: states whose phase is none, buffers of length 0 at NULL, values that are to be 0, the
+   number of the interface, the texts of refusals. Prints each case that fails, and last 'N passed, M failed'. */
 #include "alderflute.h"
 
 extern int printf(const char *form, ...);
+extern int strcmp(const char *a, const char *b);
 extern int memcmp(const void *a, const void *b, size_t count);
 extern void *memset(void *to, int byte, size_t count);
 
@@ -84,13 +85,13 @@ static void done(void)
 {
     alderflute_reply r = alderflute_stage(alderflute_new(), waiting, sizeof waiting, table, sizeof table);
     alderflute_answer a = r.answer;
-    check(a.refusal == 0 && a.kind == ALDERFLUTE_VERSION && a.version == 7 && a.waited == 0 && a.taken == 0 && zeros(a.block, a.end),
+    check(a.refusal == 0 && a.kind == ALDERFLUTE_TABLE_VERSION && a.version == 7 && a.waited == 0 && a.taken == 0 && zeros(a.block, a.end),
           "stage", 0);
     a = alderflute_withdraw(r.state).answer;
     check(a.refusal == 0 && a.kind == ALDERFLUTE_WITHDRAWN && a.version == 0 && a.waited == 1 && a.taken == 0 && zeros(a.block, a.end),
           "withdraw", 0);
     r = alderflute_open(r.state, in_force, sizeof in_force, waiting, sizeof waiting), a = r.answer;
-    check(a.refusal == 0 && a.kind == ALDERFLUTE_VERSION && a.version == 7 && a.waited == 0 && a.taken == 0 && zeros(a.block, a.end),
+    check(a.refusal == 0 && a.kind == ALDERFLUTE_TABLE_VERSION && a.version == 7 && a.waited == 0 && a.taken == 0 && zeros(a.block, a.end),
           "open", 0);
     r = alderflute_feed(r.state, hold, sizeof hold, sample, sizeof sample), a = r.answer;
     check(a.refusal == 0 && a.kind == ALDERFLUTE_BLOCK && a.version == 0 && a.waited == 0 && a.taken == 8 && a.block.place == 0 &&
@@ -105,6 +106,18 @@ static void done(void)
           "finish", 1);
 }
 
+/* A text for each number, and those of 0 to 10 and of an unknown one are different. */
+static void texts(void)
+{
+    for (uint32_t n = 0; n < 12; n++) {
+        const char *text = alderflute_refusal_text(n);
+        int apart = text && *text;
+        for (uint32_t m = 0; m < n; m++) apart = apart && strcmp(text, alderflute_refusal_text(m)) != 0;
+        check(apart, "the text of a refusal", n);
+    }
+    check(strcmp(alderflute_refusal_text(11), alderflute_refusal_text((uint32_t)-1)) == 0, "the text of an unknown refusal", 0);
+}
+
 int main(void)
 {
     static const uint64_t phases[] = {3, 4, 255, 256, 65536, 4294967296u, 4294967297u, 9223372036854775808u, (uint64_t)-1};
@@ -112,6 +125,8 @@ int main(void)
     for (size_t i = 0; i < sizeof phases / sizeof *phases; i++) unknown(phases[i]);
     nothing_lent();
     done();
+    texts();
+    check(alderflute_abi() == ALDERFLUTE_ABI, "the number of the interface", 0);
     printf("%u passed, %u failed\n", passed, failed);
     return failed != 0;
 }

@@ -106,7 +106,7 @@ static void reply(alderflute_reply r, const char *done, int fed)
     if (fed && a.refusal == 0) text("fed "), number(a.taken), text(" ");
     switch (a.kind) {
     case ALDERFLUTE_REFUSED: text("refused"), word(a.refusal); break;
-    case ALDERFLUTE_VERSION: text(done), word(a.version); break;
+    case ALDERFLUTE_TABLE_VERSION: text(done), word(a.version); break;
     case ALDERFLUTE_BLOCK: block(a.block); break;
     case ALDERFLUTE_MORE: text("more"); break;
     case ALDERFLUTE_END: text("end"), word(a.end.bytes), word(a.end.blocks), word(a.end.skipped); break;

@@ -2,6 +2,7 @@
 ghost use mathlib.Core.Path.{_≡_};
 ghost use Rattle.reader.specs.State.{newState};
 ghost use Rattle.cform.specs.State.{stateC};
+ghost use Rattle.capi.specs.Abi.{abi};
 use cform::CState;
 
 pub mod replies; // replies.rt: Open, Feed, Finish, Stage, Withdraw
@@ -15,4 +16,15 @@ pub extern "C" fn alderflute_new() -> CState
 {
     let s = reader::new();
     cform::states::state_c(s)
+}
+
+// The number of the interface. It rises where a program that was compiled with an older header would go wrong.
+const ABI: u32 = 1;
+
+// What a program compares with its header's number: where they differ, header and archive are of different builds.
+#[no_mangle]
+pub extern "C" fn alderflute_abi() -> u32
+    ensures { λ r. ⌜ r ≡ abi ⌝ }
+{
+    ABI
 }

@@ -2,6 +2,7 @@
 #ifndef STAND_IN_STDDEF_H
 #define STAND_IN_STDDEF_H
 typedef unsigned long size_t;
+#define offsetof(type, member) __builtin_offsetof(type, member)
 #ifdef __cplusplus
 #define NULL nullptr
 #else
