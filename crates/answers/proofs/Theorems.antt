@@ -1,12 +1,11 @@
 -- One input, one outcome; answers by meaning; floats keep their bits.
 -- Assumes nothing.
-use mathlib.Core.Path.{_≡_, refl, sym, ap, _∙_, subst}
-use mathlib.Core.Bool.{Bool, true, false, not}
+use mathlib.Core.Path.{_≡_, refl, sym, ap, _∙_}
+use mathlib.Core.Bool.{Bool, true, false}
 use Prim.Native.Nat.{ℕ, _^_, _<_}
 use native.Mathlib.Omega.{arith}
-use lib.Dec.{T}
-use lib.Ieee.{Format, binary32, binary64, nanBits, isNan, ofBits}
-use lib.Ieee.Bits.{nanBits-is, toBits-ofBits}
+use lib.Ieee.{binary32, binary64, nanBits}
+use lib.Ieee.Bits.{toBits-ofBits}
 use Rattle.refusal.specs.Numbers.{numberFor}
 use Rattle.refusal.proofs.Numbers.{same-refusal}
 use Rattle.table.specs.Rows.{Table}
@@ -15,8 +14,9 @@ use Rattle.record.specs.declared.Handed.{Handed}
 use Rattle.record.specs.declared.Handed.the-variants.{Refused, Given}
 use Rattle.value.specs.Said.{FieldSaid, single, double}
 use Rattle.record.specs.Answer.{answerSays, caseFor, Answers, handedSays}
-use Rattle.record.specs.Calls.{bodyField, subField, subBlock, subBlockRefusal}
+use Rattle.record.specs.Calls.{bodyField, subField, subBlock, subPlace, subBlockRefusal}
 use Rattle.answers.specs.Theorems.{OneAnswer, AllByMeaning, FloatsKept}
+use Rattle.value.proofs.Floats.{float-not-nan}
 use Rattle.record.proofs.Fields.{same}
 
 one : (r s : Answer) (said : FieldSaid) → Answers r said → Answers s said → r ≡ s
@@ -37,19 +37,17 @@ by-meaning t u e b =
       body = λ i r s p q. one r s _ p (same (ap (λ (x : Table). bodyField x b i) (sym e)) q);
       sub = λ k j r s p q. one r s _ p (same (ap (λ (x : Table). subField x b k j) (sym e)) q);
       part = λ k. ap (λ (x : Table). subBlock x b k) e;
+      place = λ k. ap (λ (x : Table). subPlace x b k) e;
       twin = λ k. ap (λ (x : Table). subBlockRefusal x b k) e;
     }
 
-no-nan : (f : Format) (b : ℕ) → nanBits f b ≡ false → T (not (isNan (ofBits f b)))
-no-nan f b e = subst (λ (x : Bool). T (not x)) (nanBits-is f b) (subst (λ (x : Bool). T (not x)) (sym e) tt)
-
 single-by : (b : ℕ) → b < 256 ^ 4 → (x : Bool) → nanBits binary32 b ≡ x → answerSays (caseFor (single b)) ≡ single b
 single-by b h true e = rw e
-single-by b h false e = rw e (ap single (toBits-ofBits binary32 b h (no-nan binary32 b e)))
+single-by b h false e = rw e (ap single (toBits-ofBits binary32 b h (float-not-nan binary32 b e)))
 
 double-by : (b : ℕ) → b < 256 ^ 8 → (x : Bool) → nanBits binary64 b ≡ x → answerSays (caseFor (double b)) ≡ double b
 double-by b h true e = rw e
-double-by b h false e = rw e (ap double (toBits-ofBits binary64 b h (no-nan binary64 b e)))
+double-by b h false e = rw e (ap double (toBits-ofBits binary64 b h (float-not-nan binary64 b e)))
 
 pub floats-kept : FloatsKept
 floats-kept =

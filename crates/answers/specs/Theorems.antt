@@ -12,7 +12,7 @@ use Rattle.record.specs.declared.Answer.the-variants.{Field}
 use Rattle.record.specs.declared.Handed.{Handed}
 use Rattle.value.specs.Said.{FieldSaid, single, double}
 use Rattle.record.specs.Answer.{answerSays, caseFor, Answers, handedSays}
-use Rattle.record.specs.Calls.{bodyField, subField, subBlock, subBlockRefusal}
+use Rattle.record.specs.Calls.{bodyField, subField, subBlock, subPlace, subBlockRefusal}
 
 -- "one input admits one outcome": what is to be said fixes the answer, its case too
 pub record OneAnswer : Type 0 where
@@ -24,6 +24,7 @@ pub record ByMeaning (t u b : List ℕ) : Type 0 where
   pub body : (i : ℕ) (r s : Answer) → Answers r (bodyField (decode t) b i) → Answers s (bodyField (decode u) b i) → r ≡ s
   pub sub : (k j : ℕ) (r s : Answer) → Answers r (subField (decode t) b k j) → Answers s (subField (decode u) b k j) → r ≡ s
   pub part : (k : ℕ) → subBlock (decode t) b k ≡ subBlock (decode u) b k
+  pub place : (k : ℕ) → subPlace (decode t) b k ≡ subPlace (decode u) b k
   pub twin : (k : ℕ) → subBlockRefusal (decode t) b k ≡ subBlockRefusal (decode u) b k
 
 abbrev pub AllByMeaning : Type 0

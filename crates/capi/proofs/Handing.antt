@@ -3,7 +3,7 @@
 use mathlib.Core.Path.{_≡_, refl, sym, ap, ap₂, _∙_, subst}
 use mathlib.Core.Bool.{false}
 use mathlib.Core.List.{List, []}
-use mathlib.Core.Option.{Option, none, some}
+use mathlib.Core.Option.{Option, none, some, Option·none-ne-some}
 use Prim.Native.Nat.{ℕ, _+_, _≤_}
 use native.Mathlib.Omega.{arith}
 use lib.ListN.{length, take, drop}
@@ -33,9 +33,6 @@ same-part {p} {q} {a} {b} e f = ap₂ (λ (x : CPart) (y : List ℕ). record { p
 empty : (buffer : List ℕ) (n : ℕ) {p : CPart} → p ≡ partC (some n) 0 0 → handing p buffer ≡ record { part = partC (some n) 0 0; bytes = [] }
 empty buffer n e = ap (λ (x : CPart). handing x buffer) e
 
-none-some : {n : ℕ} → _≡_ {A = Option ℕ} none (some n) → ⊥
-none-some e = let z : _≡_ {A = ℕ} 0 1 = cc in omega arith
-
 module _ (refusal : State → Option ℕ) (offset : State → ℕ) (bytes : State → List ℕ) (buffer : List ℕ) (refuses : (t : State) → sound t ≡ false → refusal t ≡ some 1) where
   -- the call was made with t, and is refused with n
   pub hands-none : (o : Option State) (t : State) (n : ℕ) {p : CPart} → Reads o t → refusal t ≡ some n → bytes t ≡ [] → p ≡ partC (some n) 0 0
@@ -47,7 +44,7 @@ module _ (refusal : State → Option ℕ) (offset : State → ℕ) (bytes : Stat
 
   pub hands-it : (o : Option State) (t : State) (n : ℕ) {p : CPart} → Reads o t → refusal t ≡ none → p ≡ partC none (offset t) n → n ≡ length (bytes t)
       → take n (drop (offset t) buffer) ≡ bytes t → handing p buffer ≡ hands refusal offset bytes o
-  hands-it none t n k r e l b = absurd (none-some (sym r ∙ refuses t k))
+  hands-it none t n k r e l b = absurd (Option·none-ne-some 1 (sym r ∙ refuses t k))
   hands-it (some u) t n k r e l b =
       ap (λ (x : CPart). handing x buffer) e
       ∙ same-part

@@ -2,7 +2,7 @@
 -- Assumes nothing.
 use mathlib.Core.Path.{_≡_, refl, sym, ap, _∙_}
 use mathlib.Core.Bool.{true, false}
-use mathlib.Core.Option.{Option, none, some}
+use mathlib.Core.Option.{none, some, Option·some-ne-none}
 use Prim.Native.Nat.{ℕ, zero, suc, _<_}
 use native.Mathlib.Omega.{arith}
 use Rattle.record.specs.Answer.{FieldSaid, doNotUse, double, fieldRefused, notInRevision, signed, single, unsigned}
@@ -38,13 +38,10 @@ state-back : (t : State) → stateOf (stateC t) ≡ some t
 unfolding stateOf
 state-back t = ap (inPhaseIfAny (stateC t)) (phase-back (t .run .phase))
 
-some-none : {t : State} → _≡_ {A = Option State} (some t) none → ⊥
-some-none e = let z : _≡_ {A = ℕ} 0 1 = cc in omega arith
-
 by-number : (s : CState) (n : ℕ) → s .phase ≡ n → stateOf s ≡ none → 2 < n
-by-number s zero e h = absurd (some-none (sym (closed-of s e) ∙ h))
-by-number s (suc zero) e h = absurd (some-none (sym (feeding-of s e) ∙ h))
-by-number s (suc (suc zero)) e h = absurd (some-none (sym (finishing-of s e) ∙ h))
+by-number s zero e h = absurd (Option·some-ne-none _ (sym (closed-of s e) ∙ h))
+by-number s (suc zero) e h = absurd (Option·some-ne-none _ (sym (feeding-of s e) ∙ h))
+by-number s (suc (suc zero)) e h = absurd (Option·some-ne-none _ (sym (finishing-of s e) ∙ h))
 by-number s (suc (suc (suc n))) e h = omega arith
 
 opened-back : (a : Opened) → answerBack false (answerC (saidOpened a)) ≡ saidOpened a

@@ -1,16 +1,10 @@
 -- The answers as C has them: each of the reader's answers, with its number, kind and values. What a kind does not have is 0.
 -- Assumes nothing.
 use Prim.Native.Nat.{ℕ}
-use mathlib.Core.Bool.{not, cond}
+use mathlib.Core.Bool.{cond}
 use mathlib.Core.Option.{Option, none, some}
-use lib.Dec.{T}
-use lib.Ieee.{isNan}
 use lib.IntN.{ℤ, pos}
 use Rattle.record.specs.Answer.{FieldSaid, doNotUse, double, fieldRefused, notInRevision, signed, single, unsigned}
-use Rattle.record.specs.declared.Answer.{Answer}
-use Rattle.record.specs.declared.Answer.the-variants as answer
-use Rattle.value.specs.declared.Value.{Value}
-use Rattle.value.specs.declared.Value.the-variants as value
 use Rattle.reader.specs.State.{noCounts}
 use Rattle.reader.specs.Said.{Report, Said, refused, version, took, found, ended, waited}
 use Rattle.cform.specs.declared.CBlock.{CBlock}
@@ -66,21 +60,6 @@ fieldC (double b) = tell 0 4 0 (pos 0) b
 fieldC doNotUse = tell 0 5 0 (pos 0) 0
 fieldC notInRevision = tell 0 6 0 (pos 0) 0
 fieldC (fieldRefused n) = tell n 0 0 (pos 0) 0
-
--- a float that an answer carries is no NaN: a NaN comes in a case of its own
-abbrev pub NoNan : Value → Type 0
-NoNan (value.Single f) = T (not (isNan f))
-NoNan (value.Double f) = T (not (isNan f))
-NoNan (value.Unsigned n) = Unit
-NoNan (value.Signed z) = Unit
-NoNan (value.SingleNan b) = Unit
-NoNan (value.DoubleNan b) = Unit
-NoNan value.DoNotUse = Unit
-NoNan value.NotInRevision = Unit
-
-abbrev pub NoNanIn : Answer → Type 0
-NoNanIn (answer.Field v) = NoNan v
-NoNanIn (answer.Refused x) = Unit
 
 -- ---- parts
 

@@ -1,10 +1,9 @@
 // A field's answer as C has it, from the record reader's. Floats go over as their bits, so that a NaN keeps its own.
 ghost use mathlib.Core.Path.{_≡_};
-ghost use mathlib.Core.Bool.{not};
 ghost use lib.Dec.{T};
-ghost use lib.Ieee.{binary32, binary64, isNan, toBits};
-ghost use Rattle.record.specs.Answer.{valueSays, answerSays};
-ghost use Rattle.cform.specs.Answer.{tell, fieldC, NoNan, NoNanIn};
+ghost use Rattle.value.specs.Said.{noNan};
+ghost use Rattle.record.specs.Answer.{valueSays, answerSays, noNanIn};
+ghost use Rattle.cform.specs.Answer.{tell, fieldC};
 use crate::CField;
 use record::Answer;
 use value::Value;
@@ -21,37 +20,16 @@ fn tell_c(refusal: u32, kind: u32, number: u64, signed: i64, bits: u64) -> CFiel
     }
 }
 
-fn wide(x: u32) -> u64
-    ensures { λ r. ⌜ r ≡ x ⌝ }
-{
-    x as u64
-}
-
-fn single_bits(f: f32) -> u64
-    requires { ⌜ T (not (isNan f)) ⌝ }
-    ensures { λ r. ⌜ r ≡ toBits binary32 f ⌝ }
-{
-    let b = f32::to_bits(f);
-    wide(b)
-}
-
-fn double_bits(f: f64) -> u64
-    requires { ⌜ T (not (isNan f)) ⌝ }
-    ensures { λ r. ⌜ r ≡ toBits binary64 f ⌝ }
-{
-    f64::to_bits(f)
-}
-
 fn value_c(v: Value) -> CField
-    requires { ⌜ NoNan v ⌝ }
+    requires { ⌜ T (noNan v) ⌝ }
     ensures { λ r. ⌜ r ≡ fieldC (valueSays v) ⌝ }
 {
     match v {
         Value::Unsigned(n) => tell_c(0, 1, n, 0, 0),
         Value::Signed(z) => tell_c(0, 2, 0, z, 0),
-        Value::Single(f) => tell_c(0, 3, 0, 0, single_bits(f)),
-        Value::Double(f) => tell_c(0, 4, 0, 0, double_bits(f)),
-        Value::SingleNan(b) => tell_c(0, 3, 0, 0, wide(b)),
+        Value::Single(f) => tell_c(0, 3, 0, 0, value::single_bits(f) as u64),
+        Value::Double(f) => tell_c(0, 4, 0, 0, value::double_bits(f)),
+        Value::SingleNan(b) => tell_c(0, 3, 0, 0, b as u64),
         Value::DoubleNan(b) => tell_c(0, 4, 0, 0, b),
         Value::DoNotUse => tell_c(0, 5, 0, 0, 0),
         Value::NotInRevision => tell_c(0, 6, 0, 0, 0),
@@ -60,7 +38,7 @@ fn value_c(v: Value) -> CField
 
 // Of an answer that the record reader gave: a float in it is no NaN.
 pub fn field_c(a: Answer) -> CField
-    requires { ⌜ NoNanIn a ⌝ }
+    requires { ⌜ T (noNanIn a) ⌝ }
     ensures { λ r. ⌜ r ≡ fieldC (answerSays a) ⌝ }
 {
     match a {

@@ -86,7 +86,7 @@ pub fn sized(b: Desk, buffer: Buffer, n: usize) -> Desk {
     next
 }
 
-fn phase_of(v: usize) -> Phase {
+fn poked_phase(v: usize) -> Phase {
     match v {
         0 => Phase::Closed,
         1 => Phase::Feeding,
@@ -120,7 +120,7 @@ fn with_phase(b: Desk, phase: Phase) -> Desk {
 pub fn poked(b: Desk, part: StateNumber, v: usize) -> Desk {
     let mut next = b;
     match part {
-        StateNumber::Phase => return with_phase(b, phase_of(v)),
+        StateNumber::Phase => return with_phase(b, poked_phase(v)),
         StateNumber::InForce => next.state.in_force = v,
         StateNumber::Waiting => next.state.waiting = v,
         StateNumber::Held => next.state.run.held = v,

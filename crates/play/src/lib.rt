@@ -4,7 +4,7 @@ ghost use mathlib.Core.Path.{_≡_};
 ghost use lib.Dec.{T};
 ghost use lib.ListN.{length};
 ghost use Rattle.crc.specs.Crc.{crcOf};
-ghost use Rattle.desk.specs.Plain.{noNanIn, plainly};
+ghost use Rattle.desk.specs.Plain.{plainly};
 ghost use Rattle.play.specs.Turns.{plain};
 
 mod replies; // replies.rt: what a call that may write answered, as a reply

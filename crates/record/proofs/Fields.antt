@@ -1,9 +1,10 @@
--- What a field says, case by case, and where it ends.
+-- What a field says, case by case, that it carries no NaN as a float, and where it ends.
 -- Assumes nothing.
-use mathlib.Core.Path.{_≡_, refl, ap, _∙_, subst}
+use mathlib.Core.Path.{_≡_, refl, sym, ap, _∙_, subst}
 use mathlib.Core.List.{List}
 use mathlib.Core.Bool.{true, false}
 use Prim.Native.Nat.{ℕ, _<_, _≤_}
+use lib.Dec.{T}
 use lib.ListN.{length}
 use borrow.Author.Tests.{leb-true, le-leb, lt-leb}
 use Rattle.frame.specs.Frame.{wholeFrame}
@@ -12,11 +13,12 @@ use Rattle.rows.specs.declared.FieldRow.{FieldRow}
 use Rattle.table.specs.Rows.{ends}
 use Rattle.value.specs.declared.Value.{Value}
 use Rattle.value.specs.declared.Value.the-variants.{Unsigned, Signed, Single, Double, SingleNan, DoubleNan, DoNotUse, NotInRevision}
-use Rattle.value.specs.Said.{FieldSaid, valueSays, inCase, Means}
+use Rattle.value.specs.Said.{FieldSaid, unsigned, signed, single, double, doNotUse, notInRevision, fieldRefused, valueSays, inCase, Means}
 use Rattle.value.specs.Bits.{fieldValue}
 use Rattle.record.specs.declared.Answer.{Answer}
 use Rattle.record.specs.declared.Answer.the-variants.{Field, Refused}
-use Rattle.record.specs.Answer.{caseFor, Answers}
+use Rattle.value.proofs.Floats.{single-no-nan, double-no-nan}
+use Rattle.record.specs.Answer.{caseFor, Answers, noNanIn}
 use Rattle.block.specs.Block.{endsBy}
 use Rattle.record.specs.Calls.{fieldSaid, stamp}
 
@@ -37,6 +39,18 @@ in-case NotInRevision = refl
 
 pub answers : {v : Value} {said : FieldSaid} → Means v said → Answers (Field v) said
 answers {v} m = record { says = m .says; case = ap Field (m .case) ∙ in-case v ∙ ap caseFor (m .says) }
+
+case-no-nan : (said : FieldSaid) → T (noNanIn (caseFor said))
+case-no-nan (unsigned n) = tt
+case-no-nan (signed z) = tt
+case-no-nan (single b) = single-no-nan b
+case-no-nan (double b) = double-no-nan b
+case-no-nan doNotUse = tt
+case-no-nan notInRevision = tt
+case-no-nan (fieldRefused n) = tt
+
+pub answers-no-nan : {r : Answer} {said : FieldSaid} → Answers r said → T (noNanIn r)
+answers-no-nan {r} {said} h = subst (λ (x : Answer). T (noNanIn x)) (sym (h .case)) (case-no-nan said)
 
 -- a carried field ends where the test says
 pub ends-in : (revision n : ℕ) (f : FieldRow) → endsBy revision n f ≡ true → f .first ≤ revision → ends f ≤ n

@@ -2,8 +2,10 @@
 -- Assumes nothing.
 use Prim.Native.Nat.{ℕ}
 use mathlib.Core.Path.{_≡_}
+use mathlib.Core.Bool.{Bool, true}
 use mathlib.Core.Option.{Option, none, some}
 use Rattle.refusal.specs.Numbers.{numberFor, refusalNumbered}
+use Rattle.value.specs.Said.{noNan}
 use Rattle.value.specs.declared.Value.the-variants.{Unsigned, Signed, DoNotUse, NotInRevision}
 pub use Rattle.value.specs.Said.{FieldSaid, unsigned, signed, single, double, doNotUse, notInRevision, fieldRefused, valueSays, singleCase, doubleCase}
 use Rattle.record.specs.declared.Answer.{Answer}
@@ -30,6 +32,11 @@ caseFor (fieldRefused n) = answer.Refused (refusalNumbered n)
 pub record Answers (r : Answer) (said : FieldSaid) : Type 0 where
   pub says : answerSays r ≡ said
   pub case : r ≡ caseFor said
+
+-- a float that an answer carries is no NaN
+abbrev pub noNanIn : Answer → Bool
+noNanIn (answer.Field v) = noNan v
+noNanIn (answer.Refused r) = true
 
 -- "and a second call gives the number or none"
 abbrev pub handedSays : Handed → Option ℕ

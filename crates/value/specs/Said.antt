@@ -2,9 +2,9 @@
 -- Assumes nothing.
 use Prim.Native.Nat.{ℕ}
 use mathlib.Core.Path.{_≡_}
-use mathlib.Core.Bool.{cond}
+use mathlib.Core.Bool.{Bool, true, not, cond}
 use lib.IntN.{ℤ}
-use lib.Ieee.{binary32, binary64, nanBits, ofBits, toBits}
+use lib.Ieee.{binary32, binary64, isNan, nanBits, ofBits, toBits}
 use Rattle.value.specs.declared.Value.{Value}
 use Rattle.value.specs.declared.Value.the-variants.{Unsigned, Signed, Single, Double, SingleNan, DoubleNan, DoNotUse, NotInRevision}
 
@@ -52,3 +52,14 @@ inCase NotInRevision = NotInRevision
 pub record Means (v : Value) (said : FieldSaid) : Type 0 where
   pub says : valueSays v ≡ said
   pub case : v ≡ inCase v
+
+-- a float that a value carries is no NaN: a NaN comes in a case of its own
+abbrev pub noNan : Value → Bool
+noNan (Unsigned n) = true
+noNan (Signed z) = true
+noNan (Single f) = not (isNan f)
+noNan (Double f) = not (isNan f)
+noNan (SingleNan b) = true
+noNan (DoubleNan b) = true
+noNan DoNotUse = true
+noNan NotInRevision = true

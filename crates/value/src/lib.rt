@@ -1,6 +1,9 @@
 // What the bits of a field mean, by its type and mark: the value of a field row in the bytes it is read from.
 ghost use mathlib.Core.Path.{_≡_};
+ghost use mathlib.Core.Bool.{not};
 ghost use Prim.Native.Nat.{_+_, _^_, _≤_, _<_};
+ghost use lib.Dec.{T};
+ghost use lib.Ieee.{binary32, binary64, isNan, toBits};
 ghost use lib.ListN.{length};
 ghost use Rattle.wire.specs.Little.{littleAt};
 ghost use Rattle.kinds.specs.Types.{sizeOf};
@@ -55,6 +58,21 @@ fn double_of(x: u64) -> Value
     } else {
         Value::Double(f64::from_bits(x))
     }
+}
+
+// The bits of a float that is no NaN.
+pub fn single_bits(x: f32) -> u32
+    requires { ⌜ T (not (isNan x)) ⌝ }
+    ensures { λ r. ⌜ r ≡ toBits binary32 x ⌝ }
+{
+    f32::to_bits(x)
+}
+
+pub fn double_bits(x: f64) -> u64
+    requires { ⌜ T (not (isNan x)) ⌝ }
+    ensures { λ r. ⌜ r ≡ toBits binary64 x ⌝ }
+{
+    f64::to_bits(x)
 }
 
 // The bits of a type.

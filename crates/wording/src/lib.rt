@@ -2,12 +2,11 @@
 ghost use Prim.Native.Nat.{_+_, _≤_};
 ghost use mathlib.Core.Path.{_≡_};
 ghost use mathlib.Core.List.{_++_};
-ghost use mathlib.Core.Bool.{not};
 ghost use lib.Dec.{T};
-ghost use lib.Ieee.{binary32, isNan, toBits};
 ghost use lib.ListN.{take};
 ghost use Rattle.record.specs.Answer.{valueSays};
-ghost use Rattle.desk.specs.Plain.{noNan, plainly};
+ghost use Rattle.value.specs.Said.{noNan};
+ghost use Rattle.desk.specs.Plain.{plainly};
 ghost use Rattle.phrases.specs.Replies.{stateText};
 ghost use Rattle.wording.specs.Values.{fieldText};
 ghost use Rattle.wording.specs.Lines.{bytesText, askText, wordNoCrcs};
@@ -26,13 +25,6 @@ fn signed(out: &mut [u8; 8192], at: usize, z: i64) -> usize
     text::integer(out, word, z)
 }
 
-fn single_bits(x: f32) -> u32
-    requires { ⌜ T (not (isNan x)) ⌝ }
-    ensures { λ r. ⌜ r ≡ toBits binary32 x ⌝ }
-{
-    f32::to_bits(x)
-}
-
 // A value of a field. No float that is carried is a NaN, so each has its bits.
 fn put_value(out: &mut [u8; 8192], at: usize, v: Value) -> usize
     requires { ⌜ T (noNan v) ⌝ }
@@ -43,8 +35,8 @@ fn put_value(out: &mut [u8; 8192], at: usize, v: Value) -> usize
     match v {
         Value::Unsigned(n) => text::word_number(out, at, b"unsigned", n),
         Value::Signed(z) => signed(out, at, z),
-        Value::Single(x) => text::word_number(out, at, b"single", single_bits(x) as u64),
-        Value::Double(x) => text::word_number(out, at, b"double", f64::to_bits(x)),
+        Value::Single(x) => text::word_number(out, at, b"single", value::single_bits(x) as u64),
+        Value::Double(x) => text::word_number(out, at, b"double", value::double_bits(x)),
         Value::SingleNan(b) => text::word_number(out, at, b"single", b as u64),
         Value::DoubleNan(b) => text::word_number(out, at, b"double", b),
         Value::DoNotUse => text::put(out, at, b"do-not-use"),

@@ -1,7 +1,8 @@
 -- Reading a word from left to right: one law for each step of each loop, over plain lists.
 -- Assumes nothing.
 use mathlib.Core.Path.{_≡_, refl, sym, ap, ap₂, _∙_}
-use mathlib.Core.Bool.{Bool, true, false, cond, not, _&&_, _||_}
+use mathlib.Core.Bool.{Bool, true, false, cond, not, _&&_, _||_, false≢true, and-eq-true-iff}
+use mathlib.Mathlib.Data.Bool.Basic.{or-eq-false-eq-eq-false-and-eq-false}
 use mathlib.Core.List.{List, [], _∷_, _++_, append-assoc, append-nil}
 use mathlib.Core.Option.{Option, none, some}
 use Prim.Native.Nat.{ℕ, suc, _+_, _-_, _*_, _/_, _^_, _≤_, _<_}
@@ -14,18 +15,6 @@ use lib.Seq.{drop-cons, take-suc-set}
 use borrow.Author.Tests.{eqb-true, eqb-false, eq-eqb, ne-eqb, leb-true, le-leb, lt-leb, ltb-true, ltb-false, lt-ltb, le-ltb}
 use Rattle.words.specs.Words.{upTo, keyFrom, keyOf, addDigit, numberThen, decimalIn, hexDigit, inFront, bytesSay, bytesFrom, bytesIn}
 
-never : {X : Type 0} {b : Bool} → b ≡ true → b ≡ false → X
-never e f = let z : _≡_ {A = ℕ} 0 1 = cc in let g : ⊥ = omega arith in absurd g
-
--- two tests as one
-both : (a b : Bool) → (a && b) ≡ true → (a ≡ true) × (b ≡ true)
-both true b e = (refl, e)
-both false b e = never e refl
-
-neither : (a b : Bool) → (a || b) ≡ false → (a ≡ false) × (b ≡ false)
-neither true b e = never refl e
-neither false b e = (refl, e)
-
 -- below a range or above it
 low : (l c : ℕ) (t : Bool) → ltb c l ≡ t → leb l c ≡ not t
 low l c true e = lt-leb l c (ltb-true c l e)
@@ -34,7 +23,7 @@ low l c false e = le-leb l c (ltb-false c l e)
 out : (a b : Bool) → (a || b) ≡ true → (not a && not b) ≡ false
 out true b e = refl
 out false true e = refl
-out false false e = never e refl
+out false false e = absurd (false≢true e)
 
 outside : (l c h : ℕ) → (ltb c l || ltb h c) ≡ true → (leb l c && leb c h) ≡ false
 outside l c h e = ap₂ _&&_ (low l c (ltb c l) refl) (low c h (ltb h c) refl) ∙ out (ltb c l) (ltb h c) e
@@ -90,7 +79,7 @@ module _ (v c : ℕ) where
   no-digit e = ap (λ (t : Bool). cond (t && leb (v * 10 + (c - 48)) 18446744073709551615) (some (v * 10 + (c - 48))) none) (outside 48 c 57 e)
 
   pub a-digit : (ltb c 48 || ltb 57 c) ≡ false → (48 ≤ c) × (c ≤ 57)
-  a-digit e = let n = neither (ltb c 48) (ltb 57 c) e in (ltb-false c 48 (n .0), ltb-false 57 c (n .1))
+  a-digit e = let n = or-eq-false-eq-eq-false-and-eq-false (ltb c 48) (ltb 57 c) .0 e in (ltb-false c 48 (n .0), ltb-false 57 c (n .1))
 
   pub digit-over : 48 ≤ c → c ≤ 57 → 18446744073709551615 < v * 10 + (c - 48) → addDigit v c ≡ none
   unfolding addDigit
@@ -129,7 +118,7 @@ module _ (w : List ℕ) (i v : ℕ) where
   number-end h = rw (drop-of-length-le w h)
 
 pub within : (l c h : ℕ) → (leb l c && leb c h) ≡ true → (l ≤ c) × (c ≤ h)
-within l c h e = let b = both (leb l c) (leb c h) e in (leb-true l c (b .0), leb-true c h (b .1))
+within l c h e = let b = and-eq-true-iff (leb l c) (leb c h) .0 e in (leb-true l c (b .0), leb-true c h (b .1))
 
 module _ (c : ℕ) where
   pub hex-figure : (leb 48 c && leb c 57) ≡ true → hexDigit c ≡ c - 48
@@ -186,7 +175,7 @@ module _ (w : List ℕ) (i : ℕ) where
 none-of : {X : Type 0} (a b : Bool) (o : Option X) → (a || b) ≡ true → cond a none (cond b none o) ≡ none
 none-of true b o e = refl
 none-of false true o e = refl
-none-of false false o e = never e refl
+none-of false false o e = absurd (false≢true e)
 
 -- the pair n of a word, read as the digits x and y
 module _ (w g : List ℕ) (n x y : ℕ) (ex : x ≡ hexDigit (getD w (n + n) 0)) (ey : y ≡ hexDigit (getD w (n + n + 1) 0)) (h : n + n + 1 < length w) where
@@ -206,14 +195,14 @@ module _ (w g : List ℕ) (n x y : ℕ) (ex : x ≡ hexDigit (getD w (n + n) 0))
       → before (take (n + 1) (set g n (x * 16 + y))) (bytesFrom (drop (n + 1 + (n + 1)) w)) ≡ before (take n g) (bytesFrom (drop (n + n) w))
   pair-more l e =
       let d : n + 1 + (n + 1) ≡ n + n + 2 = omega arith in
-      let t = neither (ltb 15 x) (ltb 15 y) e in
+      let t = or-eq-false-eq-eq-false-and-eq-false (ltb 15 x) (ltb 15 y) .0 e in
       let c : cond (ltb 15 x) none (cond (ltb 15 y) none (inFront (x * 16 + y) rest)) ≡ inFront (x * 16 + y) rest = rw (t .0, t .1) in
       ap (λ (k : ℕ). before (take (n + 1) (set g n (x * 16 + y))) (bytesFrom (drop k w))) d
       ∙ before-more g n (x * 16 + y) rest l
       ∙ sym (ap (before (take n g)) (pair ∙ c))
 
 pub digits : (x y : ℕ) → (ltb 15 x || ltb 15 y) ≡ false → (x ≤ 15) × (y ≤ 15)
-digits x y e = let t = neither (ltb 15 x) (ltb 15 y) e in (ltb-false 15 x (t .0), ltb-false 15 y (t .1))
+digits x y e = let t = or-eq-false-eq-eq-false-and-eq-false (ltb 15 x) (ltb 15 y) .0 e in (ltb-false 15 x (t .0), ltb-false 15 y (t .1))
 
 -- behind the last pair, nothing is left or one digit
 module _ (w l : List ℕ) (n : ℕ) (m : n + n ≤ length w) (h : length w / 2 ≤ n) where

@@ -1,7 +1,7 @@
 // The words of a line: where one ends, its key, decimal numbers, bytes in hex; and the keys of a script's words.
-ghost use Prim.Native.Nat.{_+_, _≤_, _<_};
+ghost use Prim.Native.Nat.{_+_, _≤_};
 ghost use mathlib.Core.Path.{_≡_};
-ghost use lib.ListN.{length, take, drop};
+ghost use lib.ListN.{length, take};
 ghost use Rattle.io.specs.Counts.{Counts};
 ghost use Rattle.words.specs.Words.{upTo, keyOf, numberSays, addDigit, decimalIn, hexDigit, bytesSay, bytesFrom, bytesIn};
 ghost use Rattle.words.specs.Keys.{KeysHold};
@@ -22,12 +22,6 @@ pub fn word_end(text: &[u8]) -> usize
     i
 }
 
-fn wide(c: u8) -> u64
-    ensures { λ r. ⌜ (r ≡ c) × (r < 256) ⌝ }
-{
-    c as u64
-}
-
 // A word as one number, so that words are told apart by one `match`; 0 for a word that has no key.
 pub fn key(word: &[u8]) -> u64
     ensures { λ r. ⌜ r ≡ keyOf (now (word .entry)) ⌝ }
@@ -42,7 +36,7 @@ pub fn key(word: &[u8]) -> u64
         if c == 0 {
             return 0;
         }
-        k = k * 256 + wide(c);
+        k = k * 256 + c as u64;
         i += 1;
     }
     k

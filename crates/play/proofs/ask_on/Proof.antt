@@ -1,6 +1,6 @@
 -- `play::ask_on` meets its contract: no answer of the reader carries a NaN as a float.
 -- Assumes nothing.
-use Rattle.desk.proofs.Floats.{answers-plain}
+use Rattle.record.proofs.Fields.{answers-no-nan}
 use borrow.Author.Needs.{needs}
 use Rattle.play.proofs.ask_on.Statement.{statement}
 use Rattle.play.proofs.ask_on.Tie as tie
@@ -45,19 +45,19 @@ returns : tie.Need-returns
 returns c = search needs
 
 returns-2 : tie.Need-returns-2
-returns-2 c = answers-plain (c .body .result) _ (c .body .ensures)
+returns-2 c = answers-no-nan (c .body .ensures)
 
 returns-3 : tie.Need-returns-3
-returns-3 c = answers-plain (c .sub .result) _ (c .sub .ensures)
+returns-3 c = answers-no-nan (c .sub .ensures)
 
 returns-4 : tie.Need-returns-4
 returns-4 c = search needs
 
 returns-5 : tie.Need-returns-5
-returns-5 c = answers-plain (c .tow .result) _ (c .tow .ensures)
+returns-5 c = answers-no-nan (c .tow .ensures)
 
 returns-6 : tie.Need-returns-6
-returns-6 c = answers-plain (c .wnc .result) _ (c .wnc .ensures)
+returns-6 c = answers-no-nan (c .wnc .ensures)
 
 pub ask-on-spec : {M : Type 1} → statement M
 ask-on-spec =

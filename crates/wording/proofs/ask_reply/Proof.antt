@@ -1,10 +1,11 @@
 -- `wording::ask_reply` meets its contract: one text for each reply.
 -- Assumes nothing.
-use mathlib.Core.Path.{ap, _∙_, subst}
+use mathlib.Core.Path.{subst}
 use native.Mathlib.Omega.{arith}
 use lib.Dec.{T}
 use Rattle.record.specs.declared.Answer.{Answer}
-use Rattle.desk.specs.Plain.{noNanIn, plainly}
+use Rattle.record.specs.Answer.{noNanIn}
+use Rattle.desk.specs.Plain.{plainly}
 use Rattle.desk.specs.declared.AskReply.{AskReply}
 use borrow.Author.Needs.{needs}
 use Rattle.wording.proofs.ask_reply.Statement.{statement}

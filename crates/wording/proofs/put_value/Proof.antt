@@ -10,8 +10,8 @@ use lib.IntN.{ℤ}
 use mir.Syntax.{w64}
 use mir.ValLaws.{toZ-ofZ}
 use Rattle.value.specs.declared.Value.{Value}
-use Rattle.desk.specs.Plain.{noNan}
-use Rattle.wording.specs.Values.{wordSingle, wordSigned}
+use Rattle.value.specs.Said.{noNan}
+use Rattle.wording.specs.Values.{wordSingle, wordDouble, wordSigned}
 use Rattle.text.specs.Numbers.{spaced, integerText}
 use borrow.Author.Needs.{needs}
 use Rattle.wording.proofs.put_value.Statement.{statement}
@@ -54,8 +54,8 @@ enum-known-v-4 c = search needs
 slice-aggregate-word-number-3 : tie.Need-slice-aggregate-word-number-3
 slice-aggregate-word-number-3 c = search needs
 
-float-to-bits-word-number : tie.Need-float-to-bits-word-number
-float-to-bits-word-number c =
+double-bits-requires : tie.Need-double-bits-requires
+double-bits-requires c κs =
     subst (λ (x : Value). T (noNan x)) (c .before .before .before .v4 .given .1) (c .before .before .before .before .before .pre .0)
 
 word-number-requires-3 : tie.Need-word-number-requires-3
@@ -119,8 +119,9 @@ returns-3 c =
 
 returns-4 : tie.Need-returns-4
 returns-4 c =
-    let b = c .before .before .before .before .before .before in
-    (omega (arith, c .word-number3 .ensures .0, b .pre), rw (c .before .before .before .before .v4 .given .1) (c .word-number3 .ensures .1))
+    let b = c .before .before .before .before .before .before .before in
+    let e = ap (λ (n : ℕ). take (b .args .at) (b .args .out .now) ++ (wordDouble ++ spaced n)) (c .before .double-bits .ensures) in
+    (omega (arith, c .word-number3 .ensures .0, b .pre), rw (c .before .before .before .before .before .v4 .given .1) (c .word-number3 .ensures .1 ∙ e))
 
 returns-5 : tie.Need-returns-5
 returns-5 c =
@@ -158,7 +159,7 @@ put-value-spec =
     word-number-requires-2
     enum-known-v-4
     slice-aggregate-word-number-3
-    float-to-bits-word-number
+    double-bits-requires
     word-number-requires-3
     enum-known-v-5
     slice-aggregate-word-number-4

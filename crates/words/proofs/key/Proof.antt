@@ -1,7 +1,7 @@
 -- `words::key` meets its contract. The invariant: what is left gives the whole, and the number so far has as many digits as bytes are read.
 -- Assumes nothing.
-use mathlib.Core.Path.{_≡_, sym, ap, _∙_}
-use Prim.Native.Nat.{ℕ, _+_, _-_, _*_, _^_, _≤_, _<_}
+use mathlib.Core.Path.{_≡_, sym, _∙_}
+use Prim.Native.Nat.{_-_, _^_, _≤_, _<_}
 use native.Mathlib.Omega.{arith}
 use lib.ListN.{length, drop, getD}
 use Rattle.words.specs.Words.{keyFrom, keyOf}
@@ -17,29 +17,31 @@ abbrev μ-loop : tie.MeasureT-loop
 μ-loop word k₀ i₀ k i = length word - i
 
 returns : tie.Need-returns Inv-loop μ-loop
-returns c = sym (key-long (c .before .before .args .word .now) (omega arith))
+returns c = sym (key-long (c .before .args .word .now) (omega arith))
 
 loop-holds : tie.Need-loop-holds Inv-loop μ-loop
 loop-holds c =
-    (omega arith, omega arith, omega arith, sym (key-short (c .before .before .args .word .now) (omega arith)))
+    (omega arith, omega arith, omega arith, sym (key-short (c .before .args .word .now) (omega arith)))
 
 shared-slice-read-c : tie.Need-shared-slice-read-c Inv-loop μ-loop
 shared-slice-read-c c = search needs
 
 returns-2 : tie.Need-returns-2 Inv-loop μ-loop
 returns-2 c =
-    let w = c .before .before .before .before .before .before .args .word .now in
+    let w = c .before .before .before .before .before .args .word .now in
     let l = c .before .before .before .loop in
     sym (key-zero w (l .i) (l .k) (omega arith) (c .if2 .taken)) ∙ l .inv .3
 
 mul-k : tie.Need-mul-k Inv-loop μ-loop
 mul-k c = let l = c .before .before .before .loop in omega (arith, key-room (l .k) (l .i) (omega arith) (l .inv .2))
 
-wide-requires : tie.Need-wide-requires Inv-loop μ-loop
-wide-requires c κs = search needs
+cast-k : tie.Need-cast-k Inv-loop μ-loop
+cast-k c = omega (arith, c .before .shared-slice-known .given (c .before .before .before .loop .i))
 
 add-k : tie.Need-add-k Inv-loop μ-loop
-add-k c = let l = c .before .before .before .before .loop in omega (arith, key-room (l .k) (l .i) (omega arith) (l .inv .2))
+add-k c =
+    let l = c .before .before .before .loop in
+    omega (arith, key-room (l .k) (l .i) (omega arith) (l .inv .2), c .before .shared-slice-known .given (l .i))
 
 add-i : tie.Need-add-i Inv-loop μ-loop
 add-i c = search needs
@@ -49,17 +51,16 @@ loop-less c = search needs
 
 loop-again : tie.Need-loop-again Inv-loop μ-loop
 loop-again c =
-    let w = c .before .before .before .before .before .before .before .args .word .now in
-    let l = c .before .before .before .before .loop in
-    let x = c .wide in
-    let e : l .k * 256 + x .result ≡ l .k * 256 + getD w (l .i) 0 = omega (arith, x .ensures .0) in
-    let m = key-more w (l .i) (l .k) (omega arith) (c .before .if2 .left) in
-    (omega arith, omega arith, key-grows (l .k) (x .result) (l .i) (l .inv .2) (omega arith), ap (λ (k : ℕ). keyFrom k (drop (l .i + 1) w)) e ∙ sym m ∙ l .inv .3)
+    let w = c .before .before .before .before .before .args .word .now in
+    let l = c .before .before .before .loop in
+    let m = key-more w (l .i) (l .k) (omega arith) (c .if2 .left) in
+    let b = key-grows (l .k) (getD w (l .i) 0) (l .i) (l .inv .2) (omega (arith, c .before .shared-slice-known .given (l .i))) in
+    (omega arith, omega arith, b, sym m ∙ l .inv .3)
 
 returns-3 : tie.Need-returns-3 Inv-loop μ-loop
 returns-3 c =
     let l = c .before .loop in
-    sym (key-end (c .before .before .before .before .args .word .now) (l .i) (l .k) (omega arith)) ∙ l .inv .3
+    sym (key-end (c .before .before .before .args .word .now) (l .i) (l .k) (omega arith)) ∙ l .inv .3
 
 pub key-spec : {M : Type 1} → statement M
 key-spec =
@@ -72,7 +73,7 @@ key-spec =
     shared-slice-read-c
     returns-2
     mul-k
-    wide-requires
+    cast-k
     add-k
     add-i
     loop-less

@@ -6,7 +6,7 @@ use Rattle.reader.specs.State.{sound}
 use Rattle.reader.specs.declared.State.{State}
 use Rattle.records.specs.Calls.{bodyOf}
 use Rattle.cform.specs.State.{stateOf}
-use Rattle.cform.proofs.Floats.{no-nan}
+use Rattle.record.proofs.Fields.{answers-no-nan}
 use Rattle.capi.specs.Calls.{bodyC}
 use Rattle.capi.proofs.Refusing.{body-one}
 use Rattle.capi.proofs.Telling.{tells-it}
@@ -21,7 +21,7 @@ body-requires : tie.Need-body-requires
 body-requires c κs = search needs
 
 field-c-requires : tie.Need-field-c-requires
-field-c-requires c κs = no-nan (c .body .ensures)
+field-c-requires c κs = answers-no-nan (c .body .ensures)
 
 returns : tie.Need-returns
 unfolding bodyC

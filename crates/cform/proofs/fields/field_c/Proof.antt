@@ -2,10 +2,11 @@
 -- Assumes nothing.
 use mathlib.Core.Path.{sym, ap, _∙_, subst}
 use Prim.Native.Nat.{ℕ}
+use lib.Dec.{T}
 use lib.IntN.{pos}
-use Rattle.record.specs.Answer.{answerSays}
+use Rattle.record.specs.Answer.{answerSays, noNanIn}
 use Rattle.record.specs.declared.Answer.{Answer}
-use Rattle.cform.specs.Answer.{tell, fieldC, NoNanIn}
+use Rattle.cform.specs.Answer.{tell, fieldC}
 use borrow.Author.Needs.{needs}
 use Rattle.cform.proofs.fields.field_c.Statement.{statement}
 use Rattle.cform.proofs.fields.field_c.Tie as tie
@@ -14,7 +15,7 @@ enum-known-a : tie.Need-enum-known-a
 enum-known-a c = search needs
 
 value-c-requires : tie.Need-value-c-requires
-value-c-requires c κs = subst NoNanIn (c .before .a .given .1) (c .before .before .before .pre)
+value-c-requires c κs = subst (λ (x : Answer). T (noNanIn x)) (c .before .a .given .1) (c .before .before .before .pre)
 
 enum-known-a-2 : tie.Need-enum-known-a-2
 enum-known-a-2 c = search needs

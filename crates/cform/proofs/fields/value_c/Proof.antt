@@ -1,12 +1,14 @@
 -- `cform::fields::value_c` meets its contract: case by case.
 -- Assumes nothing.
 use mathlib.Core.Path.{sym, ap, _∙_, subst}
+use lib.Dec.{T}
 use lib.IntN.{ℤ, pos}
 use mir.Syntax.{w64}
 use mir.ValLaws.{toZ-ofZ}
 use Rattle.record.specs.Answer.{valueSays}
 use Rattle.value.specs.declared.Value.{Value}
-use Rattle.cform.specs.Answer.{tell, fieldC, NoNan}
+use Rattle.value.specs.Said.{noNan}
+use Rattle.cform.specs.Answer.{tell, fieldC}
 use borrow.Author.Needs.{needs}
 use Rattle.cform.proofs.fields.value_c.Statement.{statement}
 use Rattle.cform.proofs.fields.value_c.Tie as tie
@@ -27,7 +29,10 @@ enum-known-v-3 : tie.Need-enum-known-v-3
 enum-known-v-3 c = search needs
 
 single-bits-requires : tie.Need-single-bits-requires
-single-bits-requires c κs = subst NoNan (c .before .v3 .given .1) (c .before .before .before .pre)
+single-bits-requires c κs = subst (λ (x : Value). T (noNan x)) (c .before .v3 .given .1) (c .before .before .before .pre)
+
+cast-tell-c : tie.Need-cast-tell-c
+cast-tell-c c = search needs
 
 tell-c-requires-3 : tie.Need-tell-c-requires-3
 tell-c-requires-3 c κs = search needs
@@ -36,7 +41,7 @@ enum-known-v-4 : tie.Need-enum-known-v-4
 enum-known-v-4 c = search needs
 
 double-bits-requires : tie.Need-double-bits-requires
-double-bits-requires c κs = subst NoNan (c .before .v4 .given .1) (c .before .before .before .pre)
+double-bits-requires c κs = subst (λ (x : Value). T (noNan x)) (c .before .v4 .given .1) (c .before .before .before .pre)
 
 tell-c-requires-4 : tie.Need-tell-c-requires-4
 tell-c-requires-4 c κs = search needs
@@ -44,8 +49,8 @@ tell-c-requires-4 c κs = search needs
 enum-known-v-5 : tie.Need-enum-known-v-5
 enum-known-v-5 c = search needs
 
-wide-requires : tie.Need-wide-requires
-wide-requires c κs = search needs
+cast-tell-c-2 : tie.Need-cast-tell-c-2
+cast-tell-c-2 c = search needs
 
 tell-c-requires-5 : tie.Need-tell-c-requires-5
 tell-c-requires-5 c κs = search needs
@@ -81,7 +86,7 @@ returns-4 : tie.Need-returns-4
 returns-4 c = c .tell-c4 .ensures ∙ ap (tell 0 4 0 (pos 0)) (c .before .double-bits .ensures) ∙ sym (ap (λ (x : Value). fieldC (valueSays x)) (c .before .before .before .v4 .given .1))
 
 returns-5 : tie.Need-returns-5
-returns-5 c = c .tell-c5 .ensures ∙ ap (tell 0 3 0 (pos 0)) (c .before .wide .ensures) ∙ sym (ap (λ (x : Value). fieldC (valueSays x)) (c .before .before .before .v5 .given .1))
+returns-5 c = c .tell-c5 .ensures ∙ sym (ap (λ (x : Value). fieldC (valueSays x)) (c .before .before .v5 .given .1))
 
 returns-6 : tie.Need-returns-6
 returns-6 c = c .tell-c6 .ensures ∙ sym (ap (λ (x : Value). fieldC (valueSays x)) (c .before .before .v6 .given .1))
@@ -102,12 +107,13 @@ value-c-spec =
     tell-c-requires-2
     enum-known-v-3
     single-bits-requires
+    cast-tell-c
     tell-c-requires-3
     enum-known-v-4
     double-bits-requires
     tell-c-requires-4
     enum-known-v-5
-    wide-requires
+    cast-tell-c-2
     tell-c-requires-5
     enum-known-v-6
     tell-c-requires-6
