@@ -1,4 +1,4 @@
--- Feeding a piece, a byte at a time (document 01, 'Calls and their answers', Feed).
+-- Feeding a piece, a byte at a time (rule C6).
 -- Assumes nothing.
 use Prim.Native.Nat.{ℕ, zero, suc}
 use mathlib.Core.List.{List, [], _∷_, _++_}
@@ -29,14 +29,14 @@ abbrev pub unlessBlock : Option ℕ → Settled → Intake → Intake
 unlessBlock (some n) s next = stop s
 unlessBlock none s next = goOn s next
 
--- "If the held bytes give a block, reports it and takes 0 bytes. Else takes bytes one at a time until a block is decided, the
--- piece is spent or the run has 4,294,967,295 bytes." `room` is how many bytes the run may still take
+-- C6, by any judge of places; `room` is how many bytes the run may still take
 unfoldable pub feedBy : (List ℕ → Verdict) → List ℕ → List ℕ → ℕ → Intake
 feedBy judge held [] room = stop (settle judge held)
 feedBy judge held (b ∷ bs) zero = stop (settle judge held)
 feedBy judge held (b ∷ bs) (suc room) =
     unlessBlock (settle judge held .standing) (settle judge held) (feedBy judge (settle judge held .rest ++ b ∷ []) bs room)
 
+-- C6, by F12's judge
 abbrev pub feedLit : List ℕ → List ℕ → ℕ → Intake
 feedLit = feedBy judged
 
