@@ -1,4 +1,4 @@
--- What a call did is counted.
+-- What a call did is counted (rule F14).
 -- Assumes nothing.
 use Prim.Native.Nat.{ℕ, _+_}
 use mathlib.Core.Option.{Option, none, some}
@@ -13,7 +13,7 @@ abbrev pub one : Option ℕ → ℕ
 one none = 0
 one (some n) = 1
 
--- "End (bytes, blocks, skipped bytes)": the bytes taken, the block that stands, the bytes skipped
+-- F14: the bytes taken, the block that stands, the bytes skipped
 abbrev pub counted : Counts → Intake → Counts
 counted c f =
     record { taken = c .taken + f .taken; blocks = c .blocks + one (f .standing); skipped = c .skipped + length (f .passed) }

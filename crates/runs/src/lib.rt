@@ -1,4 +1,4 @@
-// A run that is open: Feed, Finish, and the bytes of the block just reported.
+// A run that is open: Feed (rules C6, C7), Finish (C8), and the bytes of the standing block (C9).
 ghost use mathlib.Core.Path.{_≡_};
 ghost use mathlib.Core.Option.{none};
 ghost use Rattle.reader.specs.Said.{refusalOf};
@@ -118,7 +118,7 @@ pub fn finish(s: State, hold: &mut [u8]) -> FinishAnswer
     }
 }
 
-// The block just reported, as a part of the hold; an empty part where none stands or the call is refused.
+// C9, R22: the standing block, as a part of the hold; an empty part where none stands or the call is refused.
 pub fn bytes(s: State, hold: &[u8]) -> &[u8]
     ensures { λ r. ⌜ now r ≡ bytesOf s (now (hold .entry)) ⌝ }
 {
@@ -131,7 +131,7 @@ pub fn bytes(s: State, hold: &[u8]) -> &[u8]
     }
 }
 
-// Whether `bytes` is refused, and why.
+// R22: whether `bytes` is refused, and why.
 pub fn bytes_refused(s: State, hold: &[u8]) -> Check
     ensures { λ r. ⌜ refusalOf r ≡ bytesRefusal s (now (hold .entry)) ⌝ }
 {

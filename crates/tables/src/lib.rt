@@ -1,5 +1,5 @@
-// The tables of a reader: Stage and Withdraw, which are lent nothing that an open run reads by, and Open, which puts a table in
-// force.
+// The tables of a reader: Stage and Withdraw (rules C10 to C12), which are lent nothing that an open run reads by, and Open (C5),
+// which puts a table in force.
 ghost use mathlib.Core.Path.{_≡_};
 ghost use mathlib.Core.List.{[]};
 ghost use Rattle.reader.specs.Outcome.{outcome};
