@@ -31,7 +31,7 @@ pub record GoodNumbers (r : HoldNumbers) (t : ℕ) : Type 0 where
   pub few : r .held ≤ 65532
   pub taken : r .taken ≤ t
 
--- what a call leaves in the hold is what the next one starts from: the held bytes without the standing block
+-- C4: what a call leaves in the hold is what the next one starts from: the held bytes without the standing block
 abbrev pub LeftForNext : Type 0
 LeftForNext =
     (f : Intake) (hold : List ℕ) → size (f .standing) ≤ length (f .held)

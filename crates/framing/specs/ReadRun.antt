@@ -14,7 +14,7 @@ pub record ReadBlock : Type 0 where
   pub size : ℕ
   pub bytes : List ℕ
 
--- the block of n bytes at the front of v, which is the run from the place p on
+-- C7: the block of n bytes at the front of v, which is the run from the place p on
 unfoldable pub blockAt : ℕ → ℕ → List ℕ → ReadBlock
 blockAt p n v =
     record { place = p; number = numberOf (idAt (take n v) 0); revision = revisionOf (idAt (take n v) 0); size = n; bytes = take n v }

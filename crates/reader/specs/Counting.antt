@@ -8,7 +8,7 @@ use Rattle.reader.specs.declared.Counts.{Counts}
 use Rattle.reader.specs.declared.Run.{Run}
 use Rattle.reader.specs.declared.State.{State}
 
--- a block, or none
+-- F14: a block, or none
 abbrev pub one : Option ℕ → ℕ
 one none = 0
 one (some n) = 1

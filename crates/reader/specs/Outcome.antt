@@ -1,5 +1,5 @@
--- What a call answers and leaves, refusals included: the answer, the new state and every byte of the buffer it may write; or a
--- part.
+-- What a call answers and leaves, refusals included (rules D4, R21, R22): the answer, the new state and every byte of the buffer
+-- it may write; or a part.
 -- Assumes nothing.
 use mathlib.Core.Path.{_≡_}
 use Prim.Native.Nat.{ℕ}
@@ -8,7 +8,7 @@ use mathlib.Core.Option.{Option, none, some}
 use Rattle.reader.specs.Said.{Said, refused}
 use Rattle.reader.specs.declared.State.{State}
 
--- the answer, the new state, and the buffer that the call may write
+-- D4: the answer, the new state, and the buffer that the call may write, of which there is one at most (C2)
 pub record Outcome : Type 0 where
   pub said : Said
   pub state : State

@@ -49,6 +49,7 @@ placeUnless none s = s
 unfoldable pub subPlaceOf : State → List ℕ → List ℕ → ℕ → Span
 subPlaceOf s force block k = placeUnless (askRefusal s force) (subPlace (decode (tableInForce s force)) block k)
 
+-- R20: the earlier number
 abbrev pub firstOf : Option ℕ → Option ℕ → Option ℕ
 firstOf (some n) rest = some n
 firstOf none rest = rest

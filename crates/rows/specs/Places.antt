@@ -26,7 +26,7 @@ unfoldable pub fieldAt : List ℕ → ℕ → FieldRow
 fieldAt t i =
     record { offset = getD t (4 * i) 0; kind = getD t (4 * i + 1) 0; first = getD t (4 * i + 2) 0; mark = getD t (4 * i + 3) 0 }
 
--- offset, type, first revision, mark
+-- T11: offset, type, first revision, mark
 abbrev pub fieldRow : ℕ → ℕ → ℕ → ℕ → FieldRow
 fieldRow offset kind first mark = record { offset = offset; kind = kind; first = first; mark = mark }
 

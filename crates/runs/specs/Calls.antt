@@ -21,7 +21,7 @@ use Rattle.runs.specs.Refusals.{feedRefusal, finishRefusal, bytesRefusal
 
 -- ---- Feed and Finish
 
--- the place of the first held byte
+-- C7: the place of the first held byte
 abbrev pub front : Run → ℕ
 front r = r .counts .taken - r .held
 
@@ -50,6 +50,7 @@ feedingBy f s hold =
 unfoldable pub feedingOf : State → List ℕ → List ℕ → Intake
 feedingOf s hold piece = feedLit (restOf hold (s .run .held) (s .run .standing)) piece (limit - s .run .counts .taken)
 
+-- C6, C7, R21: Feed
 unfoldable pub feedOf : State → List ℕ → List ℕ → Outcome
 feedOf s hold piece = unless (feedRefusal s hold piece) s hold (feedingBy (feedingOf s hold piece) s hold)
 
@@ -63,6 +64,7 @@ abbrev pub finishSaid : Option ℕ → Run → List ℕ → Said
 finishSaid none r v = ended (r .counts)
 finishSaid (some n) r v = found (reported (front r) n v)
 
+-- C8: what Finish answers and leaves
 abbrev pub finishingBy : Intake → State → List ℕ → Outcome
 finishingBy f s hold =
     let r = runOn (phaseAfter (f .standing)) (s .run) f in
@@ -72,11 +74,12 @@ finishingBy f s hold =
 unfoldable pub finishingOf : State → List ℕ → Intake
 finishingOf s hold = stop (settle judgedLast (restOf hold (s .run .held) (s .run .standing)))
 
+-- C8, R21: Finish
 unfoldable pub finishOf : State → List ℕ → Outcome
 finishOf s hold = unless (finishRefusal s hold) s hold (finishingBy (finishingOf s hold) s hold)
 
 -- ---- Bytes
 
--- C9: the standing block, which begins the hold (C4)
+-- C9, R22: the standing block begins the hold (C4)
 unfoldable pub bytesOf : State → List ℕ → List ℕ
 bytesOf s hold = partUnless (bytesRefusal s hold) (take (s .run .standing) hold)

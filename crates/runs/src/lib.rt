@@ -67,6 +67,7 @@ fn feed_on(s: State, hold: &mut [u8], piece: &[u8]) -> FeedAnswer
     }
 }
 
+// C6, C7.
 pub fn feed(s: State, hold: &mut [u8], piece: &[u8]) -> FeedAnswer
     ensures { λ r. ⌜ outcome (saidFed (r .answer)) (r .state) (now (hold .exit)) ≡ feedOf s (now (hold .entry)) (now (piece .entry)) ⌝ }
 {
@@ -105,6 +106,7 @@ fn finish_on(s: State, hold: &mut [u8]) -> FinishAnswer
     }
 }
 
+// C8.
 pub fn finish(s: State, hold: &mut [u8]) -> FinishAnswer
     ensures { λ r. ⌜ outcome (saidFinished (r .answer)) (r .state) (now (hold .exit)) ≡ finishOf s (now (hold .entry)) ⌝ }
 {

@@ -8,7 +8,7 @@ use Rattle.scan.specs.Settle.{Settled, settle}
 use Rattle.frame.specs.declared.Reason.{Reason}
 use Rattle.frame.specs.declared.Verdict.{Verdict}
 
--- how many bytes of the piece were taken, why each skipped byte was skipped, the length of the block at the front of the held
+-- C6: how many bytes of the piece were taken, why each skipped byte was skipped, the length of the block at the front of the held
 -- bytes, and these
 pub record Intake : Type 0 where
   pub taken : ℕ
@@ -25,6 +25,7 @@ abbrev pub goOn : Settled → Intake → Intake
 goOn s next =
     record { taken = suc (next .taken); passed = s .passed ++ next .passed; standing = next .standing; held = next .held }
 
+-- C6: a block ends the taking
 abbrev pub unlessBlock : Option ℕ → Settled → Intake → Intake
 unlessBlock (some n) s next = stop s
 unlessBlock none s next = goOn s next

@@ -8,7 +8,7 @@ use Rattle.frame.specs.declared.Reason.{Reason}
 use Rattle.frame.specs.declared.Verdict.{Verdict}
 use Rattle.frame.specs.declared.Verdict.the-variants.{NoFrame, Frame, Undecided}
 
--- why each skipped byte was skipped, the length of the block at the front of the rest, and the rest
+-- F14: why each skipped byte was skipped, the length of the block at the front of the rest, and the rest
 pub record Settled : Type 0 where
   pub passed : List Reason
   pub standing : Option ℕ

@@ -38,5 +38,6 @@ blockOf t r =
       subs = tabulate (fieldAt t) (r .start + r .bodies) (r .subs);
     }
 
+-- T2, T7, T11: what the bytes mean
 unfoldable pub decode : List ℕ → Table
 decode t = record { version = versionOf t; rows = map (blockOf t) (rowsOf t) }

@@ -27,7 +27,7 @@ findRow tab n = firstThat (hasNumber n) (tab .rows)
 abbrev pub carried : ℕ → FieldRow → Bool
 carried revision f = leb (f .first) revision
 
--- the row that the code's answer means
+-- D9: the row that the code's answer means
 abbrev pub rowSays : List ℕ → RowFound → Option BlockRow
 rowSays t (At r) = some (blockOf t r)
 rowSays t Nothing = none

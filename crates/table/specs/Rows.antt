@@ -16,6 +16,6 @@ pub record Table : Type 0 where
   pub version : ℕ
   pub rows : List BlockRow
 
--- where a field ends
+-- T13: where a field ends
 abbrev pub ends : FieldRow → ℕ
 ends f = f .offset + sizeOf (f .kind)

@@ -42,6 +42,7 @@ opening s force wait =
       lent = cond (ltb 0 (s .waiting)) (over (take (s .waiting) wait) force) force;
     }
 
+-- C5, R21: Open
 unfoldable pub openOf : State → List ℕ → List ℕ → Outcome
 openOf s force wait = unless (openRefusal s force wait) s force (opening s force wait)
 
@@ -60,6 +61,7 @@ staging s wait t =
       lent = over t wait;
     }
 
+-- C10, R21: Stage
 unfoldable pub stageOf : State → List ℕ → List ℕ → Outcome
 stageOf s wait t = unless (stageRefusal s wait t) s wait (staging s wait t)
 
@@ -72,5 +74,6 @@ abbrev pub withdrawing : State → Outcome
 withdrawing s =
     record { said = waited (ltb 0 (s .waiting)); state = record { run = s .run; «in_force» = s .«in_force»; waiting = 0 }; lent = [] }
 
+-- C11, R21: Withdraw
 unfoldable pub withdrawOf : State → Outcome
 withdrawOf s = unless (withdrawRefusal s) s [] (withdrawing s)

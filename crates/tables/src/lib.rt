@@ -44,6 +44,7 @@ pub struct WithdrawAnswer {
     pub state: State,
 }
 
+// C5.
 pub fn open(s: State, in_force: &mut [u8], waiting: &[u8]) -> OpenAnswer
     ensures { λ r. ⌜ outcome (saidOpened (r .answer)) (r .state) (now («in_force» .exit)) ≡ openOf s (now («in_force» .entry)) (now (waiting .entry)) ⌝ }
 {
@@ -85,6 +86,7 @@ fn of_stage(s: State, waiting: &[u8], t: &[u8]) -> Staged
     }
 }
 
+// C10.
 pub fn stage(s: State, waiting: &mut [u8], t: &[u8]) -> StageAnswer
     ensures { λ r. ⌜ outcome (saidStaged (r .answer)) (r .state) (now (waiting .exit)) ≡ stageOf s (now (waiting .entry)) (now (t .entry)) ⌝ }
 {
@@ -110,6 +112,7 @@ pub fn stage(s: State, waiting: &mut [u8], t: &[u8]) -> StageAnswer
     }
 }
 
+// C11.
 pub fn withdraw(s: State) -> WithdrawAnswer
     ensures { λ r. ⌜ outcome (saidWithdrawn (r .answer)) (r .state) [] ≡ withdrawOf s ⌝ }
 {
