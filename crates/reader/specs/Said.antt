@@ -20,8 +20,8 @@ pub record Report : Type 0 where
 abbrev pub reportOf : Block → Report
 reportOf b = record { place = b .place; number = b .number; revision = b .revision; size = b .length }
 
+-- R21: any call may be refused, with a number; the others by their calls
 pub data Said : Type 0 where
-  -- any call: R21
   refused : ℕ → Said
   -- Open: C5; Stage: C10
   version : ℕ → Said
