@@ -25,7 +25,7 @@ abbrev pub isSome : Option ℕ → Bool
 isSome none = false
 isSome (some n) = true
 
--- R20: 1, 2, 3
+-- R20: 1, 2, 3; what R3 asks of the held bytes, it asks without the standing block
 unfoldable pub feedRefusal : State → List ℕ → List ℕ → Option ℕ
 feedRefusal s hold piece =
     need (sound s && longHold hold) 1
