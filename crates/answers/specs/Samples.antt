@@ -1,4 +1,4 @@
--- Document 01's samples of records, (d), (h), (i) and (j), and the limits of the rules, as one table of cases.
+-- The samples of records, S4 and S8 to S10, and the limits of the rules, as one table of cases.
 -- Assumes nothing.
 use Prim.Native.Nat.{ℕ}
 use mathlib.Core.Path.{_≡_}
@@ -32,7 +32,7 @@ case given expected = record { given = given; expected = expected }
 abbrev countRows : List FieldRow
 countRows = fieldRow 14 u1 0 unmarked ∷ fieldRow 15 u1 0 unmarked ∷ []
 
--- the block of 8 bytes that is sample (b) of framing
+-- S2's block of 8 bytes
 abbrev pub sampleB : List ℕ
 sampleB = 0x24 ∷ 0x40 ∷ 0xA9 ∷ 0x89 ∷ 0x00 ∷ 0x00 ∷ 0x08 ∷ 0x00 ∷ []
 
@@ -121,36 +121,36 @@ ofBytes b k = partSaid (subBlock sampleTable b k) (subBlockRefusal sampleTable b
 
 abbrev pub recordCases : List RecordCase
 recordCases =
-    -- (d) ID bytes 37 17 are 5943 revision 0, 37 37 are 5943 revision 1, FF FF are 8191 revision 7
+    -- S4
     case (ofId (0x37 ∷ 0x17 ∷ [])) (id 5943 0)
     ∷ case (ofId (0x37 ∷ 0x37 ∷ [])) (id 5943 1)
     ∷ case (ofId (0xFF ∷ 0xFF ∷ [])) (id 8191 7)
-    -- (h) f4 bits D09502F9 with mark 3 are Do-Not-Use, D09502F8 a value
+    -- S8
     ∷ case (ofValue (0xF9 ∷ 0x02 ∷ 0x95 ∷ 0xD0 ∷ []) f4 minus2e10) (says doNotUse)
     ∷ case (ofValue (0xF8 ∷ 0x02 ∷ 0x95 ∷ 0xD0 ∷ []) f4 minus2e10) (says (single 0xD09502F8))
-    -- (i) u2 65535 with mark 1 is Do-Not-Use, 65534 a value
+    -- S9
     ∷ case (ofValue (0xFF ∷ 0xFF ∷ []) u2 ones) (says doNotUse)
     ∷ case (ofValue (0xFE ∷ 0xFF ∷ []) u2 ones) (says (unsigned 65534))
-    -- (j) a block of length 8 whose number has a row gives refusal 7
+    -- S10
     ∷ case (ofBody sampleB 0) (says (fieldRefused 7))
-    -- so does one of length 12, to the calls for TOW and WNc too
+    -- R7: the same of 12 bytes, to Tow and Wnc too
     ∷ case (ofBody twelve 0) (says (fieldRefused 7))
     ∷ case (says (stamp towRow twelve)) (says (fieldRefused 7))
     ∷ case (says (stamp wncRow twelve)) (says (fieldRefused 7))
-    -- a sign at each width, and the least value
+    -- V1, V3: a sign at each width, and mark 4
     ∷ case (ofValue (0xFF ∷ []) i1 unmarked) (says (signed (negsuc 0)))
     ∷ case (ofValue (0xFF ∷ 0x7F ∷ []) i2 least) (says (signed (pos 32767)))
     ∷ case (ofValue (0x00 ∷ 0x80 ∷ []) i2 least) (says doNotUse)
     ∷ case (ofValue (0x00 ∷ 0x80 ∷ []) i2 unmarked) (says (signed (negsuc 32767)))
     ∷ case (ofValue (0x00 ∷ 0x00 ∷ 0x00 ∷ 0x80 ∷ []) i4 unmarked) (says (signed (negsuc 2147483647)))
     ∷ case (ofValue (0xFE ∷ 0xFF ∷ 0xFF ∷ 0xFF ∷ 0xFF ∷ 0xFF ∷ 0xFF ∷ 0xFF ∷ []) i8 least) (says (signed (negsuc 1)))
-    -- f8 with mark 3, and all ones and zero in u8 and u4
+    -- V3: f8 with mark 3, and marks 1 and 2 in u8 and u4
     ∷ case (ofValue (0x00 ∷ 0x00 ∷ 0x00 ∷ 0x20 ∷ 0x5F ∷ 0xA0 ∷ 0x12 ∷ 0xC2 ∷ []) f8 minus2e10) (says doNotUse)
     ∷ case (ofValue (0x01 ∷ 0x00 ∷ 0x00 ∷ 0x20 ∷ 0x5F ∷ 0xA0 ∷ 0x12 ∷ 0xC2 ∷ []) f8 minus2e10) (says (double 0xC212A05F20000001))
     ∷ case (ofValue (0xFF ∷ 0xFF ∷ 0xFF ∷ 0xFF ∷ 0xFF ∷ 0xFF ∷ 0xFF ∷ 0xFF ∷ []) u8 ones) (says doNotUse)
     ∷ case (ofValue (0x00 ∷ 0x00 ∷ 0x00 ∷ 0x00 ∷ []) u4 zeroes) (says doNotUse)
     ∷ case (ofValue (0x00 ∷ 0x00 ∷ 0x00 ∷ 0x00 ∷ []) u4 ones) (says (unsigned 0))
-    -- body fields: values, a NaN's bits, not in this revision, no such field
+    -- C13, V2, V7, R9, V8: body fields, a NaN's bits, not in this revision, no such field, TOW and WNc
     ∷ case (ofBody old 0) (says (unsigned 65534))
     ∷ case (ofBody old 1) (says (signed (negsuc 1)))
     ∷ case (ofBody old 2) (says (single 0x7FC00001))
@@ -160,17 +160,17 @@ recordCases =
     ∷ case (ofBytes old 0) (partSaid [] (some 9))
     ∷ case (says (stamp towRow old)) (says doNotUse)
     ∷ case (says (stamp wncRow old)) (says (unsigned 0x0102))
-    -- 7 comes before 9; a revision newer than the table is read by the rows it has
+    -- R20: 7 comes before 9; V6: a revision above the row's highest
     ∷ case (ofBody cutShort 0) (says (fieldRefused 7))
     ∷ case (ofBody cutShort 4) (says (fieldRefused 7))
     ∷ case (ofBody newer 1) (says doNotUse)
     ∷ case (ofBody newer 2) (says doNotUse)
     ∷ case (ofBody newer 3) (says (unsigned 9))
     ∷ case (says (stamp wncRow newer)) (says doNotUse)
-    -- 6, and 10 before it
+    -- R20: 6, and 10 before it
     ∷ case (ofBody rowless 0) (says (fieldRefused 6))
     ∷ case (ofBody (0x24 ∷ rowless) 0) (says (fieldRefused 10))
-    -- sub-blocks
+    -- T18, R8, R9: sub-blocks
     ∷ case (ofSub twoSubs 1 0) (says (unsigned 0x6655))
     ∷ case (ofSub twoSubs 1 1) (says notInRevision)
     ∷ case (ofSub twoSubs 1 2) (says (fieldRefused 9))
@@ -181,7 +181,7 @@ recordCases =
     ∷ case (ofBody narrow 0) (says (fieldRefused 8))
     ∷ case (ofBytes narrow 0) (partSaid [] (some 8))
     ∷ case (ofSub overlong 0 0) (says (fieldRefused 8))
-    -- N zero, and SBLength zero
+    -- T18, R8: N zero, and SBLength zero
     ∷ case (ofBody nosubs 1) (says (unsigned 255))
     ∷ case (ofSub nosubs 0 0) (says (fieldRefused 9))
     ∷ case (ofBytes flat 0) (partSaid [] (some 8))

@@ -1,4 +1,4 @@
--- Theorems about the answers of record calls.
+-- Theorems about the answers of record calls (rules D4, V2).
 -- Assumes nothing.
 use Prim.Native.Nat.{ℕ, _^_, _<_}
 use mathlib.Core.Path.{_≡_}
@@ -14,12 +14,12 @@ use Rattle.value.specs.Said.{FieldSaid, single, double}
 use Rattle.record.specs.Answer.{answerSays, caseFor, Answers, handedSays}
 use Rattle.record.specs.Calls.{bodyField, subField, subBlock, subPlace, subBlockRefusal}
 
--- "one input admits one outcome": what is to be said fixes the answer, its case too
+-- D4: what is to be said fixes the answer, its case too
 pub record OneAnswer : Type 0 where
   pub answers : (r s : Answer) (said : FieldSaid) → Answers r said → Answers s said → r ≡ s
   pub handed : (r s : Handed) → handedSays r ≡ handedSays s → r ≡ s
 
--- the answers are those of the decoded table: two tables that mean the same give the same
+-- D2: the answers are those of the decoded table, so two tables that mean the same give the same
 pub record ByMeaning (t u b : List ℕ) : Type 0 where
   pub body : (i : ℕ) (r s : Answer) → Answers r (bodyField (decode t) b i) → Answers s (bodyField (decode u) b i) → r ≡ s
   pub sub : (k j : ℕ) (r s : Answer) → Answers r (subField (decode t) b k j) → Answers s (subField (decode u) b k j) → r ≡ s
@@ -30,7 +30,7 @@ pub record ByMeaning (t u b : List ℕ) : Type 0 where
 abbrev pub AllByMeaning : Type 0
 AllByMeaning = (t u : List ℕ) → decode t ≡ decode u → (b : List ℕ) → ByMeaning t u b
 
--- "Floats keep their bits, NaNs too": the case for any bits says these bits; it is the case with a float exactly where they are no NaN's
+-- V2: the case for any bits says these bits; it is the case with a float exactly where they are no NaN's
 pub record FloatsKept : Type 0 where
   pub single-bits : (b : ℕ) → b < 256 ^ 4 → answerSays (caseFor (single b)) ≡ single b
   pub double-bits : (b : ℕ) → b < 256 ^ 8 → answerSays (caseFor (double b)) ≡ double b

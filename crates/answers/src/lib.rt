@@ -1,4 +1,4 @@
-// Theorems about the answers of record calls, and document 01's samples of them. No code.
+// Theorems about the answers of record calls, and samples of them (rules S4, S8 to S10). No code.
 ghost use Rattle.answers.specs.Samples.{RecordSamplesHold};
 ghost use Rattle.answers.specs.Theorems.{OneAnswer, AllByMeaning, FloatsKept};
 
@@ -17,7 +17,7 @@ pub fn floats_kept()
     ensures { λ _. ⌜ FloatsKept ⌝ }
 {}
 
-// Document 01's samples of records hold, and the rules at their limits.
+// The samples of records hold, and the rules at their limits.
 pub fn samples_hold()
     ensures { λ _. ⌜ RecordSamplesHold ⌝ }
 {}

@@ -29,7 +29,7 @@ left r l = record { reply = r; lent = l }
 
 -- ---- the calls that go on with the state
 
--- a phase that is none: refusal 1, the same state, and nothing stored
+-- a phase that is none: refused with 1, and then R21 holds as of any refusal
 abbrev pub goesOn : (State → Outcome) → CState → List ℕ → Option State → Left
 goesOn call s lent none = left (replyC (refused 1) s) lent
 goesOn call s lent (some t) = left (replyC (call t .said) (stateC (call t .state))) (call t .lent)
@@ -46,7 +46,7 @@ finishC s hold = goesOn (λ t. finishOf t hold) s hold (stateOf s)
 unfoldable pub stageC : CState → List ℕ → List ℕ → Left
 stageC s wait table = goesOn (λ t. stageOf t wait table) s wait (stateOf s)
 
--- it is lent nothing
+-- C3: it is lent nothing
 unfoldable pub withdrawC : CState → Left
 withdrawC s = goesOn withdrawOf s [] (stateOf s)
 
@@ -87,10 +87,11 @@ abbrev pub hands : (State → Option ℕ) → (State → ℕ) → (State → Lis
 hands refusal offset bytes none = record { part = partC (some 1) 0 0; bytes = [] }
 hands refusal offset bytes (some t) = record { part = partC (refusal t) (offset t) (length (bytes t)); bytes = bytes t }
 
+-- C9: the part starts where the hold starts
 unfoldable pub bytesC : CState → List ℕ → Handing
 bytesC s hold = hands (λ t. bytesRefusal t hold) (λ t. 0) (λ t. bytesOf t hold) (stateOf s)
 
--- "a part that starts inside the block": where the sub-block stands
+-- C13: the part starts where the sub-block stands
 unfoldable pub subBytesC : CState → List ℕ → List ℕ → ℕ → Handing
 subBytesC s force block k =
     hands (λ t. subBytesRefusal t force block k) (λ t. subPlaceOf t force block k .at) (λ t. subBytesOf t force block k) (stateOf s)

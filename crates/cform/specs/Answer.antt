@@ -51,7 +51,7 @@ replyC a s = record { state = s; answer = answerC a }
 abbrev pub tell : ℕ → ℕ → ℕ → ℤ → ℕ → CField
 tell n k u z b = record { refusal = n; kind = k; number = u; signed = z; bits = b }
 
--- kinds: 0 refused, 1 unsigned, 2 signed, 3 single float, 4 double float, 5 Do-Not-Use, 6 not in this revision
+-- V7, by kinds: 0 refused, 1 unsigned, 2 signed, 3 single float, 4 double float, 5 Do-Not-Use, 6 not in this revision
 abbrev pub fieldC : FieldSaid → CField
 fieldC (unsigned n) = tell 0 1 n (pos 0) 0
 fieldC (signed z) = tell 0 2 0 z 0
@@ -63,7 +63,7 @@ fieldC (fieldRefused n) = tell n 0 0 (pos 0) 0
 
 -- ---- parts
 
--- the refusal's number and an empty part, or the part from an offset
+-- R22: the refusal's number and an empty part, or the part from an offset
 abbrev pub partC : Option ℕ → ℕ → ℕ → CPart
 partC (some n) o l = record { refusal = n; offset = 0; length = 0 }
 partC none o l = record { refusal = 0; offset = o; length = l }

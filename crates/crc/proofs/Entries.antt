@@ -1,4 +1,4 @@
--- The stored table, and its rule, proved once: a test that antt computes over all 256 entries, and one law.
+-- The stored table, and its rule, proved once (rule F10): a test that antt computes over all 256 entries, and one law.
 -- Assumes nothing.
 use mathlib.Core.Path.{_≡_}
 use mathlib.Core.List.{List, [], _∷_}

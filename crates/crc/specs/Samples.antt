@@ -1,4 +1,4 @@
--- Check values from outside: the CRC catalogue's for "123456789", the empty list, and the frame of document 01's sample (b).
+-- Check values from outside: the CRC catalogue's for "123456789" (rule F7), the empty list, and the frame of S2.
 -- Assumes nothing.
 use Prim.Native.Nat.{ℕ}
 use mathlib.Core.Path.{_≡_}
@@ -12,7 +12,7 @@ pub record Sample : Type 0 where
 abbrev sample : List ℕ → ℕ → Sample
 sample bs c = record { bytes = bs; crc = c }
 
--- the third is bytes 4 to 7 of 24 40 A9 89 00 00 08 00, whose CRC field is 0x89A9
+-- the third is bytes 4 to 7 of S2's frame, whose CRC field is 0x89A9
 abbrev pub samples : List Sample
 samples =
     sample (0x31 ∷ 0x32 ∷ 0x33 ∷ 0x34 ∷ 0x35 ∷ 0x36 ∷ 0x37 ∷ 0x38 ∷ 0x39 ∷ []) 0x31C3

@@ -1,10 +1,10 @@
-// The CRC of document 01: polynomial x^16+x^12+x^5+1, high bit first, start 0, nothing reflected, no final xor.
+// The CRC (rule F7), a byte at a time by a table (F10).
 ghost use mathlib.Core.Path.{_≡_};
 ghost use mathlib.Core.List.{_++_};
 ghost use Rattle.crc.specs.Crc.{crcFrom, crcOf};
 ghost use Rattle.crc.specs.Samples.{CrcSamplesHold};
 
-// Entry k is the remainder of the byte k: eight bits of k x 256.
+// F10: entry k is the remainder of the byte k, eight bits of k x 256.
 const REMAINDERS: [u16; 256] = [
     0x0000,
     0x1021,
@@ -303,7 +303,7 @@ pub extern "C" fn alderflute_crc(s: &[u8]) -> u16
     crc_of(s)
 }
 
-// The check values hold of the rule on bits.
+// The check values hold of F7 bit by bit.
 pub fn samples_hold()
     ensures { λ _. ⌜ CrcSamplesHold ⌝ }
 {}

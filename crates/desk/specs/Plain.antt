@@ -1,4 +1,4 @@
--- No reply carries a NaN as a float: it is carried as its bits.
+-- No reply carries a NaN as a float: it is carried as its bits (rule V2).
 -- Assumes nothing.
 use mathlib.Core.Bool.{Bool, true}
 use Rattle.record.specs.Answer.{noNanIn}

@@ -1,4 +1,4 @@
--- How a reply of Open, Feed, Finish, Stage or Withdraw is read.
+-- How a reply of Open, Feed, Finish, Stage or Withdraw is read (rule D9).
 -- Assumes nothing.
 use mathlib.Core.Bool.{Bool, true, false}
 use mathlib.Core.Option.{none, some}

@@ -1,4 +1,4 @@
--- What a call leaves: its numbers, and every byte of the hold.
+-- What a call leaves: its numbers, and every byte of the hold (rule C4).
 -- Assumes nothing.
 use Prim.Native.Nat.{ℕ, _-_, _≤_}
 use mathlib.Core.Path.{_≡_}
@@ -8,7 +8,7 @@ use Rattle.scan.specs.Feed.{Intake, size}
 use Rattle.scan.specs.Passed.{passedOf}
 use Rattle.feed.specs.declared.HoldNumbers.{HoldNumbers}
 
--- "drops the block last reported": the held bytes without the standing block
+-- C6, C8: the held bytes without the standing block, which is dropped
 unfoldable pub restOf : List ℕ → ℕ → ℕ → List ℕ
 restOf hold held standing = take (held - standing) (drop standing hold)
 
@@ -17,22 +17,21 @@ abbrev pub numbersOf : Intake → HoldNumbers
 numbersOf f =
     record { taken = f .taken; passed = passedOf (f .passed); held = length (f .held); standing = size (f .standing) }
 
--- bytes over the start of a buffer: "Bytes of a store past a copied table keep their values"
+-- C4: bytes over the start of a buffer, and behind them what it had
 abbrev pub over : List ℕ → List ℕ → List ℕ
 over xs buffer = xs ++ drop (length xs) buffer
 
--- "After each call the held bytes, a standing block first, begin at offset 0 of the hold": then the bytes that stood there
--- before, unchanged
+-- C4: the hold after a call
 abbrev pub holdOf : Intake → List ℕ → List ℕ
 holdOf f hold = over (f .held) hold
 
--- what a caller may count on: no more than t bytes taken, and numbers that are good for the next call
+-- what a caller may count on: no more than t bytes taken, and numbers that R1 lets the next call have
 pub record GoodNumbers (r : HoldNumbers) (t : ℕ) : Type 0 where
   pub front : r .standing ≤ r .held
   pub few : r .held ≤ 65532
   pub taken : r .taken ≤ t
 
--- what a call leaves in the hold is what the next one starts from: the held bytes without the standing block
+-- C4: what a call leaves in the hold is what the next one starts from: the held bytes without the standing block
 abbrev pub LeftForNext : Type 0
 LeftForNext =
     (f : Intake) (hold : List ℕ) → size (f .standing) ≤ length (f .held)

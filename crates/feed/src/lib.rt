@@ -1,4 +1,5 @@
-// A run fed piece by piece: what is taken and not decided, and a reported block, are kept at the front of the hold.
+// A run fed piece by piece (rules C4, C6, C8): what is taken and not decided, and a reported block, are kept at the front of the
+// hold.
 ghost use mathlib.Core.Path.{_≡_};
 ghost use mathlib.Core.List.{_++_};
 ghost use Prim.Native.Nat.{min, _+_, _-_, _≤_};
@@ -62,7 +63,7 @@ fn keep(hold: &mut [u8], standing: usize, n: usize, piece: &[u8], p: usize, m: u
     }
 }
 
-// Drops the standing block and takes at most `room` bytes of the piece; the promise is by the rule, a byte at a time.
+// Drops the standing block and takes at most `room` bytes of the piece; the promise is by C6, a byte at a time.
 pub fn feed(hold: &mut [u8], held: usize, standing: usize, piece: &[u8], room: usize) -> HoldNumbers
     requires { ⌜ (standing ≤ held) × (held ≤ 65532) × (65532 ≤ length (now hold)) ⌝ }
     ensures { λ r. ⌜ r ≡ numbersOf (feedLit (restOf (now (hold .entry)) held standing) (now (piece .entry)) room) ⌝ }

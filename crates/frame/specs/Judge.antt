@@ -1,5 +1,4 @@
--- What stands at a place, as far as the bytes from there on show, while the run is fed and when it is finished (document 01,
--- 'Reading a run').
+-- What stands at a place, as far as the bytes from there on show: while more may come (rule F12), and at the run's end (F13).
 -- Assumes nothing.
 use Prim.Native.Nat.{ℕ}
 use mathlib.Core.List.{List}
@@ -11,8 +10,7 @@ use Rattle.frame.specs.declared.Reason.the-variants.{NoSync, LengthNotAl
 use Rattle.frame.specs.declared.Verdict.{Verdict}
 use Rattle.frame.specs.declared.Verdict.the-variants.{NoFrame, Frame, Undecided}
 
--- "While a run is fed, a place is decided once it has a wrong sync byte, or eight bytes with a length not allowed, or all its L
--- bytes, and not before." v is the run from the place on
+-- F12: what is known of the place, by F8 once it is decided; v is the run from the place on
 unfoldable pub judged : List ℕ → Verdict
 judged v =
     cond (eqb (length v) 0) Undecided
@@ -24,12 +22,12 @@ judged v =
     (cond (ltb (length v) (lengthAt v 0)) Undecided
     (cond (crcRight v 0) (Frame (lengthAt v 0)) (NoFrame (CrcWrong (lengthAt v 0))))))))))
 
--- "When the run is finished, a header whose length passes the end is no frame": then every place is decided. A last byte alone
--- is no sync pair
+-- F13: what was undecided is no frame, and why; a last byte alone is no sync pair
 abbrev pub lastBy : Verdict → List ℕ → Verdict
 lastBy (NoFrame r) v = NoFrame r
 lastBy (Frame n) v = Frame n
 lastBy Undecided v = NoFrame (cond (ltb (length v) 2) NoSync (cond (ltb (length v) 8) FewLeft PastEnd))
 
+-- F13: v is the rest of the run
 unfoldable pub judgedLast : List ℕ → Verdict
 judgedLast v = lastBy (judged v) v

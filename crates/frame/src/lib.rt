@@ -1,4 +1,5 @@
-// What stands at a place of a run, which lies in two slices, the held bytes and then the piece; at the run's end in one.
+// What stands at a place of a run (rules F2 to F8, F12, F13). The run lies in two slices, the held bytes and then the piece; at
+// its end in one.
 ghost use mathlib.Core.Path.{_≡_};
 ghost use mathlib.Core.List.{_++_};
 ghost use Prim.Native.Nat.{min, _+_, _≤_, _<_};
@@ -58,7 +59,7 @@ fn pair_at(a: &[u8], b: &[u8], i: usize) -> u16
     wire::pair(at(a, b, i), at(a, b, i + 1))
 }
 
-// Where the bytes that the CRC covers begin: behind the sync bytes and the CRC itself.
+// F6: where the bytes that the CRC covers begin, behind the sync pair and the CRC itself.
 const COVERED: usize = 4;
 
 // The CRC of the bytes from 4 up to n of `a` and then `b`.
@@ -73,14 +74,14 @@ fn crc_between(a: &[u8], b: &[u8], n: usize) -> u16
     crc::update(0, &a[i..e], &b[j..f])
 }
 
-// "L is a multiple of 4 and at least 8"
+// F4: which lengths are allowed.
 fn length_allowed(n: u16) -> bool
     ensures { λ r. ⌜ r ≡ allowed n ⌝ }
 {
     (n % 4 == 0) & (8 <= n)
 }
 
-// What stands at the front of `a` and then `b`.
+// F12: what stands at the front of `a` and then `b`.
 pub fn judge(a: &[u8], b: &[u8]) -> Verdict
     ensures { λ r. ⌜ r ≡ judged (now (a .entry) ++ now (b .entry)) ⌝ }
 {
@@ -117,7 +118,7 @@ pub fn judge(a: &[u8], b: &[u8]) -> Verdict
     }
 }
 
-// What stands at the front of the run's last bytes.
+// F13: what stands at the front of the run's last bytes.
 pub fn judge_last(s: &[u8]) -> Verdict
     ensures { λ r. ⌜ r ≡ judgedLast (now (s .entry)) ⌝ }
 {
@@ -136,7 +137,7 @@ pub fn judge_last(s: &[u8]) -> Verdict
     }
 }
 
-// Whether the bytes given are one whole frame.
+// R10: whether the bytes given are exactly one frame.
 pub fn is_frame(s: &[u8]) -> bool
     ensures { λ r. ⌜ r ≡ wholeFrame (now (s .entry)) ⌝ }
 {

@@ -1,4 +1,5 @@
--- What holds of the definitions, as statements. Each is the `ensures` of a function with no code, so that a check names it.
+-- What holds of the definitions of framing (rules F8, F11 to F13, C14), as statements. Each is the `ensures` of a function with
+-- no code, so that a check names it.
 -- Assumes nothing.
 use mathlib.Core.Path.{_≡_}
 use mathlib.Core.List.{List, _++_}
@@ -13,25 +14,25 @@ use Rattle.frame.specs.declared.Verdict.the-variants.{NoFrame, Frame, Undecided
 use Rattle.scan.specs.Feed.{feedLit}
 use Rattle.framing.specs.ReadRun.{Reading, nothingRead, blockThen, skipThen, blockAt, readRun}
 
--- a place is judged a frame of n bytes exactly where one of n bytes stands
+-- F8: a place is judged a frame of n bytes exactly where one of n bytes stands
 pub record JudgedRight : Type 0 where
   pub frame : (w : List ℕ) (p : ℕ) → p < length w → frameAt w p ≡ true → judged (drop p w) ≡ Frame (lengthAt w p)
   pub stands : (w : List ℕ) (p n : ℕ) → p < length w → judged (drop p w) ≡ Frame n → (frameAt w p ≡ true) × (n ≡ lengthAt w p)
 
--- "a place is decided once it has a wrong sync byte, or eight bytes with a length not allowed, or all its L bytes"
+-- F12: the ways in which a place is decided
 pub data Decided (v : List ℕ) : Type 0 where
   first-wrong : 0 < length v → (getD v 0 0 ≡ 0x24 → ⊥) → Decided v
   second-wrong : 1 < length v → (getD v 1 0 ≡ 0x40 → ⊥) → Decided v
   length-wrong : 8 ≤ length v → allowed (lengthAt v 0) ≡ false → Decided v
   all-there : 8 ≤ length v → lengthAt v 0 ≤ length v → Decided v
 
--- "and not before"; and what is decided is the same whatever stands behind
+-- F12: then, and not earlier; and what is decided is the same whatever stands behind
 pub record DecidedExactly : Type 0 where
   pub once : (v : List ℕ) → Decided v → judged v ≡ Undecided → ⊥
   pub not-before : (v : List ℕ) → (judged v ≡ Undecided → ⊥) → Decided v
   pub alone : (xs ys zs : List ℕ) → Decided xs → judged (xs ++ ys) ≡ judged (xs ++ zs)
 
--- once a place is decided, bytes that follow do not change it
+-- F12: once a place is decided, bytes that follow do not change it
 abbrev pub DecidedStays : Type 0
 DecidedStays = (xs ys : List ℕ) → (judged xs ≡ Undecided → ⊥) → judged (xs ++ ys) ≡ judged xs
 
@@ -43,8 +44,8 @@ HasFew v = (syncAt v 0 ≡ true) × (length v < 8)
 abbrev pub PassesEnd : List ℕ → Type 0
 PassesEnd v = (syncAt v 0 ≡ true) × (8 ≤ length v) × (allowed (lengthAt v 0) ≡ true) × (length v < lengthAt v 0)
 
--- when the run is finished every place is decided, a frame where one was, and each of three reasons is given exactly where it
--- holds; the last two only then. A last byte alone is no pair
+-- F13: every place is decided, a frame where one was, and each of three reasons is given exactly where it holds; the last two
+-- only at the run's end. A last byte alone is no pair
 pub record LastRight : Type 0 where
   pub decides : (v : List ℕ) → judgedLast v ≡ Undecided → ⊥
   pub frame : (v : List ℕ) (n : ℕ) → judged v ≡ Frame n → judgedLast v ≡ Frame n
@@ -63,23 +64,21 @@ pub record LastRight : Type 0 where
 abbrev pub readAt : List ℕ → ℕ → Reading
 readAt w p = readRun p (drop p w)
 
--- "Reading a run", by places: "If a frame stands at the place, it is a block and reading goes on at p+L. Otherwise that one
--- byte is skipped."
+-- F11, by places of the whole run
 pub record ReadByTheRule : Type 0 where
   pub end : (w : List ℕ) → readAt w (length w) ≡ nothingRead
   pub block : (w : List ℕ) (p : ℕ) → p < length w → frameAt w p ≡ true
       → readAt w p ≡ blockThen (blockAt p (lengthAt w p) (drop p w)) (readAt w (p + lengthAt w p))
   pub skip : (w : List ℕ) (p : ℕ) → p < length w → frameAt w p ≡ false → readAt w p ≡ skipThen p (readAt w (p + 1))
 
--- "one that answers More has decided all it can": all it may take is taken, and the held bytes are none or begin with an
--- undecided place
+-- C14, of More: all it may take is taken, and the held bytes are none or begin with an undecided place (F15)
 abbrev pub MoreDecidesAll : Type 0
 MoreDecidesAll =
     (held piece : List ℕ) (room : ℕ) → feedLit held piece room .standing ≡ none
     → (feedLit held piece room .taken ≡ min room (length piece)) × (judged (feedLit held piece room .held) ≡ Undecided)
 
--- "A call that reports a block decides nothing after it": a frame of n bytes stands at the front of what is held, all bytes
--- behind the skipped ones are held, and no fewer bytes of the piece give a block
+-- C14, of a block: a frame of n bytes stands at the front of what is held, all bytes behind the skipped ones are held, and no
+-- fewer bytes of the piece give a block
 pub record BlockDecidesNoMore : Type 0 where
   pub stands : (held piece : List ℕ) (room n : ℕ) → feedLit held piece room .standing ≡ some n → judged (feedLit held piece room .held) ≡ Frame n
   pub held : (held piece : List ℕ) (room : ℕ)

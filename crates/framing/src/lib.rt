@@ -6,7 +6,7 @@ pub fn judged_right()
     ensures { λ _. ⌜ JudgedRight ⌝ }
 {}
 
-// A place is decided exactly when the bytes are there that the rule names, whatever stands behind them.
+// A place is decided exactly when the bytes are there that F12 names, whatever stands behind them.
 pub fn decided_exactly()
     ensures { λ _. ⌜ DecidedExactly ⌝ }
 {}
@@ -21,7 +21,7 @@ pub fn last_right()
     ensures { λ _. ⌜ LastRight ⌝ }
 {}
 
-// A run is read by the rule of document 01.
+// A run is read by F11.
 pub fn read_by_the_rule()
     ensures { λ _. ⌜ ReadByTheRule ⌝ }
 {}

@@ -1,5 +1,5 @@
--- The marks, one list: the types that may bear each, its test for Do-Not-Use, and what an unset field is written with (document 01, 'The
--- block table' and 'A field's answer').
+-- The marks, one list (rules V3, V4): the types that may bear each, its test for Do-Not-Use, and what an unset field is written
+-- with.
 -- Assumes nothing.
 use mathlib.Core.Bool.{Bool, true, false, cond}
 use mathlib.Core.List.{List, [], _∷_}
@@ -10,7 +10,7 @@ use lib.Dec.{eqb}
 use lib.ListN.{getD}
 use Rattle.kinds.specs.Types.{sizeOf, listed, isUnsigned, isSigned, isFloat, half}
 
--- "Marks: 0 none; 1 all ones (unsigned); 2 zero (unsigned); 3 minus 2 x 10^10 (float ..); 4 the least value (signed)"
+-- V3: the numbers of the marks
 abbrev pub unmarked : ℕ
 unmarked = 0
 
@@ -26,39 +26,38 @@ minus2e10 = 3
 abbrev pub least : ℕ
 least = 4
 
--- of a type: whether it may bear the mark; of a size and bits of so many bytes: whether they are Do-Not-Use; of a size: the bits that an
--- unset field is written with, none where a field cannot be unset
+-- of a type: whether it may bear the mark; of a size and bits of so many bytes: whether they are Do-Not-Use; of a size: the bits
+-- that an unset field is written with, none where a field cannot be unset
 pub record Mark : Type 0 where
   pub fits : ℕ → Bool
   pub test : ℕ → ℕ → Bool
   pub unset : ℕ → Option ℕ
 
--- the bits that marks 1 to 3 name, in so many bytes; those of mark 4 are `half`
+-- V3: the bits that marks 1 to 3 name, in so many bytes; those of mark 4 are `half`
 abbrev pub allOnes : ℕ → ℕ
 allOnes size = 256 ^ size - 1
 
 abbrev pub nought : ℕ → ℕ
 nought size = 0
 
--- "(float, bits D09502F9 or C212A05F20000000)"
 abbrev pub minus : ℕ → ℕ
 minus size = cond (eqb size 4) 0xD09502F9 0xC212A05F20000000
 
--- "Do-Not-Use is told by bits": by these, in so many bytes, and no others; an unset field is written with them
+-- V4: by these bits, in so many bytes, and no others; an unset field is written with them
 abbrev pub equals : (ℕ → ℕ) → ℕ → ℕ → Bool
 equals bits size x = eqb x (bits size)
 
 abbrev pub written : (ℕ → ℕ) → ℕ → Option ℕ
 written bits size = some (bits size)
 
--- a field without a mark is never Do-Not-Use, and cannot be unset
+-- V3, mark 0: the field is never Do-Not-Use, and cannot be unset
 abbrev pub noTest : ℕ → ℕ → Bool
 noTest size x = false
 
 abbrev pub cannot : ℕ → Option ℕ
 cannot size = none
 
--- in the order of their numbers
+-- V3: in the order of their numbers
 abbrev pub marks : List Mark
 marks =
     record { fits = λ kind. true; test = noTest; unset = cannot }
@@ -68,18 +67,18 @@ marks =
     ∷ record { fits = isSigned; test = equals half; unset = written half }
     ∷ []
 
--- a number that is not listed: no type may bear it
+-- V3: there is no other mark, so no type may bear one
 abbrev pub unlisted : Mark
 unlisted = record { fits = λ kind. false; test = noTest; unset = cannot }
 
 abbrev pub markOf : ℕ → Mark
 markOf mark = getD marks mark unlisted
 
--- whether a type may bear a mark
+-- V3: whether a type may bear a mark
 unfoldable pub markFits : ℕ → ℕ → Bool
 markFits kind mark = markOf mark .fits kind
 
--- whether the bits of a type are its mark's Do-Not-Use
+-- V3, V4: whether the bits of a type are its mark's Do-Not-Use
 unfoldable pub isDoNotUse : ℕ → ℕ → ℕ → Bool
 isDoNotUse mark kind x = markOf mark .test (sizeOf kind) x
 

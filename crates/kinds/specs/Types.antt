@@ -1,4 +1,4 @@
--- The ten types of fields: their numbers, their sizes, and which are of one kind (document 01, 'The block table').
+-- The ten types of fields: their numbers, their sizes, and which are of one kind (rule V1).
 -- Assumes nothing.
 use mathlib.Core.Bool.{Bool, _&&_}
 use mathlib.Core.List.{List, [], _∷_}
@@ -6,7 +6,7 @@ use Prim.Native.Nat.{ℕ, zero, suc, _-_, _*_, _^_}
 use lib.Dec.{leb}
 use lib.ListN.{getD}
 
--- "Types and sizes: 1 u1 1; 2 u2 2; 3 u4 4; 4 u8 8; 5 i1 1; 6 i2 2; 7 i4 4; 8 i8 8; 9 f4 4; 10 f8 8"
+-- V1: the numbers of the types
 abbrev pub u1 : ℕ
 u1 = 1
 
@@ -37,17 +37,20 @@ f4 = 9
 abbrev pub f8 : ℕ
 f8 = 10
 
+-- V1: the sizes, in the order of the numbers
 abbrev pub sizes : List ℕ
 sizes = 1 ∷ 2 ∷ 4 ∷ 8 ∷ 1 ∷ 2 ∷ 4 ∷ 8 ∷ 4 ∷ 8 ∷ []
 
--- the size of a type; 0 where it is not listed
+-- V1: the size of a type; 0 where it is not listed
 unfoldable pub sizeOf : ℕ → ℕ
 sizeOf zero = 0
 sizeOf (suc k) = getD sizes k 0
 
+-- V1: there is no other type
 abbrev pub listed : ℕ → Bool
 listed kind = leb u1 kind && leb kind f8
 
+-- V1: the three kinds
 abbrev pub isUnsigned : ℕ → Bool
 isUnsigned kind = leb u1 kind && leb kind u8
 
@@ -57,6 +60,6 @@ isSigned kind = leb i1 kind && leb kind i8
 abbrev pub isFloat : ℕ → Bool
 isFloat kind = leb f4 kind && leb kind f8
 
--- half of the numbers that so many bytes make: with a sign, those from here on are negative, and this one is the least
+-- V1: half of the numbers that so many bytes make; with a sign, those from here on are negative, and this one is the lowest
 abbrev pub half : ℕ → ℕ
 half size = 2 ^ (8 * size - 1)

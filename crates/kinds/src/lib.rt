@@ -1,10 +1,11 @@
-// The types of fields with their sizes, and the marks: which types may bear each, and which bits are its Do-Not-Use.
+// The types of fields with their sizes (rule V1), and the marks: which types may bear each, and which bits are its Do-Not-Use
+// (V3, V4).
 ghost use mathlib.Core.Path.{_≡_};
 ghost use Prim.Native.Nat.{_≤_};
 ghost use Rattle.kinds.specs.Types.{sizeOf};
 ghost use Rattle.kinds.specs.Marks.{markFits, isDoNotUse, UnsetIsTold};
 
-// Entry k is the size of type k + 1. Check and field reader look sizes up here.
+// D7: entry k is the size of type k + 1. Table check and field reader look sizes up here.
 const SIZES: [usize; 10] = [1, 2, 4, 8, 1, 2, 4, 8, 4, 8];
 
 // The size of a type; 0 where it is not listed.

@@ -1,4 +1,4 @@
-// Lists the blocks of standard input, read as one run: a line for each, and last the run's counts.
+// Lists the blocks of standard input, read as one run: a line for each, and last the run's counts (rule S11).
 ghost use Prim.Native.Nat.{_+_, _≤_};
 ghost use lib.ListN.{length};
 ghost use mathlib.Core.Path.{_≡_};

@@ -1,5 +1,4 @@
--- The lines that the lister prints, byte by byte (document 01: "prints a line `block PLACE NUMBER REVISION LENGTH` for each
--- block and last `end BYTES BLOCKS SKIPPED`, in decimal").
+-- The lines that the lister prints, byte by byte (rule S11).
 -- Assumes nothing.
 use Prim.Native.Nat.{ℕ}
 use mathlib.Core.List.{List, [], _∷_, _++_}
@@ -7,7 +6,7 @@ use Rattle.text.specs.Numbers.{spaced}
 use Rattle.reader.specs.Said.{Report}
 use Rattle.reader.specs.declared.Counts.{Counts}
 
--- `block`, `end`, and the line's end, in ASCII
+-- S11: `block`, `end`, and the line's end, in ASCII
 abbrev pub wordBlock : List ℕ
 wordBlock = 98 ∷ 108 ∷ 111 ∷ 99 ∷ 107 ∷ []
 
@@ -17,16 +16,18 @@ wordEnd = 101 ∷ 110 ∷ 100 ∷ []
 abbrev pub newline : List ℕ
 newline = 10 ∷ []
 
+-- S11: the line of a block
 abbrev pub blockWords : Report → List ℕ
 blockWords r = wordBlock ++ spaced (r .place) ++ spaced (r .number) ++ spaced (r .revision) ++ spaced (r .size)
 
 abbrev pub blockLine : Report → List ℕ
 blockLine r = blockWords r ++ newline
 
--- "`end BYTES BLOCKS SKIPPED`": a run's counts, wherever they are printed
+-- S11: a run's counts, wherever they are printed
 abbrev pub countsText : Counts → List ℕ
 countsText c = spaced (c .taken) ++ spaced (c .blocks) ++ spaced (c .skipped)
 
+-- S11: the last line
 abbrev pub endWords : Counts → List ℕ
 endWords c = wordEnd ++ countsText c
 

@@ -1,4 +1,4 @@
--- What replay's lines have, whatever the call: a refusal and the state, byte by byte.
+-- What replay's lines have, whatever the call (docs/REPLAY.md): a refusal and the state, byte by byte.
 -- Assumes nothing.
 use Prim.Native.Nat.{ℕ}
 use mathlib.Core.List.{List, [], _∷_, _++_}
@@ -18,7 +18,7 @@ wordBar = 32 ∷ 124 ∷ []
 abbrev pub refusedText : ℕ → List ℕ
 refusedText n = wordRefused ++ spaced n
 
--- "phase force waits held stands taken blocks skipped"
+-- the state's eight numbers, in REPLAY.md's order
 abbrev pub stateText : State → List ℕ
 stateText s =
     wordBar

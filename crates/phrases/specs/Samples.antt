@@ -1,4 +1,4 @@
--- Document 01's sample of the lister's output, as its two lines, and two numbers in decimal.
+-- The sample of the lister's output (rule S11), as its two lines, and two numbers in decimal.
 -- Assumes nothing.
 use mathlib.Core.Path.{_≡_}
 use mathlib.Core.List.{List, [], _∷_}
@@ -6,13 +6,13 @@ use Prim.Native.Nat.{ℕ}
 use Rattle.text.specs.Numbers.{decimal}
 use Rattle.phrases.specs.Lines.{blockLine, endLine}
 
--- "block 1 0 0 8"
+-- S11: block 1 0 0 8
 abbrev SampleBlock : Type 0
 SampleBlock =
     blockLine (record { place = 1; number = 0; revision = 0; size = 8 })
     ≡ 98 ∷ 108 ∷ 111 ∷ 99 ∷ 107 ∷ 32 ∷ 49 ∷ 32 ∷ 48 ∷ 32 ∷ 48 ∷ 32 ∷ 56 ∷ 10 ∷ []
 
--- "end 10 1 2"
+-- S11: end 10 1 2
 abbrev SampleEnd : Type 0
 SampleEnd = endLine (record { taken = 10; blocks = 1; skipped = 2 }) ≡ 101 ∷ 110 ∷ 100 ∷ 32 ∷ 49 ∷ 48 ∷ 32 ∷ 49 ∷ 32 ∷ 50 ∷ 10 ∷ []
 

@@ -1,4 +1,5 @@
-// What is said of a refusal, a block, a run's counts and end, and a state: the lister's lines, and what all of replay's lines have.
+// What is said of a refusal, a block, a run's counts and end, and a state: the lister's lines (rule S11), and what all of
+// replay's lines have.
 ghost use Prim.Native.Nat.{_+_, _≤_};
 ghost use lib.ListN.{take};
 ghost use mathlib.Core.Path.{_≡_};
@@ -94,7 +95,7 @@ pub fn state_text(out: &mut [u8; 8192], at: usize, s: State) -> usize
     counts(out, standing, sums)
 }
 
-// The lines of document 01's sample are these.
+// The lines of S11's sample are these.
 pub fn samples_hold()
     ensures { λ _. ⌜ LineSamplesHold ⌝ }
 {}

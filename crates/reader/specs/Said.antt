@@ -1,5 +1,5 @@
--- What a call answers, in document 01's words and numbers. How a block's report is read stands here, and how each answer of the
--- code is read beside its call; no two answers of one call read the same.
+-- What a call answers, by the numbers and values of the rules (D9). How a block's report is read stands here, and how each answer
+-- of the code is read beside its call; no two answers of one call read the same.
 -- Assumes nothing.
 use Prim.Native.Nat.{ℕ}
 use mathlib.Core.Bool.{Bool}
@@ -10,7 +10,7 @@ use Rattle.reader.specs.declared.Counts.{Counts}
 use Rattle.reader.specs.declared.Check.{Check}
 use Rattle.reader.specs.declared.Check.the-variants as check
 
--- "Block (place, number, revision, length)"
+-- C7: what is reported of a block
 pub record Report : Type 0 where
   pub place : ℕ
   pub number : ℕ
@@ -20,18 +20,20 @@ pub record Report : Type 0 where
 abbrev pub reportOf : Block → Report
 reportOf b = record { place = b .place; number = b .number; revision = b .revision; size = b .length }
 
+-- R21: any call may be refused, with a number; the others by their calls
 pub data Said : Type 0 where
   refused : ℕ → Said
-  -- Open, Stage: "Answers the version in force", "answers its version"
+  -- Open: C5; Stage: C10
   version : ℕ → Said
-  -- Feed: "Answers the count taken, with Block (..) or More"
+  -- Feed: C7; none is More
   took : ℕ → Option Report → Said
-  -- Finish: "answers Block, or End (bytes, blocks, skipped bytes)"
+  -- Finish: C8
   found : Report → Said
   ended : Counts → Said
-  -- Withdraw: "answers whether one did"
+  -- Withdraw: C11
   waited : Bool → Said
 
+-- R22: a refusal's number, or none
 abbrev pub refusalOf : Check → Option ℕ
 refusalOf check.Passed = none
 refusalOf (check.Refused r) = some (numberFor r)

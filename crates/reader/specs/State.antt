@@ -1,4 +1,4 @@
--- The state: its phase by number, a new reader's, and what refusal 1 asks of any (document 01, 'Calls and their answers').
+-- The state: its phase by number, a new reader's (rule C15), and what refusal 1 asks of any (R1).
 -- Assumes nothing.
 use Prim.Native.Nat.{ℕ}
 use mathlib.Core.Bool.{Bool, _&&_}
@@ -15,22 +15,22 @@ phaseNumber Closed = 0
 phaseNumber Feeding = 1
 phaseNumber Finishing = 2
 
--- "the run has 4,294,967,295 bytes"
+-- C6: the most bytes that a run takes
 abbrev pub limit : ℕ
 limit = 4294967295
 
--- "Counts become zero"
+-- C5, C15: nothing is counted yet
 abbrev pub noCounts : Counts
 noCounts = record { taken = 0; blocks = 0; skipped = 0 }
 
 abbrev pub noRun : Run
 noRun = record { phase = Closed; held = 0; standing = 0; counts = noCounts }
 
+-- C15: a new reader's
 abbrev pub newState : State
 newState = record { run = noRun; «in_force» = 0; waiting = 0 }
 
--- 1: "the state has over 65,532 held bytes, more held than taken, a standing block longer than the held bytes, a table length
--- over 8,192, over 4,294,967,295 taken, or blocks or skipped above taken": none of it
+-- R1, its half about the state: no number in it is too large
 unfoldable pub sound : State → Bool
 sound s =
     leb (s .run .held) 65532

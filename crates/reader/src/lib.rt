@@ -1,5 +1,5 @@
-// A reader's state, what is reported of a block, what refusal 1 asks of the state and of a hold, and whether a call is refused. The
-// calls are those of `tables`, `runs` and `records`.
+// A reader's state, what is reported of a block, what refusal 1 asks of the state and of a hold (rule R1), and whether a call is
+// refused. The calls are those of `tables`, `runs` and `records`.
 ghost use mathlib.Core.Path.{_≡_};
 ghost use mathlib.Core.Bool.{_&&_};
 ghost use mathlib.Core.Option.{none};
@@ -66,7 +66,7 @@ pub fn no_counts() -> Counts
     }
 }
 
-// A new reader.
+// C15: a new reader.
 pub fn new() -> State
     ensures { λ r. ⌜ r ≡ newState ⌝ }
 {
@@ -82,7 +82,7 @@ pub fn new() -> State
     }
 }
 
-// 1, the state's half: every call applies it.
+// R1, the state's half: every call applies it.
 pub fn is_sound(s: State) -> bool
     ensures { λ r. ⌜ r ≡ sound s ⌝ }
 {
@@ -98,14 +98,14 @@ pub fn is_sound(s: State) -> bool
         & (c.skipped <= c.taken)
 }
 
-// 1: the state is sound, and a hold of so many bytes is long enough.
+// R1: the state is sound, and a hold of so many bytes is long enough.
 pub fn may_call(s: State, hold: usize) -> bool
     ensures { λ r. ⌜ r ≡ (sound s && leb 65536 hold) ⌝ }
 {
     is_sound(s) & (65536 <= hold)
 }
 
-// 1 of a call that is lent nothing.
+// R1 of a call that is lent nothing.
 pub fn of_state(s: State) -> Check
     ensures { λ r. ⌜ refusalOf r ≡ need (sound s) 1 none ⌝ }
 {
@@ -138,7 +138,7 @@ pub fn is_closed(p: Phase) -> bool
     }
 }
 
-// A refusal, whatever the call: the old state, and nothing stored or handed back.
+// R21, R22: the old state, and no byte written or handed back, whatever the call.
 pub fn refusal_keeps()
     ensures { λ _. ⌜ RefusalKeeps ⌝ }
 {}

@@ -1,5 +1,4 @@
--- What the record calls answer: "Record calls 1, 5, 4, 10, 6, 7, 8, 9; the TOW and WNc calls read no table and give only 1, 10
--- and, for L below 14, 7".
+-- What the record calls answer (rule C13), and the refusals that come before those of the block itself (R20).
 -- Assumes nothing.
 use Prim.Native.Nat.{ℕ}
 use mathlib.Core.Bool.{_&&_}
@@ -21,27 +20,28 @@ use Rattle.reader.specs.declared.State.{State}
 abbrev pub tableInForce : State → List ℕ → List ℕ
 tableInForce s force = take (s .«in_force») force
 
--- 5: "a record call that reads by a table, with nothing in force"; 4: "a table to be .. read by breaks a table rule"
+-- R20: 1, 5, 4
 unfoldable pub askRefusal : State → List ℕ → Option ℕ
 askRefusal s force = need (sound s && longStore force) 1 (need (ltb 0 (s .«in_force»)) 5 (tableRefusal (tableInForce s force)))
 
+-- R21: what is said, unless the call is refused
 abbrev pub saidUnless : Option ℕ → FieldSaid → FieldSaid
 saidUnless (some n) said = fieldRefused n
 saidUnless none said = said
 
--- "a body field by number"
+-- C13: Body
 unfoldable pub bodyOf : State → List ℕ → List ℕ → ℕ → FieldSaid
 bodyOf s force block i = saidUnless (askRefusal s force) (bodyField (decode (tableInForce s force)) block i)
 
--- "a sub-block's field by two numbers"
+-- C13: Sub
 unfoldable pub subOf : State → List ℕ → List ℕ → ℕ → ℕ → FieldSaid
 subOf s force block k j = saidUnless (askRefusal s force) (subField (decode (tableInForce s force)) block k j)
 
--- "a sub-block's bytes as a part that starts inside the block"
+-- C13: Subbytes
 unfoldable pub subBytesOf : State → List ℕ → List ℕ → ℕ → List ℕ
 subBytesOf s force block k = partUnless (askRefusal s force) (subBlock (decode (tableInForce s force)) block k)
 
--- where that part stands in the block: an empty one at its start where the call is refused
+-- C13, R22: where that part stands in the block; an empty one at its start where the call is refused
 abbrev pub placeUnless : Option ℕ → Span → Span
 placeUnless (some n) s = nowhere
 placeUnless none s = s
@@ -49,14 +49,16 @@ placeUnless none s = s
 unfoldable pub subPlaceOf : State → List ℕ → List ℕ → ℕ → Span
 subPlaceOf s force block k = placeUnless (askRefusal s force) (subPlace (decode (tableInForce s force)) block k)
 
+-- R20: the earlier number
 abbrev pub firstOf : Option ℕ → Option ℕ → Option ℕ
 firstOf (some n) rest = some n
 firstOf none rest = rest
 
+-- R22: the number that Subbytes is refused with, or none
 unfoldable pub subBytesRefusal : State → List ℕ → List ℕ → ℕ → Option ℕ
 subBytesRefusal s force block k = firstOf (askRefusal s force) (subBlockRefusal (decode (tableInForce s force)) block k)
 
--- "TOW (u4 at 8) and WNc (u2 at 12) .. have calls of their own"
+-- C13, V8: Tow and Wnc, each by a row of its own and no table; R20's 1 comes first
 unfoldable pub stampOf : FieldRow → State → List ℕ → FieldSaid
 stampOf f s block = saidUnless (need (sound s) 1 none) (stamp f block)
 

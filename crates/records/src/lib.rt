@@ -1,4 +1,4 @@
-// Record calls: a body field, a sub-block's field, a sub-block's bytes by the table in force; TOW and WNc by no table.
+// Record calls (rule C13): a body field, a sub-block's field, a sub-block's bytes by the table in force; TOW and WNc by no table.
 ghost use mathlib.Core.Path.{_≡_};
 ghost use Prim.Native.Nat.{_+_, _≤_};
 ghost use lib.ListN.{length};
@@ -15,7 +15,7 @@ use record::Placed;
 use refusal::Refusal;
 use table::Checked;
 
-// 1, 5, 4: the table in force is checked at every call, for a caller may have spoiled the store.
+// R1, R5, R4: the table in force is checked at every call, for a caller may have spoiled the store.
 fn of_ask(s: State, in_force: &[u8]) -> Check
     ensures { λ r. ⌜ refusalOf r ≡ askRefusal s (now («in_force» .entry)) ⌝ }
 {
@@ -57,7 +57,7 @@ pub fn sub(s: State, in_force: &[u8], block: &[u8], k: usize, j: usize) -> Answe
     }
 }
 
-// The bytes of sub-block k, as a part of the block; an empty part where the call is refused.
+// C13, R22: the bytes of sub-block k, as a part of the block; an empty part where the call is refused.
 pub fn sub_bytes<'a, 'b>(s: State, in_force: &'a [u8], block: &'b [u8], k: usize) -> &'b [u8]
     ensures { λ r. ⌜ now r ≡ subBytesOf s (now («in_force» .entry)) (now (block .entry)) k ⌝ }
     ensures { λ r. ⌜ r .ptr ≡ past (block .entry .ptr) (subPlaceOf s (now («in_force» .entry)) (now (block .entry)) k .at) ⌝ }
@@ -70,7 +70,7 @@ pub fn sub_bytes<'a, 'b>(s: State, in_force: &'a [u8], block: &'b [u8], k: usize
     }
 }
 
-// Whether `sub_bytes` is refused, and why.
+// R22: whether `sub_bytes` is refused, and why.
 pub fn sub_bytes_refused(s: State, in_force: &[u8], block: &[u8], k: usize) -> Handed
     ensures { λ r. ⌜ handedSays r ≡ subBytesRefusal s (now («in_force» .entry)) (now (block .entry)) k ⌝ }
 {
@@ -99,7 +99,7 @@ pub fn sub_place(s: State, in_force: &[u8], block: &[u8], k: usize) -> Placed
     }
 }
 
-// The time of week of a block.
+// V8: the time of week of a block.
 pub fn tow(s: State, block: &[u8]) -> Answer
     ensures { λ r. ⌜ Answers r (towOf s (now (block .entry))) ⌝ }
 {
@@ -110,7 +110,7 @@ pub fn tow(s: State, block: &[u8]) -> Answer
     }
 }
 
-// The week number of a block.
+// V8: the week number of a block.
 pub fn wnc(s: State, block: &[u8]) -> Answer
     ensures { λ r. ⌜ Answers r (wncOf s (now (block .entry))) ⌝ }
 {

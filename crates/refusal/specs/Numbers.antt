@@ -1,4 +1,4 @@
--- The numbers of the refusals (document 01, 'Calls and their answers'), there and back.
+-- The numbers of the refusals (rules R1 to R10), there and back.
 -- Assumes nothing.
 use Prim.Native.Nat.{ℕ, _-_}
 use mathlib.Core.Path.{_≡_}
@@ -7,7 +7,7 @@ use lib.ListN.{getD}
 use Rattle.refusal.specs.declared.Refusal.{Refusal}
 use Rattle.refusal.specs.declared.Refusal.the-variants.{BadBuffer, OutOfTurn, RunFull, BadTable, NoTable, NoRow, TooShort, BadSubBlocks, NoSuchField, NotOneFrame}
 
--- the number that document 01's table gives each refusal
+-- D9: each refusal's number, R1 to R10
 abbrev pub numberFor : Refusal → ℕ
 numberFor BadBuffer = 1
 numberFor OutOfTurn = 2

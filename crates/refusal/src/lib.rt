@@ -1,4 +1,4 @@
-// Why a call is refused, and the number that document 01's table gives each refusal.
+// Why a call is refused, and the number of each refusal (rules R1 to R10).
 ghost use mathlib.Core.Path.{_≡_};
 ghost use Rattle.refusal.specs.Numbers.{numberFor, NumbersApart};
 

@@ -1,5 +1,4 @@
--- What is printed of a line, byte by byte: "Each call (not `poke`, `put`, `size`) prints ANSWER | phase force waits held stands
--- taken blocks skipped | H F W", and a bad line prints nothing here.
+-- What is printed of a line, byte by byte (docs/REPLAY.md): the answer, the state, the CRCs. A bad line prints nothing here.
 -- Assumes nothing.
 use Prim.Native.Nat.{ℕ}
 use mathlib.Core.List.{List, [], _++_}

@@ -1,10 +1,11 @@
-// A table's trailer and rows by value: with the table's rules on its trailer, the code that knows where in a table's bytes a thing stands.
+// A table's trailer and rows by value (rules T1, T2, T7, T11): with the table's rules on its trailer, the code that knows where
+// in a table's bytes a thing stands.
 ghost use mathlib.Core.Path.{_≡_};
 ghost use Prim.Native.Nat.{_+_, _*_, _≤_, _<_};
 ghost use lib.ListN.{length};
 ghost use Rattle.rows.specs.Places.{versionOf, blockCount, blocksAt, fieldCount, fieldAt, rowAt};
 
-// A field row: `kind` is its type, `first` its first revision.
+// T11: `kind` is the type, `first` the first revision.
 pub struct FieldRow {
     pub offset: usize,
     pub kind: u8,
@@ -12,7 +13,7 @@ pub struct FieldRow {
     pub mark: u8,
 }
 
-// A block row as it stands: `bodies` and `subs` are its counts of body fields and of sub-fields, `start` is the index of
+// T7, a block row as it stands: `bodies` and `subs` are its counts of body rows and of sub-field rows, `start` is the index of
 // its first field row, `zero` its last byte.
 pub struct Row {
     pub number: u16,

@@ -1,4 +1,4 @@
--- What Feed, Finish and Bytes answer and leave.
+-- What Feed, Finish and Bytes answer and leave (rules C6 to C9).
 -- Assumes nothing.
 use Prim.Native.Nat.{ℕ, _-_}
 use mathlib.Core.List.{List}
@@ -21,11 +21,11 @@ use Rattle.runs.specs.Refusals.{feedRefusal, finishRefusal, bytesRefusal
 
 -- ---- Feed and Finish
 
--- the place of the first held byte
+-- C7: the place of the first held byte
 abbrev pub front : Run → ℕ
 front r = r .counts .taken - r .held
 
--- a block of n bytes at the front of v, at the place p
+-- C7: a block of n bytes at the front of v, at the place p
 abbrev pub reported : ℕ → ℕ → List ℕ → Report
 reported p n v = record { place = p; number = numberOf (idAt (take n v) 0); revision = revisionOf (idAt (take n v) 0); size = n }
 
@@ -37,7 +37,7 @@ reportIf (some n) p v = some (reported p n v)
 abbrev pub runOn : Phase → Run → Intake → Run
 runOn x r f = record { phase = x; held = length (f .held); standing = size (f .standing); counts = counted (r .counts) f }
 
--- "drops the block last reported. .. Answers the count taken, with Block (place, number, revision, length) or More."
+-- C7: what Feed answers and leaves, by its intake
 abbrev pub feedingBy : Intake → State → List ℕ → Outcome
 feedingBy f s hold =
     record {
@@ -46,33 +46,40 @@ feedingBy f s hold =
       lent = holdOf f hold;
     }
 
+-- C6: the intake; the room is what the limit leaves
 unfoldable pub feedingOf : State → List ℕ → List ℕ → Intake
 feedingOf s hold piece = feedLit (restOf hold (s .run .held) (s .run .standing)) piece (limit - s .run .counts .taken)
 
+-- C6, C7, R21: Feed
 unfoldable pub feedOf : State → List ℕ → List ℕ → Outcome
 feedOf s hold piece = unless (feedRefusal s hold piece) s hold (feedingBy (feedingOf s hold piece) s hold)
 
--- "answers Block, or End (bytes, blocks, skipped bytes), which closes the run"
+-- C8: the run is fed no more, and End closes it
 abbrev pub phaseAfter : Option ℕ → Phase
 phaseAfter none = phase.Closed
 phaseAfter (some n) = phase.Finishing
 
+-- C8: a block, or End
 abbrev pub finishSaid : Option ℕ → Run → List ℕ → Said
 finishSaid none r v = ended (r .counts)
 finishSaid (some n) r v = found (reported (front r) n v)
 
+-- C8: what Finish answers and leaves
 abbrev pub finishingBy : Intake → State → List ℕ → Outcome
 finishingBy f s hold =
     let r = runOn (phaseAfter (f .standing)) (s .run) f in
     record { said = finishSaid (f .standing) r (f .held); state = withRun s r; lent = holdOf f hold }
 
+-- C8, F13: no byte is taken, and no place waits
 unfoldable pub finishingOf : State → List ℕ → Intake
 finishingOf s hold = stop (settle judgedLast (restOf hold (s .run .held) (s .run .standing)))
 
+-- C8, R21: Finish
 unfoldable pub finishOf : State → List ℕ → Outcome
 finishOf s hold = unless (finishRefusal s hold) s hold (finishingBy (finishingOf s hold) s hold)
 
--- ---- Bytes: "the block just reported, handed back as a part of the hold itself; an empty part if none stands"
+-- ---- Bytes
 
+-- C9, R22: the standing block begins the hold (C4)
 unfoldable pub bytesOf : State → List ℕ → List ℕ
 bytesOf s hold = partUnless (bytesRefusal s hold) (take (s .run .standing) hold)

@@ -1,4 +1,4 @@
--- The refusals of Feed, Finish and Bytes, in their order (document 01: "Feed 1, 2, 3. Finish 1, 2. Bytes .. 1.").
+-- The refusals of Feed, Finish and Bytes, in their order (rule R20).
 -- Assumes nothing.
 use Prim.Native.Nat.{ℕ}
 use mathlib.Core.Bool.{Bool, true, false, not, _&&_, _||_}
@@ -15,6 +15,7 @@ use Rattle.reader.specs.declared.Phase.{Phase}
 use Rattle.reader.specs.declared.Phase.the-variants.{Closed, Feeding, Finishing}
 use Rattle.reader.specs.declared.State.{State}
 
+-- R2: a run is open, and its feeding not ended
 abbrev pub isFeeding : Phase → Bool
 isFeeding Closed = false
 isFeeding Feeding = true
@@ -24,17 +25,17 @@ abbrev pub isSome : Option ℕ → Bool
 isSome none = false
 isSome (some n) = true
 
--- 2: "Feed without one or after the first Finish"; 3: "the run has 4,294,967,295 bytes, the held bytes give no block and the
--- piece is not empty"
+-- R20: 1, 2, 3; what R3 asks of the held bytes, it asks without the standing block
 unfoldable pub feedRefusal : State → List ℕ → List ℕ → Option ℕ
 feedRefusal s hold piece =
     need (sound s && longHold hold) 1
     (need (isFeeding (s .run .phase)) 2
     (need (ltb (s .run .counts .taken) limit || (eqb (length piece) 0 || isSome (settle judged (restOf hold (s .run .held) (s .run .standing)) .standing))) 3 none))
 
--- 2: "Finish without one"
+-- R20: 1, 2
 unfoldable pub finishRefusal : State → List ℕ → Option ℕ
 finishRefusal s hold = need (sound s && longHold hold) 1 (need (not (isClosed (s .run .phase))) 2 none)
 
+-- R20: 1
 unfoldable pub bytesRefusal : State → List ℕ → Option ℕ
 bytesRefusal s hold = need (sound s && longHold hold) 1 none

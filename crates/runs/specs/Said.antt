@@ -1,4 +1,4 @@
--- How the answers of Feed and Finish are read.
+-- How the answers of Feed and Finish are read (rule D9).
 -- Assumes nothing.
 use mathlib.Core.Option.{none, some}
 use Rattle.refusal.specs.Numbers.{numberFor}

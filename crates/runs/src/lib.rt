@@ -1,4 +1,4 @@
-// A run that is open: Feed, Finish, and the bytes of the block just reported.
+// A run that is open: Feed (rules C6, C7), Finish (C8), and the bytes of the standing block (C9).
 ghost use mathlib.Core.Path.{_≡_};
 ghost use mathlib.Core.Option.{none};
 ghost use Rattle.reader.specs.Said.{refusalOf};
@@ -67,6 +67,7 @@ fn feed_on(s: State, hold: &mut [u8], piece: &[u8]) -> FeedAnswer
     }
 }
 
+// C6, C7.
 pub fn feed(s: State, hold: &mut [u8], piece: &[u8]) -> FeedAnswer
     ensures { λ r. ⌜ outcome (saidFed (r .answer)) (r .state) (now (hold .exit)) ≡ feedOf s (now (hold .entry)) (now (piece .entry)) ⌝ }
 {
@@ -105,6 +106,7 @@ fn finish_on(s: State, hold: &mut [u8]) -> FinishAnswer
     }
 }
 
+// C8.
 pub fn finish(s: State, hold: &mut [u8]) -> FinishAnswer
     ensures { λ r. ⌜ outcome (saidFinished (r .answer)) (r .state) (now (hold .exit)) ≡ finishOf s (now (hold .entry)) ⌝ }
 {
@@ -118,7 +120,7 @@ pub fn finish(s: State, hold: &mut [u8]) -> FinishAnswer
     }
 }
 
-// The block just reported, as a part of the hold; an empty part where none stands or the call is refused.
+// C9, R22: the standing block, as a part of the hold; an empty part where none stands or the call is refused.
 pub fn bytes(s: State, hold: &[u8]) -> &[u8]
     ensures { λ r. ⌜ now r ≡ bytesOf s (now (hold .entry)) ⌝ }
     ensures { λ r. ⌜ r .ptr ≡ hold .entry .ptr ⌝ }
@@ -132,7 +134,7 @@ pub fn bytes(s: State, hold: &[u8]) -> &[u8]
     }
 }
 
-// Whether `bytes` is refused, and why.
+// R22: whether `bytes` is refused, and why.
 pub fn bytes_refused(s: State, hold: &[u8]) -> Check
     ensures { λ r. ⌜ refusalOf r ≡ bytesRefusal s (now (hold .entry)) ⌝ }
 {

@@ -1,4 +1,4 @@
-// The refusals of Feed, Finish and Bytes, in document 01's order, each tested once.
+// The refusals of Feed, Finish and Bytes, in R20's order, each tested once.
 ghost use mathlib.Core.Path.{_≡_};
 ghost use mathlib.Core.List.{List};
 ghost use Prim.Native.Nat.{ℕ, _≤_};

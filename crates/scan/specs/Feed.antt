@@ -1,4 +1,4 @@
--- Feeding a piece, a byte at a time (document 01, 'Calls and their answers', Feed).
+-- Feeding a piece, a byte at a time (rule C6).
 -- Assumes nothing.
 use Prim.Native.Nat.{ℕ, zero, suc}
 use mathlib.Core.List.{List, [], _∷_, _++_}
@@ -8,7 +8,7 @@ use Rattle.scan.specs.Settle.{Settled, settle}
 use Rattle.frame.specs.declared.Reason.{Reason}
 use Rattle.frame.specs.declared.Verdict.{Verdict}
 
--- how many bytes of the piece were taken, why each skipped byte was skipped, the length of the block at the front of the held
+-- C6: how many bytes of the piece were taken, why each skipped byte was skipped, the length of the block at the front of the held
 -- bytes, and these
 pub record Intake : Type 0 where
   pub taken : ℕ
@@ -25,18 +25,19 @@ abbrev pub goOn : Settled → Intake → Intake
 goOn s next =
     record { taken = suc (next .taken); passed = s .passed ++ next .passed; standing = next .standing; held = next .held }
 
+-- C6: a block ends the taking
 abbrev pub unlessBlock : Option ℕ → Settled → Intake → Intake
 unlessBlock (some n) s next = stop s
 unlessBlock none s next = goOn s next
 
--- "If the held bytes give a block, reports it and takes 0 bytes. Else takes bytes one at a time until a block is decided, the
--- piece is spent or the run has 4,294,967,295 bytes." `room` is how many bytes the run may still take
+-- C6, by any judge of places; `room` is how many bytes the run may still take
 unfoldable pub feedBy : (List ℕ → Verdict) → List ℕ → List ℕ → ℕ → Intake
 feedBy judge held [] room = stop (settle judge held)
 feedBy judge held (b ∷ bs) zero = stop (settle judge held)
 feedBy judge held (b ∷ bs) (suc room) =
     unlessBlock (settle judge held .standing) (settle judge held) (feedBy judge (settle judge held .rest ++ b ∷ []) bs room)
 
+-- C6, by F12's judge
 abbrev pub feedLit : List ℕ → List ℕ → ℕ → Intake
 feedLit = feedBy judged
 

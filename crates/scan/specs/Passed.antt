@@ -1,4 +1,4 @@
--- The bytes passed, counted, and what a scan comes to.
+-- The bytes passed, counted (rule F14), and what a scan comes to.
 -- Assumes nothing.
 use Prim.Native.Nat.{_+_}
 use mathlib.Core.List.{List, [], _∷_}
@@ -10,7 +10,7 @@ use Rattle.scan.specs.declared.Scanned.{Scanned}
 abbrev pub nothingPassed : Passed
 nothingPassed = record { skipped = 0 }
 
--- one more is passed, for a reason
+-- F14: one more is passed, for a reason
 abbrev pub count : Passed → Reason → Passed
 count a r = record { skipped = a .skipped + 1 }
 

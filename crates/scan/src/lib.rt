@@ -1,4 +1,5 @@
-// Reading a run from place to place, up to the first block. The run lies in two slices: the held bytes, then the piece.
+// Reading a run from place to place, up to the first block (rules F11 to F15, C6). The run lies in two slices: the held bytes,
+// then the piece.
 ghost use mathlib.Core.Path.{_≡_};
 ghost use mathlib.Core.Bool.{false};
 ghost use Prim.Native.Nat.{max, _+_, _≤_, _<_};
@@ -144,7 +145,7 @@ fn scan_part(s: &[u8], rest: &[u8], before: Passed, mark: usize) -> Stretch
                 match why {
                     Reason::CrcWrong(n) => {
                         m = greater(m, place + n);
-                        // And not p + n: a false header must not swallow the blocks behind it.
+                        // And not p + n (F11, D6): a header made of noise must not hide the blocks behind it.
                         k = 1 + p;
                     }
                     _ => {
@@ -157,8 +158,8 @@ fn scan_part(s: &[u8], rest: &[u8], before: Passed, mark: usize) -> Stretch
     Stretch::Through(passed, m)
 }
 
-// The held bytes and then the piece, up to the first block or the place that is not decided; the promise is by the rule, a byte
-// at a time.
+// The held bytes and then the piece, up to the first block or the place that is not decided; the promise is by C6, a byte at
+// a time.
 pub fn scan(held: &[u8], piece: &[u8]) -> Scanned
     ensures { λ r. ⌜ r ≡ scannedOf (feedLit (now (held .entry)) (now (piece .entry)) (length (now (piece .entry)))) ⌝ }
 {
@@ -226,7 +227,7 @@ pub fn last(held: &[u8]) -> Scanned
             Verdict::NoFrame(why) => {
                 passed = count(passed, why);
             }
-            // Never: when the run is finished every place is decided.
+            // Never: at the run's end every place is decided (F13).
             Verdict::Undecided => {
                 return last_found(passed, 0);
             }

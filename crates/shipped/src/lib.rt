@@ -1,4 +1,4 @@
-// The rows shipped, version 1, as a table to be staged.
+// The rows shipped, version 1 (rules T30 to T36), as a table to be staged.
 ghost use mathlib.Core.Path.{_≡_};
 ghost use Rattle.encode.specs.Encode.{encode};
 ghost use Rattle.shipped.specs.Rows.{shipped};

@@ -1,4 +1,4 @@
--- The lines of the calls that may write, byte by byte: "ANSWER | phase force waits held stands taken blocks skipped | H F W".
+-- The lines of the calls that may write, byte by byte (docs/REPLAY.md).
 -- Assumes nothing.
 use Prim.Native.Nat.{ℕ}
 use mathlib.Core.Bool.{Bool, true, false, cond}
@@ -53,7 +53,7 @@ saidText w (found r) = blockWords r
 saidText w (ended c) = endWords c
 saidText w (waited b) = wordWithdrawn ++ spaced (oneFor b)
 
--- "H, F, W the CRCs of the whole three buffers in four hex digits", and the line's end
+-- the CRCs of the three whole buffers, and the line's end
 abbrev pub crcsText : Crcs → List ℕ
 crcsText c = wordBar ++ crcText (c .hold) ++ crcText (c .«in_force») ++ crcText (c .waiting) ++ newline
 

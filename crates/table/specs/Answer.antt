@@ -1,4 +1,4 @@
--- What the check says: the version, or refusal 4 (document 01, 'Calls and their answers': "a table .. breaks a table rule").
+-- What the check says: the version, or refusal 4 (rules C10, R4).
 -- Assumes nothing.
 use mathlib.Core.Bool.{cond}
 use mathlib.Core.List.{List}
@@ -12,11 +12,11 @@ pub data CheckSaid : Type 0 where
   checkVersion : ℕ → CheckSaid
   checkRefused : ℕ → CheckSaid
 
--- the paper's number and value for each case of the code's answer
+-- D9: the number and value of each case of the code's answer
 abbrev pub checkSays : Checked → CheckSaid
 checkSays (Version v) = checkVersion v
 checkSays Broken = checkRefused 4
 
--- what is to be told of any bytes
+-- C10, R4: what is to be told of any bytes
 unfoldable pub checkOf : List ℕ → CheckSaid
 checkOf t = cond (tableOk t) (checkVersion (decode t .version)) (checkRefused 4)

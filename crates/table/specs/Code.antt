@@ -1,4 +1,5 @@
--- Working definitions: the rules on rows once more, as the code's one pass takes them. `proofs/Fused` shows that they are the rules.
+-- Working definitions: the rules on rows (T8 to T17) once more, as the code's one pass takes them. `proofs/Fused` shows that they
+-- are the rules.
 -- Assumes nothing.
 use mathlib.Core.Bool.{Bool, true, _&&_}
 use mathlib.Core.List.{List, [], _∷_}

@@ -1,4 +1,5 @@
--- From bytes to meaning (document 01, 'The block table'): the rest of the trailer, and what the rows mean. The crate `encode` goes the other way.
+-- From bytes to meaning: the rest of the trailer (rule T2), and what the rows mean (T7, T10). The crate `encode` goes the other
+-- way.
 -- Assumes nothing.
 use mathlib.Core.List.{List, map}
 use Prim.Native.Nat.{ℕ, _+_, _-_}
@@ -9,7 +10,7 @@ use Rattle.rows.specs.Places.{versionOf, blockCount, fieldAt, rowAt}
 use Rattle.table.specs.Lists.{tabulate}
 use Rattle.table.specs.Rows.{BlockRow, Table}
 
--- "Trailer: ..; distance .. to the first block row u2 ..; distance .. to the first field row u2 ..; CRC u2 .."
+-- T2: the distances to the first block row and to the first field row, and the CRC
 abbrev pub toBlocks : List ℕ → ℕ
 toBlocks t = littleAt 2 t (length t - 8)
 
@@ -19,15 +20,15 @@ toFields t = littleAt 2 t (length t - 6)
 abbrev pub crcField : List ℕ → ℕ
 crcField t = littleAt 2 t (length t - 4)
 
--- the T-4 bytes before the CRC
+-- T5: the bytes before the CRC
 abbrev pub covered : List ℕ → List ℕ
 covered t = take (length t - 4) t
 
--- the block rows as they stand
+-- T1: the block rows as they stand
 unfoldable pub rowsOf : List ℕ → List Row
 rowsOf t = tabulate (rowAt t) 0 (blockCount t)
 
--- "A block's body rows stand first, then its sub-field rows"
+-- T10: from the index on, the body rows and then the sub-field rows
 unfoldable pub blockOf : List ℕ → Row → BlockRow
 blockOf t r =
     record {
@@ -37,5 +38,6 @@ blockOf t r =
       subs = tabulate (fieldAt t) (r .start + r .bodies) (r .subs);
     }
 
+-- T2, T7, T11: what the bytes mean
 unfoldable pub decode : List ℕ → Table
 decode t = record { version = versionOf t; rows = map (blockOf t) (rowsOf t) }

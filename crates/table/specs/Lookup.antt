@@ -1,4 +1,4 @@
--- Finding a block's row in a decoded table, the fields that a revision carries, and what `find` promises.
+-- Finding a block's row in a decoded table (rule R6), the fields that a revision carries (V5), and what `find` promises.
 -- Assumes nothing.
 use mathlib.Core.Bool.{Bool, true}
 use mathlib.Core.List.{List}
@@ -19,15 +19,15 @@ use Rattle.table.specs.Rules.{blockOk}
 abbrev pub hasNumber : ℕ → BlockRow → Bool
 hasNumber n b = eqb (b .number) n
 
--- a block's row, by its number
+-- R6: the row that has the block's number, or none
 unfoldable pub findRow : Table → ℕ → Option BlockRow
 findRow tab n = firstThat (hasNumber n) (tab .rows)
 
--- "A revision carries a field when the field's first revision is not above it"
+-- V5: whether a revision carries a field
 abbrev pub carried : ℕ → FieldRow → Bool
 carried revision f = leb (f .first) revision
 
--- the row that the code's answer means
+-- D9: the row that the code's answer means
 abbrev pub rowSays : List ℕ → RowFound → Option BlockRow
 rowSays t (At r) = some (blockOf t r)
 rowSays t Nothing = none

@@ -5,7 +5,7 @@ use Prim.Native.Nat.{ℕ, _+_}
 use Rattle.rows.specs.declared.FieldRow.{FieldRow}
 use Rattle.kinds.specs.Types.{sizeOf}
 
--- a FieldRow is offset, kind (the type), first (the first revision) and mark
+-- T7, T11: a FieldRow is offset, kind (the type), first (the first revision) and mark
 pub record BlockRow : Type 0 where
   pub number : ℕ
   pub highest : ℕ
@@ -16,6 +16,6 @@ pub record Table : Type 0 where
   pub version : ℕ
   pub rows : List BlockRow
 
--- where a field ends
+-- T13: where a field ends
 abbrev pub ends : FieldRow → ℕ
 ends f = f .offset + sizeOf (f .kind)

@@ -10,7 +10,7 @@ use Rattle.table.specs.Rows.{BlockRow}
 use Rattle.table.specs.Decode.{decode}
 use Rattle.table.specs.Rules.{tableOk}
 
--- numbers strictly rise, so a number has one row
+-- T8: so a number has one row
 abbrev pub OneRow : Type 0
 OneRow =
     (t : List ℕ) → tableOk t ≡ true → (i j : ℕ) (a b : BlockRow) → pick (decode t .rows) i ≡ some a → pick (decode t .rows) j ≡ some b

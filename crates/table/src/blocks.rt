@@ -1,4 +1,4 @@
-// The rules on block rows, and the pass over all rows.
+// The rules on block rows (T8 to T10, T17), and the pass over all rows.
 ghost use mathlib.Core.Path.{_≡_};
 ghost use mathlib.Core.Bool.{true};
 ghost use Prim.Native.Nat.{_+_, _≤_, _<_};
@@ -18,7 +18,7 @@ fn row_ok(r: Row, least: u16, used: usize, fields: usize) -> bool
     alone & (least <= r.number) & (r.start == used) & (used + (r.bodies + r.subs) <= fields)
 }
 
-// The field rows of a block row. N and SBLength are asked for only where there are sub-fields.
+// T12 to T16, the field rows of a block row. N and SBLength are asked for only where there are sub-fields.
 fn block_ok(t: &[u8], r: Row) -> bool
     requires { ⌜ r .start + r .bodies + r .subs ≤ fieldCount (now t) ⌝ }
     ensures { λ a. ⌜ a ≡ blockPass (blockOf (now (t .entry)) r) ⌝ }

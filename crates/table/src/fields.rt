@@ -1,4 +1,4 @@
-// The rules on field rows.
+// The rules on field rows (T12 to T16).
 ghost use mathlib.Core.Path.{_≡_};
 ghost use Prim.Native.Nat.{_+_, _≤_, _<_};
 ghost use Rattle.table.specs.Lists.{tabulate};
@@ -16,7 +16,7 @@ fn field_ok(f: FieldRow, low: usize, rev: u8, highest: u8) -> bool
     (low <= f.offset) & (rev <= f.first) & (f.first <= highest) & listed & marked
 }
 
-// The rows of a body or of sub-fields: count of them, from index `at`, the first at `least` or past it.
+// A body's rows, or those of sub-fields: count of them, from index `at`, the first at `least` or past it.
 pub fn fields_ok(t: &[u8], at: usize, count: usize, least: usize, highest: u8) -> bool
     requires { ⌜ at + count ≤ fieldCount (now t) ⌝ }
     ensures { λ r. ⌜ r ≡ fieldPass least 0 highest (tabulate (fieldAt (now (t .entry))) at count) ⌝ }

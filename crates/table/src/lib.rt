@@ -1,4 +1,4 @@
-// The block table: its check, and the row of a block's number.
+// The block table: its check (rules T1 to T17), and the row of a block's number.
 ghost use mathlib.Core.Path.{_≡_};
 ghost use mathlib.Core.Bool.{true};
 ghost use Rattle.table.specs.Rules.{tableOk};

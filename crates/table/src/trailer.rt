@@ -1,10 +1,10 @@
-// The rules on file and trailer.
+// The rules on file and trailer (T1, T3 to T6).
 ghost use mathlib.Core.Path.{_≡_};
 ghost use Prim.Native.Nat.{_≤_};
 ghost use lib.ListN.{length};
 ghost use Rattle.table.specs.Rules.{closingOk, fileOk};
 
-// The trailer's closing mark.
+// T6: the closing bytes, as a byte string (D7).
 fn closes(t: &[u8]) -> bool
     requires { ⌜ 2 ≤ length (now t) ⌝ }
     ensures { λ r. ⌜ r ≡ closingOk (now (t .entry)) ⌝ }

@@ -1,5 +1,4 @@
--- What Open, Stage and Withdraw answer and leave, and their refusals in order (document 01: "Order: Open 1, 2, 5, 4. .. Withdraw
--- 1. Stage 1, 4.").
+-- What Open, Stage and Withdraw answer and leave (rules C5, C10 to C12), and their refusals in order (R20).
 -- Assumes nothing.
 use Prim.Native.Nat.{ℕ}
 use mathlib.Core.Bool.{_&&_, _||_, cond}
@@ -19,22 +18,22 @@ use Rattle.reader.specs.declared.State.{State}
 
 -- ---- Open
 
--- the table that Open opens with: "if a table waits", that one, else the one in force
+-- C5: the table that Open opens with, the waiting one if there is one
 abbrev pub nextTable : State → List ℕ → List ℕ → List ℕ
 nextTable s force wait = cond (ltb 0 (s .waiting)) (take (s .waiting) wait) (take (s .«in_force») force)
 
--- 2: "Open in an open run"; 5: "Open with nothing waiting and nothing in force"
+-- R20: 1, 2, 5, 4
 unfoldable pub openRefusal : State → List ℕ → List ℕ → Option ℕ
 openRefusal s force wait =
     need (sound s && longStore force && longStore wait) 1
     (need (isClosed (s .run .phase)) 2
     (need (ltb 0 (s .waiting) || ltb 0 (s .«in_force»)) 5 (tableRefusal (nextTable s force wait))))
 
+-- C5: the run that begins
 abbrev pub freshRun : Run
 freshRun = record { phase = Feeding; held = 0; standing = 0; counts = noCounts }
 
--- "if a table waits, its bytes are copied over the start of the in-force store and nothing waits. Counts become zero, the hold
--- counts as empty. Answers the version in force."
+-- C5: what Open does
 abbrev pub opening : State → List ℕ → List ℕ → Outcome
 opening s force wait =
     record {
@@ -43,15 +42,17 @@ opening s force wait =
       lent = cond (ltb 0 (s .waiting)) (over (take (s .waiting) wait) force) force;
     }
 
+-- C5, R21: Open
 unfoldable pub openOf : State → List ℕ → List ℕ → Outcome
 openOf s force wait = unless (openRefusal s force wait) s force (opening s force wait)
 
 -- ---- Stage and Withdraw
 
+-- R20: 1, 4
 unfoldable pub stageRefusal : State → List ℕ → List ℕ → Option ℕ
 stageRefusal s wait t = need (sound s && longStore wait) 1 (tableRefusal t)
 
--- "checks a table and copies it to the start of the waiting store, replacing any that waits; answers its version"
+-- C10, C12: what Stage does
 abbrev pub staging : State → List ℕ → List ℕ → Outcome
 staging s wait t =
     record {
@@ -60,16 +61,19 @@ staging s wait t =
       lent = over t wait;
     }
 
+-- C10, R21: Stage
 unfoldable pub stageOf : State → List ℕ → List ℕ → Outcome
 stageOf s wait t = unless (stageRefusal s wait t) s wait (staging s wait t)
 
+-- R20: 1
 unfoldable pub withdrawRefusal : State → Option ℕ
 withdrawRefusal s = need (sound s) 1 none
 
--- "nothing waits any more; answers whether one did"; it is lent nothing
+-- C11, C12: what Withdraw does; it is lent nothing (C3)
 abbrev pub withdrawing : State → Outcome
 withdrawing s =
     record { said = waited (ltb 0 (s .waiting)); state = record { run = s .run; «in_force» = s .«in_force»; waiting = 0 }; lent = [] }
 
+-- C11, R21: Withdraw
 unfoldable pub withdrawOf : State → Outcome
 withdrawOf s = unless (withdrawRefusal s) s [] (withdrawing s)

@@ -1,4 +1,4 @@
--- How the answers of Open, Stage and Withdraw are read.
+-- How the answers of Open, Stage and Withdraw are read (rule D9).
 -- Assumes nothing.
 use Rattle.refusal.specs.Numbers.{numberFor}
 use Rattle.reader.specs.Said.{Said, refused, version, waited}

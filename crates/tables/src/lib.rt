@@ -1,5 +1,5 @@
-// The tables of a reader: Stage and Withdraw, which are lent nothing that an open run reads by, and Open, which puts a table in
-// force.
+// The tables of a reader: Stage and Withdraw (rules C10 to C12), which are lent nothing that an open run reads by, and Open (C5),
+// which puts a table in force.
 ghost use mathlib.Core.Path.{_≡_};
 ghost use mathlib.Core.List.{[]};
 ghost use Rattle.reader.specs.Outcome.{outcome};
@@ -44,6 +44,7 @@ pub struct WithdrawAnswer {
     pub state: State,
 }
 
+// C5.
 pub fn open(s: State, in_force: &mut [u8], waiting: &[u8]) -> OpenAnswer
     ensures { λ r. ⌜ outcome (saidOpened (r .answer)) (r .state) (now («in_force» .exit)) ≡ openOf s (now («in_force» .entry)) (now (waiting .entry)) ⌝ }
 {
@@ -85,6 +86,7 @@ fn of_stage(s: State, waiting: &[u8], t: &[u8]) -> Staged
     }
 }
 
+// C10.
 pub fn stage(s: State, waiting: &mut [u8], t: &[u8]) -> StageAnswer
     ensures { λ r. ⌜ outcome (saidStaged (r .answer)) (r .state) (now (waiting .exit)) ≡ stageOf s (now (waiting .entry)) (now (t .entry)) ⌝ }
 {
@@ -110,6 +112,7 @@ pub fn stage(s: State, waiting: &mut [u8], t: &[u8]) -> StageAnswer
     }
 }
 
+// C11.
 pub fn withdraw(s: State) -> WithdrawAnswer
     ensures { λ r. ⌜ outcome (saidWithdrawn (r .answer)) (r .state) [] ≡ withdrawOf s ⌝ }
 {

@@ -1,4 +1,4 @@
-// Open: its refusals in document 01's order, each tested once, or a version; and the run that it opens.
+// Open (rule C5): its refusals in R20's order, each tested once, or a version; and the run that it opens.
 ghost use mathlib.Core.Path.{_≡_};
 ghost use Rattle.tables.specs.Said.{saidOpened};
 ghost use Rattle.tables.specs.Calls.{freshRun, openOf};

@@ -19,7 +19,7 @@ decimal n = digits 10 (places 19 n) n
 abbrev pub spaced : ℕ → List ℕ
 spaced n = 32 ∷ decimal n
 
--- "four hex digits"
+-- as CRCs are printed
 unfoldable pub fourHex : ℕ → List ℕ
 fourHex n = digits 16 4 n
 
@@ -30,7 +30,7 @@ crcText n = 32 ∷ fourHex n
 abbrev pub wordMinus : List ℕ
 wordMinus = 32 ∷ 45 ∷ []
 
--- "negative ones with a leading `-`"
+-- a negative number has its sign in front
 abbrev pub integerText : ℤ → List ℕ
 integerText (pos n) = spaced n
 integerText (negsuc n) = wordMinus ++ decimal (suc n)

@@ -1,4 +1,4 @@
--- k bytes make a number below 256 to the k, whatever the width.
+-- Of F1's numbers: k bytes make one below 256 to the k, whatever the width.
 -- Assumes nothing.
 use Prim.Native.Nat.{ℕ, _^_, _<_}
 use mathlib.Core.List.{List}

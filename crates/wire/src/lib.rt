@@ -1,4 +1,4 @@
-// Numbers in a slice of bytes, lowest byte first, and the two parts of a block's ID.
+// Numbers in a slice of bytes (rule F1), and the two parts of a block's ID (F9).
 ghost use mathlib.Core.Path.{_≡_};
 ghost use Prim.Native.Nat.{_+_, _*_, _≤_, _<_, _/_, _%_};
 ghost use lib.ListN.{length};
@@ -36,14 +36,14 @@ pub fn u8(s: &[u8], at: usize) -> u64
     (u4(s, at) as u64) + 4294967296 * (u4(s, at + 4) as u64)
 }
 
-// The block number: the low thirteen bits of the ID.
+// F9: the block number, by a mask (D7).
 pub fn number(id: u16) -> u16
     ensures { λ r. ⌜ r ≡ id % 8192 ⌝ }
 {
     id & 0x1fff
 }
 
-// The revision: the top three bits of the ID.
+// F9: the revision, by a shift (D7).
 pub fn revision(id: u16) -> u16
     ensures { λ r. ⌜ r ≡ id / 8192 ⌝ }
 {

@@ -1,5 +1,4 @@
--- The lines of the calls that are lent nothing to write, byte by byte: "ANSWER | phase force waits held stands taken blocks
--- skipped | - - -".
+-- The lines of the calls that are lent nothing to write, byte by byte (docs/REPLAY.md).
 -- Assumes nothing.
 use Prim.Native.Nat.{ℕ}
 use mathlib.Core.List.{List, [], _∷_, _++_}
@@ -20,7 +19,7 @@ wordPart = 112 ∷ 97 ∷ 114 ∷ 116 ∷ []
 abbrev pub wordNoCrcs : List ℕ
 wordNoCrcs = 32 ∷ 124 ∷ 32 ∷ 45 ∷ 32 ∷ 45 ∷ 32 ∷ 45 ∷ 10 ∷ []
 
--- "`part LENGTH CRC` (of the part handed back, four hex digits)"
+-- how many bytes the part has, and their CRC
 abbrev pub bytesText : PartCrc → List ℕ
 bytesText b = wordPart ++ spaced (b .count) ++ crcText (b .crc)
 

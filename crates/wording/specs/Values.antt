@@ -1,4 +1,4 @@
--- What a field answers, byte by byte: "`unsigned N`; `signed Z`", and so on.
+-- What a field answers (rule V7), byte by byte (docs/REPLAY.md).
 -- Assumes nothing.
 use Prim.Native.Nat.{ℕ}
 use mathlib.Core.List.{List, [], _∷_, _++_}
@@ -30,7 +30,7 @@ wordDoNotUse = 100 ∷ 111 ∷ 45 ∷ 110 ∷ 111 ∷ 116 ∷ 45 ∷ 117 ∷ 115
 abbrev pub wordNotInRevision : List ℕ
 wordNotInRevision = 110 ∷ 111 ∷ 116 ∷ 45 ∷ 105 ∷ 110 ∷ 45 ∷ 116 ∷ 104 ∷ 105 ∷ 115 ∷ 45 ∷ 114 ∷ 101 ∷ 118 ∷ 105 ∷ 115 ∷ 105 ∷ 111 ∷ 110 ∷ []
 
--- what a field says: "`single BITS`; `double BITS` (bits in decimal)"
+-- V7, V2: each case by its word; a float by its bits, in decimal
 abbrev pub fieldText : FieldSaid → List ℕ
 fieldText (unsigned n) = wordUnsigned ++ spaced n
 fieldText (signed z) = wordSigned ++ integerText z

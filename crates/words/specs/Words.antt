@@ -1,4 +1,4 @@
--- The words of a line: "words separated by one space, bytes in hex, `-` for none"; "Numbers are decimal, to 2^64 - 1"; "Hex is .. read in either" case.
+-- The words of a script's line (docs/REPLAY.md): where one ends, its key, decimal numbers, bytes in hex.
 -- Assumes nothing.
 use Prim.Native.Nat.{ℕ, suc, _+_, _-_, _*_}
 use mathlib.Core.Bool.{Bool, true, false, cond, _&&_}
@@ -19,7 +19,7 @@ unfoldable pub keyFrom : ℕ → List ℕ → ℕ
 keyFrom k [] = k
 keyFrom k (c ∷ w) = cond (eqb c 0) 0 (keyFrom (k * 256 + c) w)
 
--- a word's key: no two words of one to eight bytes, none of them zero, have the same (`ToldApart`); 0 for all other words
+-- a word's key: no two words of one to eight bytes, none of them zero, have the same (`KeysApart`); 0 for all other words
 unfoldable pub keyOf : List ℕ → ℕ
 keyOf w = cond (ltb 8 (length w)) 0 (keyFrom 0 w)
 
