@@ -1,6 +1,7 @@
 pub mod World
 pub mod Sequence
 pub mod Refusals
+pub mod Soundness
 pub mod Demand1
 pub mod Demand2
 pub mod Demand3

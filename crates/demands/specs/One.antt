@@ -4,8 +4,7 @@
 use Prim.Native.Nat.{ℕ}
 use mathlib.Core.Path.{_≡_}
 use mathlib.Core.List.{List}
-use Rattle.record.specs.Answer.{Answers, handedSays}
-use Rattle.record.specs.Answer.{FieldSaid}
+use Rattle.record.specs.Answer.{FieldSaid, Answers, handedSays}
 use Rattle.record.specs.declared.Answer.{Answer}
 use Rattle.record.specs.declared.Handed.{Handed}
 use Rattle.reader.specs.Said.{Said, refusalOf}

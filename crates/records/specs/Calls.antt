@@ -49,8 +49,8 @@ placeUnless none s = s
 unfoldable pub subPlaceOf : State → List ℕ → List ℕ → ℕ → Span
 subPlaceOf s force block k = placeUnless (askRefusal s force) (subPlace (decode (tableInForce s force)) block k)
 
-abbrev pub firstOf : Option ℕ → Option ℕ → Option ℕ
-firstOf (some n) rest = some n
+abbrev pub firstOf : {A : Type 0} → Option A → Option A → Option A
+firstOf (some x) rest = some x
 firstOf none rest = rest
 
 unfoldable pub subBytesRefusal : State → List ℕ → List ℕ → ℕ → Option ℕ

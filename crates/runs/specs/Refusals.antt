@@ -20,9 +20,9 @@ isFeeding Closed = false
 isFeeding Feeding = true
 isFeeding Finishing = false
 
-abbrev pub isSome : Option ℕ → Bool
+abbrev pub isSome : {A : Type 0} → Option A → Bool
 isSome none = false
-isSome (some n) = true
+isSome (some x) = true
 
 -- 2: "Feed without one or after the first Finish"; 3: "the run has 4,294,967,295 bytes, the held bytes give no block and the
 -- piece is not empty"

@@ -19,7 +19,7 @@ unfoldable pub keyFrom : ℕ → List ℕ → ℕ
 keyFrom k [] = k
 keyFrom k (c ∷ w) = cond (eqb c 0) 0 (keyFrom (k * 256 + c) w)
 
--- a word's key: no two words of one to eight bytes, none of them zero, have the same (`ToldApart`); 0 for all other words
+-- a word's key: no two words of one to eight bytes, none of them zero, have the same (`KeysApart`); 0 for all other words
 unfoldable pub keyOf : List ℕ → ℕ
 keyOf w = cond (ltb 8 (length w)) 0 (keyFrom 0 w)
 
