@@ -8,3 +8,4 @@ pub mod Demand3
 pub mod One
 pub mod History
 pub mod Progress
+pub mod NoMore

@@ -3,6 +3,7 @@ ghost use Rattle.demands.specs.Demand1.{Demand1};
 ghost use Rattle.demands.specs.Demand2.{Demand2};
 ghost use Rattle.demands.specs.Demand3.{Demand3};
 ghost use Rattle.demands.specs.History.{History};
+ghost use Rattle.demands.specs.NoMore.{TakesNoMore};
 ghost use Rattle.demands.specs.One.{OneOutcome};
 ghost use Rattle.demands.specs.Progress.{Progress};
 ghost use Rattle.demands.specs.Soundness.{SoundKept};
@@ -43,4 +44,9 @@ pub fn history()
 // More is answered only with all taken that may be, and Finish comes to End.
 pub fn progress()
     ensures { λ _. ⌜ Progress ⌝ }
+{}
+
+// Feed takes no more than it needs: to a shorter front of its piece than it took it answers More.
+pub fn takes_no_more()
+    ensures { λ _. ⌜ TakesNoMore ⌝ }
 {}
