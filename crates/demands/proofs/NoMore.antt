@@ -1,6 +1,6 @@
 -- A front of the piece that is shorter than what a Feed took: it is not refused either, gives no block, and is taken whole.
 -- Assumes nothing.
-use Prim.Native.Nat.{ℕ, min, _-_, _≤_, _<_}
+use Prim.Native.Nat.{ℕ, _-_, _≤_, _<_}
 use native.Mathlib.Omega.{arith}
 use mathlib.Core.Path.{_≡_, refl, ap, ap₂, _∙_}
 use mathlib.Core.Bool.{_&&_}
@@ -9,18 +9,17 @@ use mathlib.Core.Option.{Option, none}
 use lib.ListN.{length, take}
 use lib.Seq.{length-take-le}
 use borrow.Author.Tests.{lt-ltb}
-use Rattle.scan.specs.Feed.{feedLit}
 use Rattle.frame.specs.Judge.{judged}
 use Rattle.scan.proofs.Stable.{judging}
 use Rattle.scan.proofs.Calls.{call}
 use Rattle.framing.proofs.Calls.{more-decides-all, block-decides-no-more}
 use Rattle.reader.specs.State.{limit, sound}
-use Rattle.reader.specs.Said.{Report, Said, took}
+use Rattle.reader.specs.Said.{Report, took}
 use Rattle.reader.specs.Refusals.{longHold}
 use Rattle.runs.specs.Refusals.{isFeeding, feedRefusal}
 use Rattle.runs.specs.Calls.{reportIf, feedingOf, front}
 use Rattle.reader.proofs.Laws.{passes}
-use Rattle.demands.specs.World.{World, feed, Reply, said, Step, step}
+use Rattle.demands.specs.World.{World, feed, said, Step, step}
 use Rattle.demands.specs.NoMore.{TakesNoMore}
 use Rattle.demands.proofs.Steps.{How, isnt, is, how, refusal, done, unlessRefused, by-refusal}
 use Rattle.demands.proofs.Going.{kept}

@@ -21,7 +21,7 @@ use Rattle.scan.proofs.Calls.{call, settle-sum}
 use Rattle.feed.specs.Hold.{restOf}
 use Rattle.feed.proofs.Literally.{rest-length}
 use Rattle.table.proofs.Passed.{passed}
-use Rattle.reader.specs.State.{limit, newState, sound}
+use Rattle.reader.specs.State.{limit, sound}
 use Rattle.tables.specs.Calls.{openRefusal, stageRefusal, withdrawRefusal, opening, openOf, staging, stageOf, withdrawing, withdrawOf}
 use Rattle.runs.specs.Refusals.{feedRefusal, finishRefusal}
 use Rattle.reader.specs.Refusals as refusals

@@ -47,7 +47,7 @@ runNow x b p = record { phase = x; waiting = p .waiting; force = p .force; stand
 
 -- after a call and what it told, which left this hold; a refusal changes nothing
 abbrev pub after : Call → Told → List ℕ → Past → Past
--- "if a table waits, .. nothing waits": the run opens with it, and no block stands
+-- "if a table waits, .. nothing waits": the run opens with it, or else with the one in force, and no block stands
 after openRun a hold p =
     onTold (a .version) p (record { phase = Feeding; waiting = none; force = firstOf (p .waiting) (p .force); stands = [] })
 -- "drops the block last reported. .. Answers the count taken, with Block .. or More"

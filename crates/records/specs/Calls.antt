@@ -49,6 +49,7 @@ placeUnless none s = s
 unfoldable pub subPlaceOf : State → List ℕ → List ℕ → ℕ → Span
 subPlaceOf s force block k = placeUnless (askRefusal s force) (subPlace (decode (tableInForce s force)) block k)
 
+-- the first, or else the second
 abbrev pub firstOf : {A : Type 0} → Option A → Option A → Option A
 firstOf (some x) rest = some x
 firstOf none rest = rest
