@@ -1,6 +1,6 @@
 -- Parts for C: an empty one where the call is refused, else the bytes from an offset.
 -- Assumes nothing.
-use mathlib.Core.Path.{_≡_, refl, sym, ap, ap₂, _∙_, subst}
+use mathlib.Core.Path.{_≡_, sym, ap, ap₂, _∙_, subst}
 use mathlib.Core.Bool.{false}
 use mathlib.Core.List.{List, []}
 use mathlib.Core.Option.{Option, none, some, Option·none-ne-some}
@@ -8,17 +8,15 @@ use Prim.Native.Nat.{ℕ, _+_, _≤_}
 use native.Mathlib.Omega.{arith}
 use lib.ListN.{length, take, drop}
 use lib.Seq.{length-take-le}
-use Rattle.table.specs.Decode.{decode}
 use Rattle.block.specs.declared.Span.{Span}
-use Rattle.block.specs.Block.{Seen, refusedBy, row, seenSub}
-use Rattle.record.specs.Calls.{subSlice, numberBy, partBy, subBlock, subBlockRefusal}
+use Rattle.record.specs.Calls.{subSlice}
 use Rattle.record.proofs.Parts.{part-long}
 use Rattle.reader.specs.State.{sound}
 use Rattle.reader.specs.declared.State.{State}
 use Rattle.runs.specs.Refusals.{bytesRefusal}
 use Rattle.reader.specs.Outcome.{partUnless}
 use Rattle.runs.specs.Calls.{bytesOf}
-use Rattle.records.specs.Calls.{tableInForce, askRefusal, firstOf, subBytesOf, subPlaceOf, subBytesRefusal}
+use Rattle.records.specs.Calls.{subBytesOf, subPlaceOf}
 use Rattle.records.proofs.Asking.{place-bytes}
 use Rattle.reader.proofs.Laws.{passes, with-hold}
 use Rattle.cform.specs.State.{Reads}
@@ -53,40 +51,23 @@ module _ (refusal : State → Option ℕ) (offset : State → ℕ) (bytes : Stat
       ∙ sym (ap (λ (x : Option ℕ). partC x (offset u) (length (bytes u))) (ap refusal (sym k) ∙ r)))
       (b ∙ ap bytes k)
 
-module _ (t : State) (hold : List ℕ) where
-  pub bytes-none : (n : ℕ) → bytesRefusal t hold ≡ some n → bytesOf t hold ≡ []
+module _ (t : State) (hold : List ℕ) (e : bytesRefusal t hold ≡ none) where
+  bytes-are : bytesOf t hold ≡ take (t .run .standing) hold
   unfolding bytesOf
-  bytes-none n e = ap (λ (o : Option ℕ). partUnless o (take (t .run .standing) hold)) e
+  bytes-are = ap (λ (o : Option ℕ). partUnless o (take (t .run .standing) hold)) e
 
-  module _ (e : bytesRefusal t hold ≡ none) where
-    bytes-are : bytesOf t hold ≡ take (t .run .standing) hold
-    unfolding bytesOf
-    bytes-are = ap (λ (o : Option ℕ). partUnless o (take (t .run .standing) hold)) e
+  few : t .run .standing ≤ length hold
+  unfolding bytesRefusal
+  few = let f = with-hold t hold (passes _ 1 none e .0) in omega (arith, f .0 .front, f .0 .held, f .1)
 
-    few : t .run .standing ≤ length hold
-    unfolding bytesRefusal
-    few = let f = with-hold t hold (passes _ 1 none e .0) in omega (arith, f .0 .front, f .0 .held, f .1)
-
-    pub bytes-cut : take (length (bytesOf t hold)) (drop 0 hold) ≡ bytesOf t hold
-    bytes-cut =
-        ap (λ (n : ℕ). take n hold) (ap length bytes-are ∙ length-take-le (t .run .standing) hold few)
-        ∙ sym bytes-are
+  pub bytes-cut : take (length (bytesOf t hold)) (drop 0 hold) ≡ bytesOf t hold
+  bytes-cut =
+      ap (λ (n : ℕ). take n hold) (ap length bytes-are ∙ length-take-le (t .run .standing) hold few)
+      ∙ sym bytes-are
 
 -- ---- a sub-block's bytes
 
-part-none : (o p : Option ℕ) (n : ℕ) (b : List ℕ) → firstOf o p ≡ some n → (p ≡ some n → b ≡ []) → partUnless o b ≡ []
-part-none none p n b e f = f e
-part-none (some m) p n b e f = refl
-
-refused-row : (x : Seen) (n : ℕ) → numberBy x ≡ some n → (b : List ℕ) (k : ℕ) → partBy b k x ≡ []
-refused-row (refusedBy m) n e b k = refl
-refused-row (row r) n e b k = let z : _≡_ {A = ℕ} 0 1 = cc in let f : ⊥ = omega arith in absurd f
-
 module _ (t : State) (force block : List ℕ) (k : ℕ) where
-  pub sub-none : (n : ℕ) → subBytesRefusal t force block k ≡ some n → subBytesOf t force block k ≡ []
-  unfolding subBytesOf subBytesRefusal subBlock subBlockRefusal
-  sub-none n e = part-none (askRefusal t force) _ n _ e (λ f. refused-row (seenSub (decode (tableInForce t force)) block k) n f block k)
-
   pub sub-cut : take (subPlaceOf t force block k .size) (drop (subPlaceOf t force block k .at) block) ≡ subBytesOf t force block k
   unfolding subSlice
   sub-cut = place-bytes t force block k

@@ -15,13 +15,13 @@ use Rattle.table.specs.Rows.{BlockRow}
 use Rattle.table.specs.Decode.{decode}
 use Rattle.table.specs.Rules.{tableOk}
 use Rattle.table.specs.Lookup.{findRow}
-use Rattle.block.specs.Block.{bodyFits, subsFit, seenRow, seen, seenSub}
+use Rattle.block.specs.Block.{numberIn, bodyFits, subsFit, seenRow, seen, seenSub}
 use Rattle.record.specs.Calls.{bodyField, subField, subBlockRefusal, stamp}
 use Rattle.reader.specs.State.{sound}
 use Rattle.reader.specs.Refusals.{need, longStore}
 use Rattle.records.specs.Calls.{tableInForce, askRefusal, firstOf, bodyOf, subOf, subBytesRefusal, stampOf}
 use Rattle.demands.specs.World.{World, body, sub, subBytes, look, fieldRefusal}
-use Rattle.demands.specs.Refusals.{ShortStore, BadState, Breaks, OneFrame, number, RowOf, OfRow, NotInTable, EndsPastL, SubsDoNotFit, NoField, NoSubBlock, NoWholeFrame, _when_, Order, Exactly, recordOrder, stampOrder, order}
+use Rattle.demands.specs.Refusals.{ShortStore, BadState, Breaks, OneFrame, RowOf, OfRow, NotInTable, BodyDoesNotFit, SubsDoNotFit, NoField, NoSubBlock, NoWholeFrame, _when_, Order, Exactly, recordOrder, stampOrder, order}
 use Rattle.demands.proofs.Exact.{Tells, exactly-none, both, within, bad-state, store-tells, some-tells, table-tells}
 use Rattle.demands.proofs.Framed.{one-frame, frame-tells}
 use Rattle.demands.proofs.Numbers.{thenOf, body-row, sub-row, twin-row, seen-need, row-less, row-need, stamp-need, first-need, number-unless}
@@ -55,14 +55,14 @@ nineOf test r = need (test r) 9 none
 
 module _ (t b : List ℕ) (ok : tableOk t ≡ true) (test : BlockRow → Bool) (Nine : BlockRow → Type 0) (tells : (r : BlockRow) → Tells (test r) (Nine r)) where
   fits-exact : (r : BlockRow) → OneFrame b → RowOf (decode t) b r
-      → Exactly (need (bodyFits b r) 7 (need (subsFit b r) 8 (nineOf test r))) (7 when EndsPastL (decode t) b ∷ 8 when SubsDoNotFit (decode t) b ∷ 9 when OfRow (decode t) b Nine ∷ [])
+      → Exactly (need (bodyFits b r) 7 (need (subsFit b r) 8 (nineOf test r))) (7 when BodyDoesNotFit (decode t) b ∷ 8 when SubsDoNotFit (decode t) b ∷ 9 when OfRow (decode t) b Nine ∷ [])
   fits-exact r f h =
       let one : (q : BlockRow) → RowOf (decode t) b q → q ≡ r = λ q k. only t b ok q r k h in
       passed-by (bodyFits b r) 7 _ (seven-tells (decode t) b r h one f)
       (λ _. passed-by (subsFit b r) 8 _ (eight-tells (decode t) b r h one f) (λ _. last 9 (of-row (decode t) b r h one Nine (tells r))))
 
-  row-exact : OneFrame b → (o : Option BlockRow) → findRow (decode t) (number b) ≡ o
-      → Exactly (thenOf (seenRow b o) (nineOf test)) (6 when NotInTable (decode t) b ∷ (7 when EndsPastL (decode t) b ∷ 8 when SubsDoNotFit (decode t) b ∷ 9 when OfRow (decode t) b Nine ∷ []))
+  row-exact : OneFrame b → (o : Option BlockRow) → findRow (decode t) (numberIn b) ≡ o
+      → Exactly (thenOf (seenRow b o) (nineOf test)) (6 when NotInTable (decode t) b ∷ (7 when BodyDoesNotFit (decode t) b ∷ 8 when SubsDoNotFit (decode t) b ∷ 9 when OfRow (decode t) b Nine ∷ []))
   row-exact f none e =
       same (row-less b (nineOf test)) (passed-by false 6 none (record { fine = λ z. never z refl; holds = λ _. row-none (decode t) b e }) (λ z. never z refl))
   row-exact f (some r) e =
@@ -71,10 +71,10 @@ module _ (t b : List ℕ) (ok : tableOk t ≡ true) (test : BlockRow → Bool) (
       (passed-by true 6 _ (record { fine = λ _ g. g r h; holds = λ z. never refl z }) (λ _. fits-exact r f h))
 
   seen-exact : Exactly (thenOf (seen (decode t) b) (nineOf test))
-      (10 when NoWholeFrame b ∷ 6 when NotInTable (decode t) b ∷ 7 when EndsPastL (decode t) b ∷ 8 when SubsDoNotFit (decode t) b ∷ 9 when OfRow (decode t) b Nine ∷ [])
+      (10 when NoWholeFrame b ∷ 6 when NotInTable (decode t) b ∷ 7 when BodyDoesNotFit (decode t) b ∷ 8 when SubsDoNotFit (decode t) b ∷ 9 when OfRow (decode t) b Nine ∷ [])
   seen-exact =
       same (seen-need (decode t) b (nineOf test))
-      (passed-by (wholeFrame b) 10 _ (frame-tells b) (λ e. row-exact (one-frame b e) (findRow (decode t) (number b)) refl))
+      (passed-by (wholeFrame b) 10 _ (frame-tells b) (λ e. row-exact (one-frame b e) (findRow (decode t) (numberIn b)) refl))
 
 -- ---- 1, 5, 4, and then the others
 

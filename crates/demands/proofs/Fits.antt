@@ -17,23 +17,23 @@ use Rattle.table.specs.Decode.{decode}
 use Rattle.table.specs.Rules.{tableOk}
 use Rattle.table.specs.Lookup.{hasNumber, findRow}
 use Rattle.table.proofs.Laws.{one-row}
-use Rattle.block.specs.Block.{endsBy, bodyFits, subsFit, subCount}
-use Rattle.demands.specs.Refusals.{OneFrame, number, revision, L, N, SBLength, RowOf, OfRow, EndsPast, NotInTable, EndsPastL, SubsDoNotFit, NoField, NoSubBlock}
+use Rattle.block.specs.Block.{numberIn, revisionIn, countIn as N, subLengthIn as SBLength, endsBy, bodyFits, subsFit, subCount}
+use Rattle.demands.specs.Refusals.{OneFrame, L, RowOf, OfRow, EndsPast, NotInTable, BodyDoesNotFit, SubsDoNotFit, NoField, NoSubBlock}
 use Rattle.demands.proofs.Exact.{Tells, both, within, orelse, empty-tells}
 use Rattle.demands.proofs.Listed.{first-there, first-none, every-tells}
 
 -- ---- the block's row
 
-pub row-there : (t : Table) (b : List ℕ) {r : BlockRow} → findRow t (number b) ≡ some r → RowOf t b r
+pub row-there : (t : Table) (b : List ℕ) {r : BlockRow} → findRow t (numberIn b) ≡ some r → RowOf t b r
 unfolding findRow
 row-there t b {r} e =
-    let h = first-there (hasNumber (number b)) (t .rows) e in
-    record { among = h .0; same = eqb-true (r .number) (number b) (h .1) }
+    let h = first-there (hasNumber (numberIn b)) (t .rows) e in
+    record { among = h .0; same = eqb-true (r .number) (numberIn b) (h .1) }
 
-pub row-none : (t : Table) (b : List ℕ) → findRow t (number b) ≡ none → NotInTable t b
+pub row-none : (t : Table) (b : List ℕ) → findRow t (numberIn b) ≡ none → NotInTable t b
 unfolding findRow
 row-none t b e r h =
-    first-none (hasNumber (number b)) (t .rows) e (h .among .0) (h .among .1) (eq-eqb (r .number) (number b) (h .same))
+    first-none (hasNumber (numberIn b)) (t .rows) e (h .among .0) (h .among .1) (eq-eqb (r .number) (numberIn b) (h .same))
 
 -- "strictly rising": a table that passes has one row of a number
 pub only : (t b : List ℕ) → tableOk t ≡ true → (q r : BlockRow) → RowOf (decode t) b q → RowOf (decode t) b r → q ≡ r
@@ -69,17 +69,17 @@ twice false u = u
 
 -- ---- the fields
 
-past-tells : (fs : List FieldRow) (b : List ℕ) (n : ℕ) → Tells (every (endsBy (revision b) n) fs) (EndsPast fs b n)
+past-tells : (fs : List FieldRow) (b : List ℕ) (n : ℕ) → Tells (every (endsBy (revisionIn b) n) fs) (EndsPast fs b n)
 past-tells fs b n =
-    every-tells (endsBy (revision b) n) (λ (f : FieldRow). (f .first ≤ revision b) × (n < ends f))
-    (λ f. orelse (above (f .first) (revision b)) (within (ends f) n)) fs
+    every-tells (endsBy (revisionIn b) n) (λ (f : FieldRow). (f .first ≤ revisionIn b) × (n < ends f))
+    (λ f. orelse (above (f .first) (revisionIn b)) (within (ends f) n)) fs
 
 -- a test on the number of the bytes is one on L
 pub of-length : (b : List ℕ) → OneFrame b → (P : ℕ → Type 0) {c : Bool} → Tells c (P (length b)) → Tells c (P (L b))
 of-length b frame P {c} u = subst (λ (n : ℕ). Tells c (P n)) (sym (frame .all)) u
 
 module _ (t : Table) (b : List ℕ) (r : BlockRow) (mine : RowOf t b r) (one : (q : BlockRow) → RowOf t b q → q ≡ r) (frame : OneFrame b) where
-  pub seven-tells : Tells (bodyFits b r) (EndsPastL t b)
+  pub seven-tells : Tells (bodyFits b r) (BodyDoesNotFit t b)
   unfolding bodyFits
   seven-tells =
       swap

@@ -11,6 +11,7 @@ pub mod Going
 pub mod Calls
 pub mod Reading
 pub mod Ending
+pub mod NoMore
 pub mod Never
 pub mod Refusals
 pub mod Refusing

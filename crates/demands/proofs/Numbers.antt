@@ -16,13 +16,11 @@ use Rattle.table.specs.Rows.{BlockRow, Table}
 use Rattle.record.specs.Answer.{FieldSaid, doNotUse, notInRevision, fieldRefused}
 use Rattle.kinds.specs.Marks.{isDoNotUse}
 use Rattle.value.specs.Bits.{readAs, valueOf, fieldValue}
-use Rattle.block.specs.Block.{revisionIn, subCount, bodyFits, subsFit, Seen, refusedBy, row, seenRow, seen, seenSubRow}
-use Rattle.record.specs.Calls.{fieldSaid, fieldOr9, bodyBy, subBy, numberBy, stamp}
-use Rattle.record.proofs.Parts.{bytesByAny as subBytes}
+use Rattle.block.specs.Block.{numberIn, revisionIn, subSpan, subCount, bodyFits, subsFit, Seen, refusedBy, row, seenRow, seen, seenSubRow}
+use Rattle.record.specs.Calls.{fieldSaid, fieldOr9, bodyBy, subSlice, subBy, numberBy, stamp}
 use Rattle.reader.specs.Refusals.{need}
 use Rattle.records.specs.Calls.{saidUnless, firstOf}
 use Rattle.demands.specs.World.{fieldRefusal}
-use Rattle.demands.specs.Refusals.{number}
 use Rattle.demands.proofs.Listed.{pick-there, pick-none}
 
 -- ---- a field's value is no refusal
@@ -80,7 +78,7 @@ two-nines true d = refl
 two-nines false d = refl
 
 sub-by : (c : Bool) (b : List ℕ) (k j : ℕ) (r : BlockRow) → fieldRefusal (subBy b k j (cond c (row r) (refusedBy 9))) ≡ need (c && ltb j (length (r .subs))) 9 none
-sub-by true b k j r = nine (revisionIn b) (subBytes b k) (r .subs) j
+sub-by true b k j r = nine (revisionIn b) (subSlice b (subSpan r b k)) (r .subs) j
 sub-by false b k j r = refl
 
 pub sub-row : (b : List ℕ) (k j : ℕ) (x : Seen)
@@ -105,9 +103,9 @@ then-cond true x n f = refl
 then-cond false x n f = refl
 
 pub seen-need : (t : Table) (b : List ℕ) (f : BlockRow → Option ℕ)
-    → thenOf (seen t b) f ≡ need (wholeFrame b) 10 (thenOf (seenRow b (findRow t (number b))) f)
+    → thenOf (seen t b) f ≡ need (wholeFrame b) 10 (thenOf (seenRow b (findRow t (numberIn b))) f)
 unfolding seen
-seen-need t b f = then-cond (wholeFrame b) (seenRow b (findRow t (number b))) 10 f
+seen-need t b f = then-cond (wholeFrame b) (seenRow b (findRow t (numberIn b))) 10 f
 
 pub row-less : (b : List ℕ) (f : BlockRow → Option ℕ) → thenOf (seenRow b none) f ≡ need false 6 none
 unfolding seenRow

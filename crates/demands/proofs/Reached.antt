@@ -17,9 +17,10 @@ use Rattle.feed.specs.Hold.{restOf, holdOf}
 use Rattle.reader.specs.State.{limit, sound}
 use Rattle.runs.specs.Calls.{feedingOf, finishingOf}
 use Rattle.reader.specs.declared.State.{State}
-use Rattle.demands.specs.World.{World, TableCall, stage, withdraw, Call, openRun, feed, finish, table, look, Step, step, end}
+use Rattle.demands.specs.World.{World, TableCall, stage, withdraw, Call, openRun, feed, finish, table, look, told, Step, step, end}
 use Rattle.demands.specs.Sequence.{New, pieceOf, AllFed}
-use Rattle.demands.proofs.Soundness.{Sound, sound-kept, rest-bytes}
+use Rattle.demands.specs.Soundness.{Sound, sinceOpen}
+use Rattle.demands.proofs.Soundness.{sound-kept, rest-bytes}
 use Rattle.demands.proofs.Steps.{How, isnt, is, how, done}
 
 pub record Held (s : State) (hold : List ℕ) : Type 0 where
@@ -85,23 +86,15 @@ held-by : (c : Call) (w : World) → Bytes (pieceOf c) → Held (w .state) (w .h
 held-by c w b h (isnt n e) = h
 held-by c w b h (is e) = held-done c w b h
 
--- ---- the state
-
-sound-step : (c : Call) (w : World) → Bytes (pieceOf c) → Good w → (k : ℕ) × Sound (step c w .world .state) k
-unfolding step
-sound-step openRun w b g = (_, sound-kept .opens (w .state) (g .reported) (w .force) (w .wait) (g .sound))
-sound-step (feed piece) w b g = (_, sound-kept .feeds (w .state) (g .reported) (w .hold) piece (g .held .clean) b (g .sound))
-sound-step finish w b g = (_, sound-kept .finishes (w .state) (g .reported) (w .hold) (g .sound))
-sound-step (table (stage t)) w b g = (_, sound-kept .stages (w .state) (g .reported) (w .wait) t (g .sound))
-sound-step (table withdraw) w b g = (_, sound-kept .withdraws (w .state) (g .reported) (g .sound))
-sound-step (look l) w b g = (g .reported, g .sound)
-
 -- ---- every call keeps it
 
 pub good-step : (c : Call) (w : World) → Bytes (pieceOf c) → Good w → Good (step c w .world)
 good-step c w b g =
-    let s = sound-step c w b g in
-    record { reported = s .0; sound = s .1; held = held-by c w b (g .held) (how c w) }
+    record {
+      reported = sinceOpen c (told (step c w .answer)) (g .reported);
+      sound = sound-kept .keeps c w (g .reported) (g .held .clean) b (g .sound);
+      held = held-by c w b (g .held) (how c w);
+    }
 
 pub good-end : (cs : List Call) (w : World) → AllFed cs → Good w → Good (end cs w)
 unfolding end AllFed

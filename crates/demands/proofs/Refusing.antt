@@ -2,16 +2,10 @@
 -- Assumes nothing.
 use Prim.Native.Nat.{ℕ}
 use mathlib.Core.Path.{_≡_, refl, sym, _∙_}
-use mathlib.Core.List.{List, []}
+use mathlib.Core.List.{[]}
 use mathlib.Core.Option.{Option, none, some}
-use Rattle.table.specs.Decode.{decode}
-use Rattle.block.specs.Block.{Seen, refusedBy, row, seenSub}
-use Rattle.record.specs.Calls.{partBy, numberBy, subBlock, subBlockRefusal}
-use Rattle.reader.specs.Outcome.{partUnless}
-use Rattle.runs.specs.Refusals.{bytesRefusal}
-use Rattle.runs.specs.Calls.{bytesOf}
-use Rattle.records.specs.Calls.{tableInForce, askRefusal, firstOf, subBytesOf, subBytesRefusal}
-use Rattle.reader.specs.declared.State.{State}
+use Rattle.runs.proofs.Emptying.{bytes-empty}
+use Rattle.records.proofs.Asking.{sub-bytes-empty}
 use Rattle.demands.specs.World.{World, Look, bytes, body, sub, subBytes, tow, wnc, Call, openRun, feed, finish, table, look, told, partOf, Step, looked}
 use Rattle.demands.specs.Demand1.{Demand1}
 use Rattle.demands.proofs.Listed.{nothing-there}
@@ -38,31 +32,11 @@ keeps-by c w n (is e) f = done-keeps c w n f
 
 -- ---- a part is empty where its second call gives a number
 
-part-by : (o : Option ℕ) (v : List ℕ) (n : ℕ) → o ≡ some n → partUnless o v ≡ []
-part-by none v n e = nothing-there e
-part-by (some m) v n e = refl
-
-bytes-part : (s : State) (hold : List ℕ) (n : ℕ) → bytesRefusal s hold ≡ some n → bytesOf s hold ≡ []
-unfolding bytesOf
-bytes-part s hold n e = part-by (bytesRefusal s hold) _ n e
-
-seen-part : (b : List ℕ) (k : ℕ) (x : Seen) (n : ℕ) → numberBy x ≡ some n → partBy b k x ≡ []
-seen-part b k (refusedBy m) n e = refl
-seen-part b k (row r) n e = nothing-there e
-
-sub-part-by : (o : Option ℕ) (b : List ℕ) (k : ℕ) (x : Seen) (n : ℕ) → firstOf o (numberBy x) ≡ some n → partUnless o (partBy b k x) ≡ []
-sub-part-by none b k x n e = seen-part b k x n e
-sub-part-by (some m) b k x n e = refl
-
-sub-part : (s : State) (force b : List ℕ) (k n : ℕ) → subBytesRefusal s force b k ≡ some n → subBytesOf s force b k ≡ []
-unfolding subBytesOf subBytesRefusal subBlock subBlockRefusal
-sub-part s force b k n e = sub-part-by (askRefusal s force) b k (seenSub (decode (tableInForce s force)) b k) n e
-
 look-empty : (l : Look) (w : World) (n : ℕ) → told (looked l w) .refusal ≡ some n → partOf (looked l w) ≡ []
-look-empty bytes w n e = bytes-part (w .state) (w .hold) n e
+look-empty bytes w n e = bytes-empty (w .state) (w .hold) n e
 look-empty (body b i) w n e = refl
 look-empty (sub b k j) w n e = refl
-look-empty (subBytes b k) w n e = sub-part (w .state) (w .force) b k n e
+look-empty (subBytes b k) w n e = sub-bytes-empty (w .state) (w .force) b k n e
 look-empty (tow b) w n e = refl
 look-empty (wnc b) w n e = refl
 

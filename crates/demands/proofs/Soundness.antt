@@ -1,4 +1,4 @@
--- An invariant of states, which every call keeps: it has what refusal 1 asks of a state.
+-- Sound states: each call keeps the sum by what it took, skipped and kept.
 -- Assumes nothing.
 use Prim.Native.Nat.{ℕ, _+_, _-_, _≤_}
 use native.Mathlib.Omega.{arith}
@@ -20,12 +20,12 @@ use Rattle.scan.proofs.Stable.{judging}
 use Rattle.scan.proofs.Calls.{call, settle-sum}
 use Rattle.feed.specs.Hold.{restOf}
 use Rattle.feed.proofs.Literally.{rest-length}
-use Rattle.table.proofs.Passed as table
-use Rattle.reader.specs.State.{limit, newState, sound}
+use Rattle.table.proofs.Passed.{passed}
+use Rattle.reader.specs.State.{limit, sound}
 use Rattle.tables.specs.Calls.{openRefusal, stageRefusal, withdrawRefusal, opening, openOf, staging, stageOf, withdrawing, withdrawOf}
 use Rattle.runs.specs.Refusals.{feedRefusal, finishRefusal}
 use Rattle.reader.specs.Refusals as refusals
-use Rattle.reader.specs.Said.{Report, Said, took}
+use Rattle.reader.specs.Said.{Said, took}
 use Rattle.reader.specs.Outcome.{Outcome, unless}
 use Rattle.reader.specs.Counting.{one, withRun}
 use Rattle.runs.specs.Calls.{reportIf, front, finishSaid, phaseAfter, runOn, feedingBy, feedingOf, feedOf, finishingBy, finishingOf, finishOf}
@@ -36,46 +36,13 @@ use Rattle.reader.specs.declared.State.{State}
 use Rattle.reader.proofs.Laws.{passes, with-hold}
 use Rattle.tables.proofs.Accepted.{stage-passed}
 use Rattle.runs.proofs.Feeding.{WholeIf, fed-whole, end-whole}
-use Rattle.demands.specs.World.{said, told}
-
--- `reported` is the number of bytes in the blocks reported since Open, the standing one among them: these, the skipped ones and those held
--- behind the standing block are the bytes taken
-pub record Sound (s : State) (reported : ℕ) : Type 0 where
-  pub few : s .run .held ≤ 65532
-  pub front : s .run .standing ≤ s .run .held
-  pub among : s .run .standing ≤ reported
-  pub count : s .run .counts .blocks ≤ reported
-  pub sum : reported + s .run .counts .skipped + (s .run .held - s .run .standing) ≡ s .run .counts .taken
-  pub most : s .run .counts .taken ≤ limit
-  pub force : s .«in_force» ≤ 8192
-  pub wait : s .waiting ≤ 8192
+use Rattle.demands.specs.World.{World, stage, withdraw, Call, openRun, feed, finish, table, look, said, told, step}
+use Rattle.demands.specs.Sequence.{pieceOf}
+use Rattle.demands.specs.Soundness.{Sound, reportSize, sinceOpen, SoundKept}
 
 -- the bytes of the block that an answer reports
-abbrev pub reportBytes : Option Report → ℕ
-reportBytes none = 0
-reportBytes (some r) = r .size
-
-abbrev pub sizeIn : Said → ℕ
-sizeIn a = reportBytes (told (said a) .block)
-
--- a run that opens has reported none
-abbrev pub noneIf : Option ℕ → ℕ → ℕ
-noneIf none b = b
-noneIf (some v) b = 0
-
-abbrev pub sinceOpen : Said → ℕ → ℕ
-sinceOpen a b = noneIf (told (said a) .version) b
-
-pub record SoundKept : Type 0 where
-  pub new : Sound newState 0
-  pub opens : (s : State) (b : ℕ) (force wait : List ℕ) → Sound s b → Sound (openOf s force wait .state) (sinceOpen (openOf s force wait .said) b)
-  pub feeds : (s : State) (b : ℕ) (hold piece : List ℕ) → Bytes hold → Bytes piece → Sound s b
-      → Sound (feedOf s hold piece .state) (b + sizeIn (feedOf s hold piece .said))
-  pub finishes : (s : State) (b : ℕ) (hold : List ℕ) → Sound s b → Sound (finishOf s hold .state) (b + sizeIn (finishOf s hold .said))
-  pub stages : (s : State) (b : ℕ) (wait t : List ℕ) → Sound s b → Sound (stageOf s wait t .state) b
-  pub withdraws : (s : State) (b : ℕ) → Sound s b → Sound (withdrawOf s .state) b
-  -- a sound state is none that refusal 1 names
-  pub passes : (s : State) (b : ℕ) → Sound s b → sound s ≡ true
+abbrev sizeIn : Said → ℕ
+sizeIn a = reportSize (told (said a) .block)
 
 -- a refused call keeps the state, and reports nothing; else what is done has to
 kept : (o : Option ℕ) (s : State) (b : ℕ) (l : List ℕ) (d : Outcome) → Sound s b → (o ≡ none → Sound (d .state) (b + sizeIn (d .said)))
@@ -172,38 +139,31 @@ open-done s b force wait h =
     }
 
 opens-by : (o : Option ℕ) (s : State) (b : ℕ) (force wait : List ℕ) → Sound s b
-    → Sound (unless o s force (opening s force wait) .state) (sinceOpen (unless o s force (opening s force wait) .said) b)
+    → Sound (unless o s force (opening s force wait) .state) (sinceOpen openRun (told (said (unless o s force (opening s force wait) .said))) b)
 opens-by (some n) s b force wait h = h
 opens-by none s b force wait h = open-done s b force wait h
-
-opens : (s : State) (b : ℕ) (force wait : List ℕ) → Sound s b → Sound (openOf s force wait .state) (sinceOpen (openOf s force wait .said) b)
-unfolding openOf
-opens s b force wait h = opens-by (openRefusal s force wait) s b force wait h
-
-feeds : (s : State) (b : ℕ) (hold piece : List ℕ) → Bytes hold → Bytes piece → Sound s b
-    → Sound (feedOf s hold piece .state) (b + sizeIn (feedOf s hold piece .said))
-unfolding feedOf
-feeds s b hold piece bh bp h =
-    kept (feedRefusal s hold piece) s b hold (feedingBy (feedingOf s hold piece) s hold) h (feed-done s b hold piece bh bp h)
-
-finishes : (s : State) (b : ℕ) (hold : List ℕ) → Sound s b → Sound (finishOf s hold .state) (b + sizeIn (finishOf s hold .said))
-unfolding finishOf
-finishes s b hold h = kept (finishRefusal s hold) s b hold (finishingBy (finishingOf s hold) s hold) h (finish-done s b hold h)
 
 -- with another waiting length
 pub waits-on : (s : State) (b n : ℕ) → Sound s b → n ≤ 8192 → Sound (record { run = s .run; «in_force» = s .«in_force»; waiting = n }) b
 waits-on s b n h l =
     record { few = h .few; front = h .front; among = h .among; count = h .count; sum = h .sum; most = h .most; force = h .force; wait = l }
 
-stages : (s : State) (b : ℕ) (wait t : List ℕ) → Sound s b → Sound (stageOf s wait t .state) b
-unfolding stageOf
-stages s b wait t h =
-    same (stageRefusal s wait t) s b wait (staging s wait t) h
-    (λ e. waits-on s b (length t) h (table.passed t (stage-passed s wait t e .1) .file .most))
-
-withdraws : (s : State) (b : ℕ) → Sound s b → Sound (withdrawOf s .state) b
-unfolding withdrawOf
-withdraws s b h = same (withdrawRefusal s) s b [] (withdrawing s) h (λ e. waits-on s b 0 h (omega arith))
+kept-by : (c : Call) (w : World) (b : ℕ) → Bytes (w .hold) → Bytes (pieceOf c) → Sound (w .state) b
+    → Sound (step c w .world .state) (sinceOpen c (told (step c w .answer)) b)
+unfolding step openOf feedOf finishOf stageOf withdrawOf
+kept-by openRun w b bh bp h = opens-by (openRefusal (w .state) (w .force) (w .wait)) (w .state) b (w .force) (w .wait) h
+kept-by (feed piece) w b bh bp h =
+    let s = w .state in
+    kept (feedRefusal s (w .hold) piece) s b (w .hold) (feedingBy (feedingOf s (w .hold) piece) s (w .hold)) h (feed-done s b (w .hold) piece bh bp h)
+kept-by finish w b bh bp h =
+    let s = w .state in
+    kept (finishRefusal s (w .hold)) s b (w .hold) (finishingBy (finishingOf s (w .hold)) s (w .hold)) h (finish-done s b (w .hold) h)
+kept-by (table (stage t)) w b bh bp h =
+    same (stageRefusal (w .state) (w .wait) t) (w .state) b (w .wait) (staging (w .state) (w .wait) t) h
+    (λ e. waits-on (w .state) b (length t) h (passed t (stage-passed (w .state) (w .wait) t e .1) .file .most))
+kept-by (table withdraw) w b bh bp h =
+    same (withdrawRefusal (w .state)) (w .state) b [] (withdrawing (w .state)) h (λ e. waits-on (w .state) b 0 h (omega arith))
+kept-by (look l) w b bh bp h = h
 
 passes-one : (s : State) (b : ℕ) → Sound s b → sound s ≡ true
 unfolding sound
@@ -227,10 +187,6 @@ pub sound-kept : SoundKept
 sound-kept =
     record {
       new = record { few = omega arith; front = omega arith; among = omega arith; count = omega arith; sum = refl; most = omega arith; force = omega arith; wait = omega arith };
-      opens = opens;
-      feeds = feeds;
-      finishes = finishes;
-      stages = stages;
-      withdraws = withdraws;
+      keeps = kept-by;
       passes = passes-one;
     }

@@ -17,9 +17,10 @@ use Rattle.table.specs.Rules.{tableOk}
 use Rattle.table.proofs.Passed as passed
 use Rattle.reader.specs.State.{sound}
 use Rattle.reader.specs.Said.{refused}
-use Rattle.runs.specs.Refusals.{isFeeding, feedRefusal, bytesRefusal}
+use Rattle.runs.specs.Refusals.{isFeeding, isSome, feedRefusal, bytesRefusal}
 use Rattle.reader.specs.Refusals.{longHold}
 use Rattle.tables.specs.Calls.{nextTable, openRefusal}
+use Rattle.records.specs.Calls.{firstOf}
 use Rattle.runs.specs.Calls.{reportIf, front, runOn, feedingOf, finishingOf, finishSaid, phaseAfter, bytesOf}
 use Rattle.reader.specs.Outcome.{partUnless}
 use Rattle.reader.specs.declared.Phase.{Phase}
@@ -30,7 +31,7 @@ use Rattle.reader.proofs.Laws.{passes}
 use Rattle.tables.proofs.Accepted.{stage-passed}
 use Rattle.demands.specs.World.{World, TableCall, stage, withdraw, bytes, Call, openRun, feed, finish, table, look, said, part, told, Step, step, end}
 use Rattle.demands.specs.Sequence.{New}
-use Rattle.demands.specs.History.{Past, newPast, orElse, reportedBytes, after, past, Stored, StoredIf, AsTold, isThere, AnswersBy, History}
+use Rattle.demands.specs.History.{Past, newPast, reportedBytes, after, past, Stored, StoredIf, AsTold, AnswersBy, History}
 use Rattle.demands.proofs.Steps.{How, isnt, is, how, refusal, done, tableDone, unlessRefused, by-refusal, clash}
 use Rattle.demands.proofs.Listed.{nothing-there}
 use Rattle.demands.proofs.Reached.{Good, good-sound, good-end, good-new}
@@ -60,7 +61,7 @@ copied t store l e =
 
 -- what waits, or else what is in force, comes into force
 open-force : (a b : Option (List ℕ)) (w : World) → 8192 ≤ length (w .force) → StoredIf a (w .state .waiting) (w .wait) → StoredIf b (w .state .«in_force») (w .force)
-    → StoredIf (orElse a b) (done openRun w .world .state .«in_force») (done openRun w .world .force)
+    → StoredIf (firstOf a b) (done openRun w .world .state .«in_force») (done openRun w .world .force)
 open-force (some t) b w l s f =
     let n = w .state .waiting in
     let e : ltb 0 (w .state .waiting) ≡ true = lt-ltb 0 n (stored-some t n (w .wait) s) in
@@ -163,7 +164,7 @@ record Next (w : World) (t : List ℕ) : Type 0 where
   pub one : (ltb 0 (w .state .waiting) || ltb 0 (w .state .«in_force»)) ≡ true
   pub ok : tableOk t ≡ true
 
-next-by : (a b : Option (List ℕ)) (w : World) (t : List ℕ) → StoredIf a (w .state .waiting) (w .wait) → StoredIf b (w .state .«in_force») (w .force) → orElse a b ≡ some t → Next w t
+next-by : (a b : Option (List ℕ)) (w : World) (t : List ℕ) → StoredIf a (w .state .waiting) (w .wait) → StoredIf b (w .state .«in_force») (w .force) → firstOf a b ≡ some t → Next w t
 next-by (some u) b w t s f q =
     let x : u ≡ t = cc in
     let e : ltb 0 (w .state .waiting) ≡ true = lt-ltb 0 (w .state .waiting) (stored-some u (w .state .waiting) (w .wait) s) in
@@ -175,7 +176,7 @@ next-by none (some u) w t s f q =
 next-by none none w t s f q = nothing-there q
 
 -- the state has a table for Open
-one-by : (a b : Option (List ℕ)) (w : World) → StoredIf a (w .state .waiting) (w .wait) → StoredIf b (w .state .«in_force») (w .force) → MayOpen w → (t : List ℕ) × (orElse a b ≡ some t)
+one-by : (a b : Option (List ℕ)) (w : World) → StoredIf a (w .state .waiting) (w .wait) → StoredIf b (w .state .«in_force») (w .force) → MayOpen w → (t : List ℕ) × (firstOf a b ≡ some t)
 one-by (some u) b w s f m = (u, refl)
 one-by none (some u) w s f m = (u, refl)
 one-by none none w s f m = clash (sym (rw (s, f) at (m .one)))
@@ -186,7 +187,7 @@ unfolding openRefusal
 open-passes w t g c n lf lw =
     rw (good-sound w g, le-leb 8192 (length (w .force)) lf, le-leb 8192 (length (w .wait)) lw, c, n .one, n .is, n .ok) refl
 
-there-by : (a : Option (List ℕ)) (n : ℕ) (store : List ℕ) → StoredIf a n store → ltb 0 n ≡ isThere a
+there-by : (a : Option (List ℕ)) (n : ℕ) (store : List ℕ) → StoredIf a n store → ltb 0 n ≡ isSome a
 there-by none n store s = rw (s) refl
 there-by (some t) n store s = lt-ltb 0 n (stored-some t n store s)
 
@@ -202,7 +203,7 @@ force-by (some u) t w q s =
     }
 
 opened-by : (w : World) (p : Past) → AsTold w p → {r : Step} → How openRun w r → (v : ℕ) → told (r .answer) .version ≡ some v
-    → (t : List ℕ) × ((orElse (p .waiting) (p .force) ≡ some t) × (nextTable (w .state) (w .force) (w .wait) ≡ t))
+    → (t : List ℕ) × ((firstOf (p .waiting) (p .force) ≡ some t) × (nextTable (w .state) (w .force) (w .wait) ≡ t))
 opened-by w p h (isnt n e) v f = nothing-there f
 opened-by w p h (is e) v f =
     let o = one-by (p .waiting) (p .force) w (h .waiting) (h .force) (may-open w e) in
@@ -212,7 +213,7 @@ staged-by : (w : World) (t : List ℕ) {r : Step} → How (table (stage t)) w r 
 staged-by w t (isnt n e) v f = nothing-there f
 staged-by w t (is e) v f = let q : decode t .version ≡ v = cc in sym q
 
-withdrawn-by : (w : World) (p : Past) → AsTold w p → {r : Step} → How (table withdraw) w r → (b : Bool) → told (r .answer) .waited ≡ some b → b ≡ isThere (p .waiting)
+withdrawn-by : (w : World) (p : Past) → AsTold w p → {r : Step} → How (table withdraw) w r → (b : Bool) → told (r .answer) .waited ≡ some b → b ≡ isSome (p .waiting)
 withdrawn-by w p h (isnt n e) b f = nothing-there f
 withdrawn-by w p h (is e) b f =
     let q : ltb 0 (w .state .waiting) ≡ b = cc in sym q ∙ there-by (p .waiting) (w .state .waiting) (w .wait) (h .waiting)

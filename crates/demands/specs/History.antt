@@ -3,7 +3,7 @@
 -- Assumes nothing.
 use Prim.Native.Nat.{ℕ, _≤_}
 use mathlib.Core.Path.{_≡_}
-use mathlib.Core.Bool.{Bool, true, false}
+use mathlib.Core.Bool.{Bool, true}
 use mathlib.Core.List.{List, [], _∷_}
 use mathlib.Core.Option.{Option, none, some}
 use lib.ListN.{length, take}
@@ -11,6 +11,8 @@ use Rattle.table.specs.Decode.{decode}
 use Rattle.table.specs.Rules.{tableOk}
 use Rattle.reader.specs.Said.{Report}
 use Rattle.tables.specs.Calls.{nextTable}
+use Rattle.runs.specs.Refusals.{isSome}
+use Rattle.records.specs.Calls.{firstOf}
 use Rattle.reader.specs.declared.Phase.{Phase}
 use Rattle.reader.specs.declared.Phase.the-variants.{Closed, Feeding, Finishing}
 use Rattle.demands.specs.World.{World, stage, withdraw, Look, bytes, Call, openRun, feed, finish, table, look, part, Told, told, step, end}
@@ -26,11 +28,6 @@ pub record Past : Type 0 where
 
 abbrev pub newPast : Past
 newPast = record { phase = Closed; waiting = none; force = none; stands = [] }
-
--- the table that waits, or else the one in force
-abbrev pub orElse : Option (List ℕ) → Option (List ℕ) → Option (List ℕ)
-orElse (some t) f = some t
-orElse none f = f
 
 -- the first L bytes of the hold
 abbrev pub reportedBytes : Option Report → List ℕ → List ℕ
@@ -50,9 +47,9 @@ runNow x b p = record { phase = x; waiting = p .waiting; force = p .force; stand
 
 -- after a call and what it told, which left this hold; a refusal changes nothing
 abbrev pub after : Call → Told → List ℕ → Past → Past
--- "if a table waits, .. nothing waits": the run opens with it, and no block stands
+-- "if a table waits, .. nothing waits": the run opens with it, or else with the one in force, and no block stands
 after openRun a hold p =
-    onTold (a .version) p (record { phase = Feeding; waiting = none; force = orElse (p .waiting) (p .force); stands = [] })
+    onTold (a .version) p (record { phase = Feeding; waiting = none; force = firstOf (p .waiting) (p .force); stands = [] })
 -- "drops the block last reported. .. Answers the count taken, with Block .. or More"
 after (feed piece) a hold p = onTold (a .taken) p (runNow (p .phase) (reportedBytes (a .block) hold) p)
 -- "answers Block, or End (..), which closes the run. After the first Finish no bytes are fed."
@@ -88,20 +85,16 @@ pub record AsTold (w : World) (p : Past) : Type 0 where
   pub stands : take (w .state .run .standing) (w .hold) ≡ p .stands
 
 -- and it answers so
-abbrev pub isThere : Option (List ℕ) → Bool
-isThere none = false
-isThere (some t) = true
-
 pub record AnswersBy (w : World) (p : Past) : Type 0 where
   -- a run opens whenever none is open and a table is there
-  pub opens : (t : List ℕ) → p .phase ≡ Closed → orElse (p .waiting) (p .force) ≡ some t → 8192 ≤ length (w .force) → 8192 ≤ length (w .wait)
+  pub opens : (t : List ℕ) → p .phase ≡ Closed → firstOf (p .waiting) (p .force) ≡ some t → 8192 ≤ length (w .force) → 8192 ≤ length (w .wait)
       → told (step openRun w .answer) .version ≡ some (decode t .version)
   -- and it opens with that table, which is the one that `Demand3` has all records read by
   pub found : (v : ℕ) → told (step openRun w .answer) .version ≡ some v
-      → (t : List ℕ) × ((orElse (p .waiting) (p .force) ≡ some t) × (nextTable (w .state) (w .force) (w .wait) ≡ t))
+      → (t : List ℕ) × ((firstOf (p .waiting) (p .force) ≡ some t) × (nextTable (w .state) (w .force) (w .wait) ≡ t))
   -- "answers its version"; "answers whether one did"
   pub stages : (t : List ℕ) (v : ℕ) → told (step (table (stage t)) w .answer) .version ≡ some v → v ≡ decode t .version
-  pub withdraws : (b : Bool) → told (step (table withdraw) w .answer) .waited ≡ some b → b ≡ isThere (p .waiting)
+  pub withdraws : (b : Bool) → told (step (table withdraw) w .answer) .waited ≡ some b → b ≡ isSome (p .waiting)
   -- "the block just reported, .. an empty part if none stands", however long ago it was
   pub shows : (b : List ℕ) → step (look bytes) w .answer ≡ part none b → b ≡ p .stands
   -- records are read by the table in force, in a run and after it

@@ -1,9 +1,11 @@
 pub mod World
 pub mod Sequence
 pub mod Refusals
+pub mod Soundness
 pub mod Demand1
 pub mod Demand2
 pub mod Demand3
 pub mod One
 pub mod History
 pub mod Progress
+pub mod NoMore

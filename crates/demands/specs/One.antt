@@ -7,8 +7,7 @@ use mathlib.Core.Path.{_≡_}
 use mathlib.Core.List.{List}
 use mathlib.Core.Option.{Option}
 use Rattle.wire.specs.Parts.{past}
-use Rattle.record.specs.Answer.{Answers, handedSays}
-use Rattle.record.specs.Answer.{FieldSaid}
+use Rattle.record.specs.Answer.{FieldSaid, Answers, handedSays}
 use Rattle.record.specs.declared.Answer.{Answer}
 use Rattle.record.specs.declared.Handed.{Handed}
 use Rattle.record.specs.declared.Placed.{Placed}

@@ -10,7 +10,7 @@ use mathlib.Core.Logic.{_⊎_}
 use mathlib.Core.Option.{Option, none, some}
 use lib.ListN.{length, getD, take, drop}
 use Rattle.crc.specs.Crc.{crcOf}
-use Rattle.frame.specs.Frame.{crcAt, idAt, lengthAt, numberOf, revisionOf}
+use Rattle.frame.specs.Frame.{crcAt, lengthAt}
 use Rattle.frame.specs.Judge.{judged}
 use Rattle.scan.specs.Settle.{settle}
 use Rattle.feed.specs.Hold.{restOf}
@@ -19,6 +19,7 @@ use Rattle.table.specs.Lists.{pick}
 use Rattle.table.specs.Rows.{BlockRow, Table, ends}
 use Rattle.table.specs.Decode.{decode}
 use Rattle.table.specs.Rules.{tableOk}
+use Rattle.block.specs.Block.{numberIn, revisionIn, countIn as N, subLengthIn as SBLength}
 use Rattle.tables.specs.Calls.{nextTable}
 use Rattle.records.specs.Calls.{tableInForce}
 use Rattle.reader.specs.declared.Phase.the-variants.{Closed, Feeding}
@@ -76,23 +77,9 @@ pub record OneFrame (b : List ℕ) : Type 0 where
   pub stands : FrameStands b 0
   pub all : lengthAt b 0 ≡ length b
 
--- "The low thirteen bits of the ID are the block number, the top three its revision."
-abbrev pub number : List ℕ → ℕ
-number b = numberOf (idAt b 0)
-
-abbrev pub revision : List ℕ → ℕ
-revision b = revisionOf (idAt b 0)
-
 -- L, at 6
 abbrev pub L : List ℕ → ℕ
 L b = lengthAt b 0
-
--- N and SBLength, "two u1 rows at 14 and 15"
-abbrev pub N : List ℕ → ℕ
-N b = getD b 14 0
-
-abbrev pub SBLength : List ℕ → ℕ
-SBLength b = getD b 15 0
 
 -- ---- its row in the table
 
@@ -103,7 +90,7 @@ Among xs x = (i : ℕ) × (pick xs i ≡ some x)
 -- r is a row of the table, of the block's number
 pub record RowOf (t : Table) (b : List ℕ) (r : BlockRow) : Type 0 where
   pub among : Among (t .rows) r
-  pub same : r .number ≡ number b
+  pub same : r .number ≡ numberIn b
 
 -- P of the block's row
 abbrev pub OfRow : Table → List ℕ → (BlockRow → Type 0) → Type 0
@@ -111,7 +98,7 @@ OfRow t b P = (r : BlockRow) × (RowOf t b r × P r)
 
 -- among these fields one "that its revision carries" ("when the field's first revision is not above it") ends past n
 abbrev pub EndsPast : List FieldRow → List ℕ → ℕ → Type 0
-EndsPast fs b n = (f : FieldRow) × (Among fs f × ((f .first ≤ revision b) × (n < ends f)))
+EndsPast fs b n = (f : FieldRow) × (Among fs f × ((f .first ≤ revisionIn b) × (n < ends f)))
 
 -- ---- the conditions on it
 
@@ -120,8 +107,8 @@ abbrev pub NotInTable : Table → List ℕ → Type 0
 NotInTable t b = (r : BlockRow) → RowOf t b r → ⊥
 
 -- 7: "a body field that its revision carries ends past L, or L is below 14"
-abbrev pub EndsPastL : Table → List ℕ → Type 0
-EndsPastL t b = OfRow t b (λ r. EndsPast (r .body) b (L b)) ⊎ (L b < 14)
+abbrev pub BodyDoesNotFit : Table → List ℕ → Type 0
+BodyDoesNotFit t b = OfRow t b (λ r. EndsPast (r .body) b (L b)) ⊎ (L b < 14)
 
 -- 8: "the block's row has sub-fields, and either N is over 0 and a carried sub-field ends past SBLength, or 16 + N x SBLength is over L"
 abbrev pub SubsDoNotFit : Table → List ℕ → Type 0
@@ -172,7 +159,7 @@ recordOrder w b Nine =
     ∷ 4 when Breaks (tableInForce (w .state) (w .force))
     ∷ 10 when NoWholeFrame b
     ∷ 6 when NotInTable t b
-    ∷ 7 when EndsPastL t b
+    ∷ 7 when BodyDoesNotFit t b
     ∷ 8 when SubsDoNotFit t b
     ∷ 9 when OfRow t b Nine
     ∷ []

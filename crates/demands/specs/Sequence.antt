@@ -1,10 +1,10 @@
 -- Calls on a new reader, and a run among them: what its calls took and reported.
 -- Assumes nothing.
-use Prim.Native.Nat.{ℕ, _<_}
+use Prim.Native.Nat.{ℕ}
 use mathlib.Core.Path.{_≡_}
 use mathlib.Core.List.{List, [], _∷_, _++_}
 use mathlib.Core.Option.{Option, none, some, Option·getD, IsSome}
-use lib.ListN.{getD, take}
+use lib.ListN.{take}
 use Rattle.wire.specs.Range.{Bytes}
 use Rattle.framing.specs.ReadRun.{ReadBlock}
 use Rattle.reader.specs.State.{newState}

@@ -3,13 +3,20 @@ ghost use Rattle.demands.specs.Demand1.{Demand1};
 ghost use Rattle.demands.specs.Demand2.{Demand2};
 ghost use Rattle.demands.specs.Demand3.{Demand3};
 ghost use Rattle.demands.specs.History.{History};
+ghost use Rattle.demands.specs.NoMore.{TakesNoMore};
 ghost use Rattle.demands.specs.One.{OneOutcome};
 ghost use Rattle.demands.specs.Progress.{Progress};
+ghost use Rattle.demands.specs.Soundness.{SoundKept};
 
 // Demand 1: every call is refused exactly when document 01 says; a refused call changes nothing and hands back nothing; states that are
 // reached are sound; with long enough buffers refusal 1 is not given.
 pub fn demand_1()
     ensures { λ _. ⌜ Demand1 ⌝ }
+{}
+
+// Every call keeps a sound state sound, whatever the buffers: each byte taken is one of a reported block, skipped or held.
+pub fn sound_kept()
+    ensures { λ _. ⌜ SoundKept ⌝ }
 {}
 
 // Demand 2: at every moment of a run the blocks reported are the first ones of the reading rule, after More nothing more can be
@@ -37,4 +44,9 @@ pub fn history()
 // More is answered only with all taken that may be, and Finish comes to End.
 pub fn progress()
     ensures { λ _. ⌜ Progress ⌝ }
+{}
+
+// Feed takes no more than it needs: to a shorter front of its piece than it took it answers More.
+pub fn takes_no_more()
+    ensures { λ _. ⌜ TakesNoMore ⌝ }
 {}

@@ -2,14 +2,15 @@
 -- Assumes nothing.
 use mathlib.Core.Path.{_≡_, refl, ap, _∙_}
 use mathlib.Core.List.{List, []}
+use mathlib.Core.Option.{some}
 use Prim.Native.Nat.{ℕ, _+_, _-_, _≤_}
 use native.Mathlib.Omega.{arith}
 use lib.ListN.{length, take, drop, length-drop}
 use lib.Seq.{length-take-le}
 use Rattle.table.specs.Rows.{Table}
 use Rattle.block.specs.declared.Span.{Span}
-use Rattle.block.specs.Block.{subSpan, Seen, refusedBy, row, seenSub}
-use Rattle.record.specs.Calls.{subSlice, partBy, placeBy, subBlock, subPlace}
+use Rattle.block.specs.Block.{Seen, refusedBy, row, seenSub}
+use Rattle.record.specs.Calls.{subSlice, partBy, placeBy, numberBy, subBlock, subPlace}
 
 module _ (b : List ℕ) (s : Span) (h : s .at + s .size ≤ length b) where
   end : s .at + s .size - s .at ≡ s .size
@@ -35,6 +36,7 @@ pub part-at : (tab : Table) (b : List ℕ) (k : ℕ) → subSlice b (subPlace ta
 unfolding subPlace subBlock
 part-at tab b k = part-by b k (seenSub tab b k)
 
--- a sub-block's bytes by any row: each gives it the same place
-abbrev pub bytesByAny : List ℕ → ℕ → List ℕ
-bytesByAny b k = subSlice b (subSpan (record { number = 0; highest = 0; body = []; subs = [] }) b k)
+-- and it is empty where the call is refused
+pub refused-part : (b : List ℕ) (k : ℕ) (x : Seen) (n : ℕ) → numberBy x ≡ some n → partBy b k x ≡ []
+refused-part b k (refusedBy m) n e = refl
+refused-part b k (row r) n e = let z : _≡_ {A = ℕ} 0 1 = cc in let f : ⊥ = omega arith in absurd f

@@ -2,7 +2,7 @@
 -- Assumes nothing.
 use mathlib.Core.Path.{_≡_, refl, sym, ap}
 use mathlib.Core.Bool.{true, _&&_}
-use mathlib.Core.List.{List}
+use mathlib.Core.List.{List, []}
 use mathlib.Core.Option.{Option, none, some}
 use Prim.Native.Nat.{ℕ, _≤_}
 use native.Mathlib.Omega.{arith}
@@ -11,19 +11,20 @@ use lib.Dec.{ltb}
 use Rattle.table.specs.Decode.{decode}
 use Rattle.table.specs.Rules.{tableOk}
 use Rattle.block.specs.declared.Span.{Span}
+use Rattle.block.specs.Block.{seenSub}
 use Rattle.refusal.specs.Numbers.{numberFor}
 use Rattle.record.specs.Answer.{FieldSaid, Answers}
 use Rattle.record.specs.declared.Answer.{Answer}
 use Rattle.record.specs.declared.Answer.the-variants as answer
 use Rattle.refusal.specs.declared.Refusal.{Refusal}
-use Rattle.record.specs.Calls.{subSlice, subPlace}
+use Rattle.record.specs.Calls.{subSlice, subBlock, subPlace, subBlockRefusal}
 use Rattle.record.proofs.Calls.{refuses}
 use Rattle.record.proofs.Fields.{same}
-use Rattle.record.proofs.Parts.{part-at}
+use Rattle.record.proofs.Parts.{part-at, refused-part}
 use Rattle.reader.specs.State.{sound}
 use Rattle.reader.specs.Refusals.{need, longStore, tableRefusal}
 use Rattle.reader.specs.Outcome.{partUnless}
-use Rattle.records.specs.Calls.{tableInForce, askRefusal, saidUnless, subBytesOf, placeUnless, subPlaceOf}
+use Rattle.records.specs.Calls.{tableInForce, askRefusal, saidUnless, subBytesOf, placeUnless, subPlaceOf, firstOf, subBytesRefusal}
 use Rattle.reader.specs.declared.State.{State}
 use Rattle.reader.proofs.Laws.{passes, with-store}
 
@@ -57,3 +58,13 @@ unfolding subPlaceOf subBytesOf
 place-bytes s force block k =
     let tab = decode (tableInForce s force) in
     place-by (askRefusal s force) block (subPlace tab block k) (part-at tab block k)
+
+-- and it is empty where the call is refused
+empty-by : (o p : Option ℕ) (n : ℕ) (b : List ℕ) → firstOf o p ≡ some n → (p ≡ some n → b ≡ []) → partUnless o b ≡ []
+empty-by none p n b e f = f e
+empty-by (some m) p n b e f = refl
+
+pub sub-bytes-empty : (s : State) (force block : List ℕ) (k n : ℕ) → subBytesRefusal s force block k ≡ some n → subBytesOf s force block k ≡ []
+unfolding subBytesOf subBytesRefusal subBlock subBlockRefusal
+sub-bytes-empty s force block k n e =
+    empty-by (askRefusal s force) _ n _ e (refused-part block k (seenSub (decode (tableInForce s force)) block k) n)

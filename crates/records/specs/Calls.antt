@@ -49,9 +49,9 @@ placeUnless none s = s
 unfoldable pub subPlaceOf : State → List ℕ → List ℕ → ℕ → Span
 subPlaceOf s force block k = placeUnless (askRefusal s force) (subPlace (decode (tableInForce s force)) block k)
 
--- R20: the earlier number
-abbrev pub firstOf : Option ℕ → Option ℕ → Option ℕ
-firstOf (some n) rest = some n
+-- the first, or else the second
+abbrev pub firstOf : {A : Type 0} → Option A → Option A → Option A
+firstOf (some x) rest = some x
 firstOf none rest = rest
 
 -- R22: the number that Subbytes is refused with, or none

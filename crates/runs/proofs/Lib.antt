@@ -1,2 +1,3 @@
 pub mod Feeding
 pub mod Giving
+pub mod Emptying

@@ -21,9 +21,9 @@ isFeeding Closed = false
 isFeeding Feeding = true
 isFeeding Finishing = false
 
-abbrev pub isSome : Option ℕ → Bool
+abbrev pub isSome : {A : Type 0} → Option A → Bool
 isSome none = false
-isSome (some n) = true
+isSome (some x) = true
 
 -- R20: 1, 2, 3; what R3 asks of the held bytes, it asks without the standing block
 unfoldable pub feedRefusal : State → List ℕ → List ℕ → Option ℕ

@@ -12,7 +12,8 @@ use Rattle.refusal.specs.Numbers.{numberFor}
 use Rattle.cform.specs.State.{stateOf}
 use Rattle.capi.specs.Calls.{bytesC}
 use Rattle.capi.proofs.Refusing.{bytes-one}
-use Rattle.capi.proofs.Handing.{hands-none, hands-it, bytes-none, bytes-cut}
+use Rattle.runs.proofs.Emptying.{bytes-empty}
+use Rattle.capi.proofs.Handing.{hands-none, hands-it, bytes-cut}
 use borrow.Author.Needs.{needs}
 use Rattle.capi.proofs.parts.alderflute_bytes.Statement.{statement}
 use Rattle.capi.proofs.parts.alderflute_bytes.Tie as tie
@@ -45,7 +46,7 @@ returns c =
     let hold = a .hold .now in
     let t = w .state-of .result in
     let r = sym (b .bytes-refused .ensures) ∙ ap refusalOf (q .c .given .1) in
-    hands-none (λ (t : State). bytesRefusal t hold) (λ (t : State). 0) (λ (t : State). bytesOf t hold) hold (λ (t : State) (e : sound t ≡ false). bytes-one t e hold) (stateOf (a .s)) t (numberFor (q .c .given .0 .0)) (w .state-of .ensures) r (bytes-none t hold _ r) (c .no-part .ensures)
+    hands-none (λ (t : State). bytesRefusal t hold) (λ (t : State). 0) (λ (t : State). bytesOf t hold) hold (λ (t : State) (e : sound t ≡ false). bytes-one t e hold) (stateOf (a .s)) t (numberFor (q .c .given .0 .0)) (w .state-of .ensures) r (bytes-empty t hold _ r) (c .no-part .ensures)
 
 returns-2 : tie.Need-returns-2
 unfolding bytesC

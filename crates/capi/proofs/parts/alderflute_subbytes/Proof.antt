@@ -13,6 +13,7 @@ use Rattle.cform.specs.State.{stateOf}
 use Rattle.cform.specs.Answer.{partC}
 use Rattle.capi.specs.Calls.{subBytesC}
 use Rattle.capi.proofs.Refusing.{sub-bytes-one}
+use Rattle.records.proofs.Asking.{sub-bytes-empty}
 use Rattle.capi.proofs.Handing as handing
 use borrow.Author.Needs.{needs}
 use Rattle.capi.proofs.parts.alderflute_subbytes.Statement.{statement}
@@ -46,7 +47,7 @@ returns c =
     let r = sym (b .sub-place .ensures .0) ∙ ap handedSays (q .h .given .1) in
     handing.hands-none (λ (t : State). subBytesRefusal t force block (a .k)) (λ (t : State). subPlaceOf t force block (a .k) .at) (λ (t : State). subBytesOf t force block (a .k)) block
     (λ (t : State) (e : sound t ≡ false). sub-bytes-one t e force block (a .k)) (stateOf (a .s)) t (numberFor (q .h .given .0 .0)) (w .state-of .ensures) r
-    (handing.sub-none t force block (a .k) _ r) (c .no-part .ensures)
+    (sub-bytes-empty t force block (a .k) _ r) (c .no-part .ensures)
 
 returns-2 : tie.Need-returns-2
 unfolding subBytesC

@@ -1,0 +1,46 @@
+-- Sound states: what every call keeps of a state, whatever the buffers. It has all that refusal 1 asks of one, and says of each byte
+-- taken where it went.
+-- Assumes nothing.
+use Prim.Native.Nat.{ℕ, _+_, _-_, _≤_}
+use mathlib.Core.Path.{_≡_}
+use mathlib.Core.Bool.{true, cond}
+use mathlib.Core.Option.{Option, none, some}
+use Rattle.wire.specs.Range.{Bytes}
+use Rattle.reader.specs.State.{limit, newState, sound}
+use Rattle.reader.specs.Said.{Report}
+use Rattle.runs.specs.Refusals.{isSome}
+use Rattle.reader.specs.declared.State.{State}
+use Rattle.demands.specs.World.{World, Call, openRun, feed, finish, table, look, Told, told, step}
+use Rattle.demands.specs.Sequence.{pieceOf}
+
+-- `reported` is the sum of the lengths of the blocks reported since Open, the standing one among them
+pub record Sound (s : State) (reported : ℕ) : Type 0 where
+  pub few : s .run .held ≤ 65532
+  pub front : s .run .standing ≤ s .run .held
+  pub among : s .run .standing ≤ reported
+  pub count : s .run .counts .blocks ≤ reported
+  -- a byte that was taken is one of a reported block, is skipped, or is held behind the standing block
+  pub sum : reported + s .run .counts .skipped + (s .run .held - s .run .standing) ≡ s .run .counts .taken
+  pub most : s .run .counts .taken ≤ limit
+  pub force : s .«in_force» ≤ 8192
+  pub wait : s .waiting ≤ 8192
+
+abbrev pub reportSize : Option Report → ℕ
+reportSize none = 0
+reportSize (some r) = r .size
+
+-- `reported` after a call and what it told: a run that opens has reported no block
+abbrev pub sinceOpen : Call → Told → ℕ → ℕ
+sinceOpen openRun a reported = cond (isSome (a .version)) 0 reported
+sinceOpen (feed piece) a reported = reported + reportSize (a .block)
+sinceOpen finish a reported = reported + reportSize (a .block)
+sinceOpen (table t) a reported = reported
+sinceOpen (look l) a reported = reported
+
+pub record SoundKept : Type 0 where
+  pub new : Sound newState 0
+  -- the one premise is that what is held and fed is bytes below 256
+  pub keeps : (c : Call) (w : World) (reported : ℕ) → Bytes (w .hold) → Bytes (pieceOf c) → Sound (w .state) reported
+      → Sound (step c w .world .state) (sinceOpen c (told (step c w .answer)) reported)
+  -- a sound state is none that refusal 1 names
+  pub passes : (s : State) (reported : ℕ) → Sound s reported → sound s ≡ true
