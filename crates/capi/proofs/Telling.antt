@@ -10,12 +10,12 @@ use Rattle.reader.specs.declared.State.{State}
 use Rattle.cform.specs.State.{Reads}
 use Rattle.cform.specs.Answer.{fieldC}
 use Rattle.cform.specs.declared.CField.{CField}
-use Rattle.capi.specs.Calls.{tells}
+use Rattle.capi.specs.Calls.{tellsField}
 
 module _ (call : State → FieldSaid) (refuses : (t : State) → sound t ≡ false → call t ≡ fieldRefused 1) where
-  tells-by : (o : Option State) (t : State) → Reads o t → fieldC (call t) ≡ tells call o
+  tells-by : (o : Option State) (t : State) → Reads o t → fieldC (call t) ≡ tellsField call o
   tells-by none t k = ap fieldC (refuses t k)
   tells-by (some u) t k = ap (λ (v : State). fieldC (call v)) k
 
-  pub tells-it : (o : Option State) {t : State} {r : Answer} {x : CField} → Reads o t → Answers r (call t) → x ≡ fieldC (answerSays r) → x ≡ tells call o
+  pub tells-it : (o : Option State) {t : State} {r : Answer} {x : CField} → Reads o t → Answers r (call t) → x ≡ fieldC (answerSays r) → x ≡ tellsField call o
   tells-it o {t} k h e = e ∙ ap fieldC (h .says) ∙ tells-by o t k

@@ -52,21 +52,21 @@ withdrawC s = goesOn withdrawOf s [] (stateOf s)
 
 -- ---- fields
 
-abbrev pub tells : (State → FieldSaid) → Option State → CField
-tells call none = fieldC (fieldRefused 1)
-tells call (some t) = fieldC (call t)
+abbrev pub tellsField : (State → FieldSaid) → Option State → CField
+tellsField call none = fieldC (fieldRefused 1)
+tellsField call (some t) = fieldC (call t)
 
 unfoldable pub bodyC : CState → List ℕ → List ℕ → ℕ → CField
-bodyC s force block i = tells (λ t. bodyOf t force block i) (stateOf s)
+bodyC s force block i = tellsField (λ t. bodyOf t force block i) (stateOf s)
 
 unfoldable pub subC : CState → List ℕ → List ℕ → ℕ → ℕ → CField
-subC s force block k j = tells (λ t. subOf t force block k j) (stateOf s)
+subC s force block k j = tellsField (λ t. subOf t force block k j) (stateOf s)
 
 unfoldable pub towC : CState → List ℕ → CField
-towC s block = tells (λ t. towOf t block) (stateOf s)
+towC s block = tellsField (λ t. towOf t block) (stateOf s)
 
 unfoldable pub wncC : CState → List ℕ → CField
-wncC s block = tells (λ t. wncOf t block) (stateOf s)
+wncC s block = tellsField (λ t. wncOf t block) (stateOf s)
 
 -- ---- parts
 

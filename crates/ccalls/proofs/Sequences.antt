@@ -28,7 +28,7 @@ use Rattle.cform.specs.Answer.{replyC, fieldC, partC}
 use Rattle.cform.specs.Theorems.{answerBack, fieldBack}
 use Rattle.cform.proofs.Phases.{closed-of, feeding-of, finishing-of, none-over}
 use Rattle.cform.proofs.Back.{nothing-lost}
-use Rattle.capi.specs.Calls.{Left, Handing, goesOn, openC, feedC, finishC, stageC, withdrawC, tells, bodyC, subC, towC, wncC, hands, bytesC, subBytesC}
+use Rattle.capi.specs.Calls.{Left, Handing, goesOn, openC, feedC, finishC, stageC, withdrawC, tellsField, bodyC, subC, towC, wncC, hands, bytesC, subBytesC}
 use Rattle.demands.specs.World.{World, stage, withdraw, Look, bytes, body, sub, subBytes, tow, wnc, Call, openRun, feed, finish, table, look, Reply, said, part, value, told, looked, step, end, Line, _⇒_, trace}
 use Rattle.demands.specs.Refusals.{Order, Given, order}
 use Rattle.demands.specs.Demand1.{Demand1}
@@ -77,8 +77,8 @@ module _ (call : State → Outcome) (s : State) (lent : List ℕ) where
   goes : goesOn call (stateC s) lent (stateOf (stateC s)) ≡ record { reply = replyC (call s .said) (stateC (call s .state)); lent = call s .lent }
   goes = ap (goesOn call (stateC s) lent) (back s)
 
-tells-it : (call : State → FieldSaid) (s : State) → fieldBack (tells call (stateOf (stateC s))) ≡ call s
-tells-it call s = ap (λ (o : Option State). fieldBack (tells call o)) (back s) ∙ nothing-lost .fields (call s)
+tells-it : (call : State → FieldSaid) (s : State) → fieldBack (tellsField call (stateOf (stateC s))) ≡ call s
+tells-it call s = ap (λ (o : Option State). fieldBack (tellsField call o)) (back s) ∙ nothing-lost .fields (call s)
 
 hands-it : (refusal : State → Option ℕ) (offset : State → ℕ) (cut : State → List ℕ) (s : State)
     → hands refusal offset cut (stateOf (stateC s)) ≡ record { part = partC (refusal s) (offset s) (length (cut s)); bytes = cut s }

@@ -4,7 +4,7 @@ use mathlib.Core.Path.{_≡_, sym, ap, _∙_}
 use mathlib.Core.List.{List}
 use mathlib.Core.Option.{Option}
 use Prim.Native.Nat.{ℕ}
-use Rattle.wire.specs.Parts.{past}
+use Rattle.wire.specs.Parts.{offsetBy}
 use Rattle.block.specs.declared.Span.{Span}
 use Rattle.record.specs.Answer.{FieldSaid}
 use Rattle.answers.proofs.Theorems.{one-answer}
@@ -47,7 +47,7 @@ one =
       bytes-refused = λ s hold a b p q. checks a b (p ∙ sym q);
       bodies = λ s force b i. one-field (bodyOf s force b i);
       subs = λ s force b k j. one-field (subOf s force b k j);
-      sub-bytes = λ s force b p k. one-part (subBytesOf s force b k) (past p (subPlaceOf s force b k .at));
+      sub-bytes = λ s force b p k. one-part (subBytesOf s force b k) (offsetBy p (subPlaceOf s force b k .at));
       sub-bytes-refused = λ s force b k x y p q. one-answer .handed x y (p ∙ sym q);
       sub-places = λ s force b k. one-place (subBytesRefusal s force b k) (subPlaceOf s force b k);
       tows = λ s b. one-field (towOf s b);

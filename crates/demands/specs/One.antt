@@ -6,7 +6,7 @@ use Prim.Native.Nat.{ℕ}
 use mathlib.Core.Path.{_≡_}
 use mathlib.Core.List.{List}
 use mathlib.Core.Option.{Option}
-use Rattle.wire.specs.Parts.{past}
+use Rattle.wire.specs.Parts.{offsetBy}
 use Rattle.record.specs.Answer.{FieldSaid, Answers, handedSays}
 use Rattle.record.specs.declared.Answer.{Answer}
 use Rattle.record.specs.declared.Handed.{Handed}
@@ -49,7 +49,7 @@ pub record OneOutcome : Type 0 where
   pub bytes-refused : (s : State) (hold : List ℕ) (a b : Check) → refusalOf a ≡ bytesRefusal s hold → refusalOf b ≡ bytesRefusal s hold → a ≡ b
   pub bodies : (s : State) (force b : List ℕ) (i : ℕ) → OneField (bodyOf s force b i)
   pub subs : (s : State) (force b : List ℕ) (k j : ℕ) → OneField (subOf s force b k j)
-  pub sub-bytes : (s : State) (force b : List ℕ) (p : ℕ × ℕ) (k : ℕ) → OnePart (subBytesOf s force b k) (past p (subPlaceOf s force b k .at))
+  pub sub-bytes : (s : State) (force b : List ℕ) (p : ℕ × ℕ) (k : ℕ) → OnePart (subBytesOf s force b k) (offsetBy p (subPlaceOf s force b k .at))
   pub sub-bytes-refused : (s : State) (force b : List ℕ) (k : ℕ) (x y : Handed) → handedSays x ≡ subBytesRefusal s force b k
       → handedSays y ≡ subBytesRefusal s force b k → x ≡ y
   pub sub-places : (s : State) (force b : List ℕ) (k : ℕ) → OnePlace (subBytesRefusal s force b k) (subPlaceOf s force b k)

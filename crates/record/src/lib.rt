@@ -3,7 +3,7 @@ ghost use mathlib.Core.Path.{_≡_};
 ghost use mathlib.Core.Bool.{true};
 ghost use Prim.Native.Nat.{_+_, _≤_};
 ghost use lib.ListN.{length};
-ghost use Rattle.wire.specs.Parts.{past};
+ghost use Rattle.wire.specs.Parts.{offsetBy};
 ghost use Rattle.table.specs.Rows.{ends};
 ghost use Rattle.table.specs.Decode.{decode};
 ghost use Rattle.table.specs.Rules.{tableOk};
@@ -68,7 +68,7 @@ pub fn body_field(table: &[u8], block: &[u8], i: usize) -> Answer
 pub fn part(block: &[u8], s: Span) -> &[u8]
     requires { ⌜ s .at + s .size ≤ length (now block) ⌝ }
     ensures { λ r. ⌜ (now r ≡ subSlice (now (block .entry)) s) × (length (now r) ≡ s .size) ⌝ }
-    ensures { λ r. ⌜ r .ptr ≡ past (block .entry .ptr) (s .at) ⌝ }
+    ensures { λ r. ⌜ r .ptr ≡ offsetBy (block .entry .ptr) (s .at) ⌝ }
 {
     let a = s.at;
     let e = a + s.size;
@@ -118,7 +118,7 @@ pub fn sub_place(table: &[u8], block: &[u8], k: usize) -> Placed
 pub fn sub_block<'a, 'b>(table: &'a [u8], block: &'b [u8], k: usize) -> &'b [u8]
     requires { ⌜ tableOk (now table) ≡ true ⌝ }
     ensures { λ r. ⌜ now r ≡ subBlock (decode (now (table .entry))) (now (block .entry)) k ⌝ }
-    ensures { λ r. ⌜ r .ptr ≡ past (block .entry .ptr) (subPlace (decode (now (table .entry))) (now (block .entry)) k .at) ⌝ }
+    ensures { λ r. ⌜ r .ptr ≡ offsetBy (block .entry .ptr) (subPlace (decode (now (table .entry))) (now (block .entry)) k .at) ⌝ }
 {
     let p = sub_place(table, block, k);
     part(block, p.span)

@@ -2,7 +2,7 @@
 ghost use mathlib.Core.Path.{_≡_};
 ghost use Prim.Native.Nat.{_+_, _≤_};
 ghost use lib.ListN.{length};
-ghost use Rattle.wire.specs.Parts.{past};
+ghost use Rattle.wire.specs.Parts.{offsetBy};
 ghost use Rattle.record.specs.Answer.{Answers, handedSays};
 ghost use Rattle.reader.specs.Said.{refusalOf};
 ghost use Rattle.records.specs.Calls.{askRefusal, bodyOf, subOf, subBytesOf, subPlaceOf, subBytesRefusal, towOf, wncOf};
@@ -60,7 +60,7 @@ pub fn sub(s: State, in_force: &[u8], block: &[u8], k: usize, j: usize) -> Answe
 // C13, R22: the bytes of sub-block k, as a part of the block; an empty part where the call is refused.
 pub fn sub_bytes<'a, 'b>(s: State, in_force: &'a [u8], block: &'b [u8], k: usize) -> &'b [u8]
     ensures { λ r. ⌜ now r ≡ subBytesOf s (now («in_force» .entry)) (now (block .entry)) k ⌝ }
-    ensures { λ r. ⌜ r .ptr ≡ past (block .entry .ptr) (subPlaceOf s (now («in_force» .entry)) (now (block .entry)) k .at) ⌝ }
+    ensures { λ r. ⌜ r .ptr ≡ offsetBy (block .entry .ptr) (subPlaceOf s (now («in_force» .entry)) (now (block .entry)) k .at) ⌝ }
 {
     let c = of_ask(s, in_force);
     let n = s.in_force;

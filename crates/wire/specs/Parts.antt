@@ -3,5 +3,5 @@
 use Prim.Native.Nat.{ℕ, _+_}
 
 -- n bytes on from there
-abbrev pub past : ℕ × ℕ → ℕ → ℕ × ℕ
-past p n = (p .0, p .1 + n)
+abbrev pub offsetBy : ℕ × ℕ → ℕ → ℕ × ℕ
+offsetBy p n = (p .0, p .1 + n)

@@ -3,7 +3,7 @@
 use mathlib.Core.Path.{_≡_, ap}
 use Prim.Native.Nat.{ℕ, _+_}
 use native.Mathlib.Omega.{arith}
-use Rattle.wire.specs.Parts.{past}
+use Rattle.wire.specs.Parts.{offsetBy}
 use Rattle.record.proofs.Parts.{part-is}
 use borrow.Author.Needs.{needs}
 use Rattle.record.proofs.part.Statement.{statement}
@@ -22,7 +22,7 @@ part-result-end : tie.Need-part-result-end
 part-result-end c = search needs
 
 -- the kit adds the offset to the pointer from the left
-stands : (p : ℕ × ℕ) (a : ℕ) → (p .0, a + p .1) ≡ past p a
+stands : (p : ℕ × ℕ) (a : ℕ) → (p .0, a + p .1) ≡ offsetBy p a
 stands p a = ap (λ (n : ℕ). (p .0, n)) (omega arith)
 
 returns : tie.Need-returns

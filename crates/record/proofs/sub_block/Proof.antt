@@ -1,7 +1,7 @@
 -- `record::sub_block` meets its contract: the part that stands at its place.
 -- Assumes nothing.
 use mathlib.Core.Path.{ap, _∙_}
-use Rattle.wire.specs.Parts.{past}
+use Rattle.wire.specs.Parts.{offsetBy}
 use Rattle.block.specs.declared.Span.{Span}
 use Rattle.record.specs.Calls.{subSlice}
 use Rattle.record.proofs.Parts.{part-at}
@@ -19,7 +19,7 @@ returns : tie.Need-returns
 returns c =
     let place = c .before .sub-place .ensures .1 .0 in (
       c .part .ensures .0 .0 ∙ ap (subSlice _) place ∙ part-at _ _ _,
-      c .part .ensures .1 ∙ ap (λ (s : Span). past (c .before .before .before .before .args .block .ptr) (s .at)) place,
+      c .part .ensures .1 ∙ ap (λ (s : Span). offsetBy (c .before .before .before .before .args .block .ptr) (s .at)) place,
     )
 
 pub sub-block-spec : {M : Type 1} → statement M

@@ -6,7 +6,7 @@ use mathlib.Core.List.{List, []}
 use Prim.Native.Nat.{ℕ}
 use native.Mathlib.Omega.{arith}
 use lib.Seq.{length-take-le}
-use Rattle.wire.specs.Parts.{past}
+use Rattle.wire.specs.Parts.{offsetBy}
 use Rattle.table.specs.Decode.{decode}
 use Rattle.block.specs.declared.Span.{Span}
 use Rattle.record.specs.Calls.{subSlice, subBlock, subPlace}
@@ -67,14 +67,14 @@ returns c =
     let o = e .before .before in
     let a = o .before .before .before .args in
     let refused = sym (o .of-ask .ensures) ∙ ap refusalOf (e .enum-told .given .1) in
-    (c .part .ensures .0 .0 ∙ none-of (a .block .now) _ ∙ bytes-by (a .s) (a .in-force .now) (a .block .now) (a .k) refused, c .part .ensures .1 ∙ ap (λ (x : Span). past (a .block .ptr) (x .at)) (place-by (a .s) (a .in-force .now) (a .block .now) (a .k) refused))
+    (c .part .ensures .0 .0 ∙ none-of (a .block .now) _ ∙ bytes-by (a .s) (a .in-force .now) (a .block .now) (a .k) refused, c .part .ensures .1 ∙ ap (λ (x : Span). offsetBy (a .block .ptr) (x .at)) (place-by (a .s) (a .in-force .now) (a .block .now) (a .k) refused))
 
 returns-2 : tie.Need-returns-2
 returns-2 c =
     let e = c .before .before in
     let a = e .before .before .before .before .before .args in (
       c .sub-block .ensures .0 ∙ bytes-by (a .s) (a .in-force .now) (a .block .now) (a .k) (free e),
-      c .sub-block .ensures .1 ∙ ap (λ (x : Span). past (a .block .ptr) (x .at)) (place-by (a .s) (a .in-force .now) (a .block .now) (a .k) (free e)),
+      c .sub-block .ensures .1 ∙ ap (λ (x : Span). offsetBy (a .block .ptr) (x .at)) (place-by (a .s) (a .in-force .now) (a .block .now) (a .k) (free e)),
     )
 
 pub sub-bytes-spec : {M : Type 1} → statement M
