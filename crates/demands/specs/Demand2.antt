@@ -51,7 +51,7 @@ ReadsBy tab (tow b) a = a ≡ value (stamp towRow b)
 ReadsBy tab (wnc b) a = a ≡ value (stamp wncRow b)
 
 pub record Demand2 : Type 0 where
-  -- F11: the run reads as what was reported and skipped, and then as it reads from the place on
+  -- F11: so it is at every moment of every run
   pub firstOnes : (w : World) (before mid : List Call) → Within w before mid → ReadSoFar (atOpen w before) mid
   -- C14: after More the place where reading goes on is undecided (F12) by the bytes taken
   pub more : (w : World) (before mid : List Call) (piece : List ℕ) (n : ℕ) → Within w before mid

@@ -65,7 +65,7 @@ pub record Same (w : World) (xs ys : List Call) : Type 0 where
   pub last : end xs w ≡ end ys w
 
 pub record Demand3 : Type 0 where
-  -- a run that End closed: however its bytes were cut into pieces, and whatever calls came between
+  -- a run that End closed, however its bytes were cut into pieces and whatever calls came between; by C6 it is no longer than D3 allows
   pub whole : (run : List ℕ) (w : World) (before mid : List Call) → Within w before mid → Closes w before mid
       → taken mid (atOpen w before) ≡ run
       → RunOf run (atOpen w before) mid

@@ -1,6 +1,6 @@
--- The refusals (rules R1 to R10, R20): when each number is given, as propositions in the rules' words, written apart from the tests of
--- the code's definitions, and each call's numbers in their order. Shared with the code's definitions are what the conditions speak of: `tableOk`,
--- `nextTable`, `tableInForce` and `decode`, `settle` and `restOf`, where numbers stand in a frame, the CRC, and where a field ends.
+-- The refusals (rules R1 to R10, R20): when each number is given, as propositions in the rules' words, and each call's numbers in their
+-- order. They are written apart from the tests of the code's definitions; shared is what the conditions speak of: `tableOk`, `nextTable`,
+-- `tableInForce` and `decode`, `settle` and `restOf`, where numbers stand in a frame, the CRC, and where a field ends.
 -- Assumes nothing.
 use Prim.Native.Nat.{ℕ, _+_, _*_, _%_, _≤_, _<_}
 use mathlib.Core.Path.{_≡_}

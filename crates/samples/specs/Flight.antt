@@ -31,7 +31,7 @@ withoutReserved =
     -- version 1, one block row, 20 and 56 bytes back, CRC, 42 54
     ∷ 1 ∷ 0 ∷ 1 ∷ 0 ∷ 20 ∷ 0 ∷ 56 ∷ 0 ∷ 0xEA ∷ 0x3B ∷ 0x42 ∷ 0x54 ∷ []
 
--- the release, version 2: T31, where field 5 is Pitch
+-- the release, version 2: T31 as it is, with the Reserved row, so that field 5 is Pitch
 abbrev pub withReserved : List ℕ
 withReserved =
     -- NrSV, Error, Mode, Reserved
