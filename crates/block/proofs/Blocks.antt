@@ -55,7 +55,7 @@ module _ (b : List ℕ) (e : wholeFrame b ≡ true) where
   pub eight : 8 ≤ length b
   eight = lengths .0
 
-  -- "L is a multiple of 4": 14 bytes are 16
+  -- F4: 14 bytes are 16
   pub sixteen : 14 ≤ length b → 16 ≤ length b
   sixteen h = let m = lengths .1 in omega arith
 

@@ -1,4 +1,4 @@
--- A block against a table: its row, or why it is refused (document 01, refusals 10, 6, 7 and 8, in this order).
+-- A block against a table: its row, or why it is refused (rule R20: 10, 6, 7, 8, and 9 of a sub-block).
 -- Assumes nothing.
 use Prim.Native.Nat.{ℕ, _+_, _*_, _≤_, _<_}
 use mathlib.Core.Path.{_≡_}
@@ -22,42 +22,40 @@ use Rattle.block.specs.declared.Matched.the-variants as matched
 use Rattle.block.specs.declared.SubMatched.{SubMatched}
 use Rattle.block.specs.declared.SubMatched.the-variants as subMatched
 
--- "The low thirteen bits of the ID are the block number, the top three its revision."
+-- F9: the two parts of its ID
 abbrev pub numberIn : List ℕ → ℕ
 numberIn b = numberOf (idAt b 0)
 
 abbrev pub revisionIn : List ℕ → ℕ
 revisionIn b = revisionOf (idAt b 0)
 
--- L: what is asked of it is asked of a whole frame, which has L bytes
+-- F3: L; what is asked of it is asked of a whole frame, which has L bytes
 abbrev pub lengthIn : List ℕ → ℕ
 lengthIn b = length b
 
--- "exactly two u1 rows at 14 and 15 (N and SBLength)"
+-- T16: N and SBLength
 abbrev pub countIn : List ℕ → ℕ
 countIn b = getD b 14 0
 
 abbrev pub subLengthIn : List ℕ → ℕ
 subLengthIn b = getD b 15 0
 
--- where the revision carries the field, it does not end past n
+-- V5: where the revision carries the field, it does not end past n
 abbrev pub endsBy : ℕ → ℕ → FieldRow → Bool
 endsBy revision n f = not (carried revision f) || leb (ends f) n
 
--- refusal 7 is given where this fails: "a body field that its revision carries ends past L, or L is below 14"
+-- R7: its condition holds where this fails
 unfoldable pub bodyFits : List ℕ → BlockRow → Bool
 bodyFits b r = leb 14 (lengthIn b) && every (endsBy (revisionIn b) (lengthIn b)) (r .body)
 
 abbrev pub hasSubs : BlockRow → Bool
 hasSubs r = not (eqb (length (r .subs)) 0)
 
--- where sub-block k of a block stands, by the block's row: "the sub-blocks begin at 16", each of SBLength bytes. A Span is `at`, where it
--- starts in the block, and `size`
+-- T18: where sub-block k of a block stands: `at`, where it starts in the block, and `size`. The row that is given changes nothing (D6)
 abbrev pub subSpan : BlockRow → List ℕ → ℕ → Span
 subSpan r b k = record { at = 16 + k * subLengthIn b; size = subLengthIn b }
 
--- refusal 8 is given where this fails: "the block's row has sub-fields, and either N is over 0 and a carried sub-field ends past SBLength,
--- or 16 + N x SBLength is over L": N sub-blocks end where one more would start
+-- R8: its condition holds where this fails; N sub-blocks end where one more would start
 unfoldable pub subsFit : List ℕ → BlockRow → Bool
 subsFit b r =
     let end = subSpan r b (countIn b) in
@@ -68,20 +66,20 @@ pub data Seen : Type 0 where
   refusedBy : ℕ → Seen
   row : BlockRow → Seen
 
--- 6: "the block's number is not in the table"; 7; 8
+-- R20: 6, 7, 8
 unfoldable pub seenRow : List ℕ → Option BlockRow → Seen
 seenRow b none = refusedBy 6
 seenRow b (some r) = cond (bodyFits b r) (cond (subsFit b r) (row r) (refusedBy 8)) (refusedBy 7)
 
--- 10: "the bytes given to a record call are not one whole frame"
+-- R20: 10 comes first
 unfoldable pub seen : Table → List ℕ → Seen
 seen tab b = cond (wholeFrame b) (seenRow b (findRow tab (numberIn b))) (refusedBy 10)
 
--- the sub-blocks of a block: N, where its row has sub-fields
+-- T18: how many sub-blocks it has: N, where its row has sub-fields, else none
 abbrev pub subCount : List ℕ → BlockRow → ℕ
 subCount b r = cond (hasSubs r) (countIn b) 0
 
--- 9: "no such sub-block"
+-- R9: no sub-block has the number
 unfoldable pub seenSubRow : List ℕ → ℕ → Seen → Seen
 seenSubRow b k (refusedBy n) = refusedBy n
 seenSubRow b k (row r) = cond (ltb k (subCount b r)) (row r) (refusedBy 9)
@@ -89,7 +87,7 @@ seenSubRow b k (row r) = cond (ltb k (subCount b r)) (row r) (refusedBy 9)
 unfoldable pub seenSub : Table → List ℕ → ℕ → Seen
 seenSub tab b k = seenSubRow b k (seen tab b)
 
--- the row or the number that the code's answer means
+-- D9: the row or the number that the code's answer means
 abbrev pub matchedSays : List ℕ → Matched → Seen
 matchedSays t (matched.At r) = row (blockOf t r)
 matchedSays t (matched.Refused x) = refusedBy (numberFor x)

@@ -1,4 +1,4 @@
--- The record calls: the tests of the definitions, in document 01's order, give the first condition that holds.
+-- The record calls: the tests of the definitions, in R20's order, give the first condition that holds.
 -- Assumes nothing.
 use Prim.Native.Nat.{ℕ, _<_}
 use mathlib.Core.Path.{_≡_, refl, sym, ap, _∙_, subst}

@@ -1,4 +1,4 @@
--- Demand 2: after More nothing more can be decided, and records are read by the table in force.
+-- D2: after More nothing more can be decided, and records are read by the table in force.
 -- Assumes nothing.
 use Prim.Native.Nat.{ℕ, _+_, _-_}
 use native.Mathlib.Omega.{arith}

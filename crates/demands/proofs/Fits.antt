@@ -35,7 +35,7 @@ unfolding findRow
 row-none t b e r h =
     first-none (hasNumber (numberIn b)) (t .rows) e (h .among .0) (h .among .1) (eq-eqb (r .number) (numberIn b) (h .same))
 
--- "strictly rising": a table that passes has one row of a number
+-- T8: a table that passes has one row of a number
 pub only : (t b : List ℕ) → tableOk t ≡ true → (q r : BlockRow) → RowOf (decode t) b q → RowOf (decode t) b r → q ≡ r
 only t b ok q r h k =
     let i : h .among .0 ≡ k .among .0 = one-row t ok (h .among .0) (k .among .0) q r (h .among .1) (k .among .1) (h .same ∙ sym (k .same)) in

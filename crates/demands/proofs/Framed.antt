@@ -1,4 +1,4 @@
--- The test of one whole frame, and document 01's points of a frame.
+-- The test of one whole frame, and the points of F8 and R10.
 -- Assumes nothing.
 use Prim.Native.Nat.{ℕ, _+_, _%_}
 use mathlib.Core.Path.{_≡_}

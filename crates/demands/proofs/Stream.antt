@@ -1,4 +1,4 @@
--- Demand 3: where the unread rest is offered again first, the bytes taken are the front of the caller's stream; and all of it together.
+-- D3: where the unread rest is offered again first, the bytes taken are the front of the caller's stream; and all of it together.
 -- Assumes nothing.
 use Prim.Native.Nat.{ℕ, zero, suc}
 use native.Mathlib.Omega.{arith}

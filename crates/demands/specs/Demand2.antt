@@ -1,5 +1,5 @@
--- Demand 2: "The blocks reported are exactly those that the framing rules .. give for the run's bytes, taken from the left. Each field has
--- the value, the Do-Not-Use mark, the absence from its revision or the refusal that the guide's types and the table in force give it."
+-- D2: at every moment of a run the blocks reported are the first ones that its bytes read as, none left out, and each field answers what
+-- the rules and the table in force give it.
 -- Assumes nothing.
 use Prim.Native.Nat.{ℕ, _+_, _-_}
 use mathlib.Core.Path.{_≡_}
@@ -19,7 +19,7 @@ use Rattle.reader.specs.declared.Phase.the-variants.{Closed, Feeding, Finishing
 use Rattle.demands.specs.World.{World, Look, bytes, body, sub, subBytes, tow, wnc, Call, feed, look, Reply, said, part, value, step, end}
 use Rattle.demands.specs.Sequence.{Within, atOpen, taken, blocks}
 
--- what may follow: "After the first Finish no bytes are fed"
+-- C8: the bytes that the run may yet take: none from its first Finish on
 abbrev pub MayFollow : Phase → List ℕ → Type 0
 MayFollow Closed more = more ≡ []
 MayFollow Feeding more = Unit {0}
@@ -29,7 +29,7 @@ MayFollow Finishing more = more ≡ []
 abbrev pub placeNow : World → ℕ
 placeNow w = w .state .run .counts .taken - w .state .run .held + w .state .run .standing
 
--- at a moment of a run: whatever follows, the whole run reads as the blocks reported so far and as many
+-- F11, F14: at a moment of a run: whatever follows, the whole run reads as the blocks reported so far and as many
 -- skipped bytes as are counted, and then as it reads from the place on
 pub record ReadSoFar (w : World) (mid : List Call) : Type 0 where
   pub follows : (more : List ℕ) → MayFollow (end mid w .state .run .phase) more
@@ -41,7 +41,7 @@ pub record ReadSoFar (w : World) (mid : List Call) : Type 0 where
   pub took : end mid w .state .run .counts .taken ≡ length (taken mid w)
   pub counted : end mid w .state .run .counts .blocks ≡ length (blocks mid w)
 
--- the answer of a record call is the one under this table; of Bytes nothing is asked
+-- C13: the answer of a record call is the one under this table; of Bytes nothing is asked
 abbrev pub ReadsBy : Table → Look → Reply → Type 0
 ReadsBy tab bytes a = Unit {0}
 ReadsBy tab (body b i) a = a ≡ value (bodyField tab b i)
@@ -51,12 +51,12 @@ ReadsBy tab (tow b) a = a ≡ value (stamp towRow b)
 ReadsBy tab (wnc b) a = a ≡ value (stamp wncRow b)
 
 pub record Demand2 : Type 0 where
-  -- "exactly those that the framing rules .. give for the run's bytes, taken from the left"
+  -- F11: so it is at every moment of every run
   pub firstOnes : (w : World) (before mid : List Call) → Within w before mid → ReadSoFar (atOpen w before) mid
-  -- "one that answers More has decided all it can": the bytes taken leave the place undecided where reading goes on
+  -- C14: after More the place where reading goes on is undecided (F12) by the bytes taken
   pub more : (w : World) (before mid : List Call) (piece : List ℕ) (n : ℕ) → Within w before mid
       → step (feed piece) (end mid (atOpen w before)) .answer ≡ said (took n none)
       → judged (drop (placeNow (end (mid ++ feed piece ∷ []) (atOpen w before))) (taken (mid ++ feed piece ∷ []) (atOpen w before))) ≡ Undecided
-  -- a record call at a moment of a run is answered by the table in force at that moment
+  -- V7: a record call at a moment of a run is answered by the table in force at that moment
   pub records : (w : World) (before mid : List Call) → Within w before mid → (l : Look)
       → ReadsBy (decode (tableInForce (end mid (atOpen w before) .state) (end mid (atOpen w before) .force))) l (step (look l) (end mid (atOpen w before)) .answer)

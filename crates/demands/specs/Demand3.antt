@@ -1,4 +1,5 @@
--- Demand 3: "Take any sequence of calls on a new reader, each given the state and lent the buffers as the last call left them."
+-- D3: of a run among any calls on a new reader: its blocks, their bytes and its counts are those of all its bytes read at once, its records
+-- are read by the table that it was opened with, and its table calls could as well come after it.
 -- Assumes nothing.
 use Prim.Native.Nat.{ℕ}
 use mathlib.Core.Path.{_≡_}
@@ -15,29 +16,29 @@ use Rattle.demands.specs.World.{World, Look, Call, openRun, feed, finish
 use Rattle.demands.specs.Sequence.{pieceOf, Within, Closes, atOpen, tookOf, taken, blocks, shownBlocks}
 use Rattle.demands.specs.Demand2.{ReadsBy}
 
--- the counts of a run's whole bytes
+-- C8, F11: the counts of these bytes, read at once
 abbrev pub countsOf : List ℕ → Counts
 countsOf run =
     record { taken = length run; blocks = length (readRun 0 run .blocks); skipped = length (readRun 0 run .skipped) }
 
--- "the blocks, their bytes and the counts are those of its whole bytes": of the calls `mid` in the world w, after which Finish answers End; each
--- block as it stands in the hold, and as Bytes shows it
+-- the calls `mid` in the world w report what `run` reads as, each block with the bytes that stand in the hold and that Bytes shows; and
+-- Finish then answers End with its counts
 pub record RunOf (run : List ℕ) (w : World) (mid : List Call) : Type 0 where
   pub all : blocks mid w ≡ readRun 0 run .blocks
   pub shown : shownBlocks mid w ≡ readRun 0 run .blocks
   pub counts : told (step finish (end mid w) .answer) .end ≡ some (countsOf run)
 
--- "with unread bytes offered again first": every piece is the front of what is still unread of a stream
+-- C7: the caller has a stream s, and every piece is the front of what is not yet taken of it
 unfoldable pub Offers : List ℕ → List Call → World → Type 0
 Offers s [] w = Unit {0}
 Offers s (c ∷ cs) w =
     (pieceOf c ≡ take (length (pieceOf c)) s) × Offers (drop (length (tookOf c (step c w .answer))) s) cs (step c w .world)
 
--- "the table in force at its opening": the one that Open found, which waited, or else was in force
+-- C5: the table that Open opens with in this world: the one that waits, or else the one in force
 abbrev pub foundBy : World → Table
 foundBy w = decode (nextTable (w .state) (w .force) (w .wait))
 
--- "table calls (Stage and Withdraw)"
+-- Stage and Withdraw
 abbrev pub isTable : Call → Bool
 isTable openRun = false
 isTable (feed piece) = false
@@ -64,16 +65,15 @@ pub record Same (w : World) (xs ys : List Call) : Type 0 where
   pub last : end xs w ≡ end ys w
 
 pub record Demand3 : Type 0 where
-  -- "For each run that was closed by End": whose whole bytes are `run`, "however its bytes were cut between calls, and wherever table calls
-  -- (Stage and Withdraw) stood among them"
+  -- a run that End closed, however its bytes were cut into pieces and whatever calls came between; by C6 it is no longer than D3 allows
   pub whole : (run : List ℕ) (w : World) (before mid : List Call) → Within w before mid → Closes w before mid
       → taken mid (atOpen w before) ≡ run
       → RunOf run (atOpen w before) mid
-  -- "with unread bytes offered again first": the bytes taken are the front of the caller's stream
+  -- where the caller offers the untaken rest first, the bytes taken are the front of his stream
   pub offered : (s : List ℕ) (cs : List Call) (w : World) → Offers s cs w → taken cs w ≡ take (length (taken cs w)) s
-  -- "all records read while it was open are those of the bytes given to the record call, under the table in force at its opening"
+  -- a record call at any moment of the run answers by the table that it was opened with
   pub records : (w : World) (before mid : List Call) → Within w before mid → (l : Look)
       → ReadsBy (foundBy (end before w)) l (step (look l) (end mid (atOpen w before)) .answer)
-  -- "Moving those table calls, in their order, to just after the run's end changes no call's answer, nor the final state and lent bytes."
+  -- with the table calls of `mid` made after the Finish instead, in their order, all calls answer the same and leave the same world
   pub moved : (w : World) (before mid after : List Call) → Within w before mid
       → Same w (before ++ (openRun ∷ (mid ++ (finish ∷ after)))) (before ++ (openRun ∷ (others mid ++ (finish ∷ (tables mid ++ after)))))

@@ -1,5 +1,5 @@
 -- What the calls made and their answers say of a reader, whatever its code: the phase, the table that waits, the one in force, and the
--- block that stands. A reader that idles through a run, forgets a table or keeps one that was withdrawn contradicts it.
+-- block that stands. A reader that idles through a run, forgets a table or keeps one that was withdrawn contradicts it (D5).
 -- Assumes nothing.
 use Prim.Native.Nat.{ℕ, _≤_}
 use mathlib.Core.Path.{_≡_}
@@ -29,7 +29,7 @@ pub record Past : Type 0 where
 abbrev pub newPast : Past
 newPast = record { phase = Closed; waiting = none; force = none; stands = [] }
 
--- the first L bytes of the hold
+-- C4: a reported block stands at the front of the hold
 abbrev pub reportedBytes : Option Report → List ℕ → List ℕ
 reportedBytes none hold = []
 reportedBytes (some r) hold = take (r .size) hold
@@ -45,19 +45,19 @@ waitsNow t p = record { phase = p .phase; waiting = t; force = p .force; stands 
 abbrev pub runNow : Phase → List ℕ → Past → Past
 runNow x b p = record { phase = x; waiting = p .waiting; force = p .force; stands = b }
 
--- after a call and what it told, which left this hold; a refusal changes nothing
+-- after a call and what it told, which left this hold; a refusal changes nothing (R21)
 abbrev pub after : Call → Told → List ℕ → Past → Past
--- "if a table waits, .. nothing waits": the run opens with it, or else with the one in force, and no block stands
+-- C5: the run opens with the table that waits, or else with the one in force; none waits, and no block stands
 after openRun a hold p =
     onTold (a .version) p (record { phase = Feeding; waiting = none; force = firstOf (p .waiting) (p .force); stands = [] })
--- "drops the block last reported. .. Answers the count taken, with Block .. or More"
+-- C6: the standing block is dropped, and one that is answered stands
 after (feed piece) a hold p = onTold (a .taken) p (runNow (p .phase) (reportedBytes (a .block) hold) p)
--- "answers Block, or End (..), which closes the run. After the first Finish no bytes are fed."
+-- C8: likewise, and the feeding is ended; End closes the run
 after finish a hold p =
     onTold (a .end) (onTold (a .block) p (runNow Finishing (reportedBytes (a .block) hold) p)) (runNow Closed [] p)
--- "replacing any that waits"
+-- C10: it waits, in place of any other
 after (table (stage t)) a hold p = onTold (a .version) p (waitsNow (some t) p)
--- "nothing waits any more"
+-- C11: none waits
 after (table withdraw) a hold p = onTold (a .waited) p (waitsNow none p)
 after (look l) a hold p = p
 
@@ -86,16 +86,16 @@ pub record AsTold (w : World) (p : Past) : Type 0 where
 
 -- and it answers so
 pub record AnswersBy (w : World) (p : Past) : Type 0 where
-  -- a run opens whenever none is open and a table is there
+  -- C5: a run opens whenever none is open and a table is there
   pub opens : (t : List ℕ) → p .phase ≡ Closed → firstOf (p .waiting) (p .force) ≡ some t → 8192 ≤ length (w .force) → 8192 ≤ length (w .wait)
       → told (step openRun w .answer) .version ≡ some (decode t .version)
   -- and it opens with that table, which is the one that `Demand3` has all records read by
   pub found : (v : ℕ) → told (step openRun w .answer) .version ≡ some v
       → (t : List ℕ) × ((firstOf (p .waiting) (p .force) ≡ some t) × (nextTable (w .state) (w .force) (w .wait) ≡ t))
-  -- "answers its version"; "answers whether one did"
+  -- C10, C11: the version of the table given; whether one waited
   pub stages : (t : List ℕ) (v : ℕ) → told (step (table (stage t)) w .answer) .version ≡ some v → v ≡ decode t .version
   pub withdraws : (b : Bool) → told (step (table withdraw) w .answer) .waited ≡ some b → b ≡ isSome (p .waiting)
-  -- "the block just reported, .. an empty part if none stands", however long ago it was
+  -- C9: the standing block, however long ago it was reported
   pub shows : (b : List ℕ) → step (look bytes) w .answer ≡ part none b → b ≡ p .stands
   -- records are read by the table in force, in a run and after it
   pub reads : (t : List ℕ) (l : Look) → p .force ≡ some t → ReadsBy (decode t) l (step (look l) w .answer)

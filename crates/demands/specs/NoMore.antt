@@ -1,4 +1,4 @@
--- Feed takes no more than it needs: a shorter front of its piece is taken whole, and gives no block.
+-- Feed takes no more than it needs (rule C6): a shorter front of its piece is taken whole, and gives no block.
 -- Assumes nothing.
 use Prim.Native.Nat.{ℕ, _<_}
 use mathlib.Core.Path.{_≡_}

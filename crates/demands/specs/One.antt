@@ -1,6 +1,6 @@
--- "it is proved that one input admits one outcome": of every input, two outcomes that meet a call's contract are one. Each statement has the
--- very definition that the contract cites: the answer, the new state and the lent bytes; the part handed back, its bytes and where it
--- stands; a field's answer.
+-- D4: one input, one outcome: of every input, two outcomes that meet a call's contract are equal. Each statement has the very definition
+-- that the contract cites: the answer, the new state and the lent bytes; the part handed back, its bytes and where it stands; a field's
+-- answer.
 -- Assumes nothing.
 use Prim.Native.Nat.{ℕ}
 use mathlib.Core.Path.{_≡_}

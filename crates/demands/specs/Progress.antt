@@ -1,5 +1,5 @@
--- Progress: More is answered only with all taken that may be, and Finish comes to End. That More is right, `Demand2` says; that a run opens and is
--- then being fed, `History` says.
+-- Progress: More is answered only with all taken that may be (rule C6), and Finish comes to End (C8). That More is right, `Demand2` says;
+-- that a run opens and is then being fed, `History` says.
 -- Assumes nothing.
 use Prim.Native.Nat.{ℕ, zero, suc, _≤_}
 use mathlib.Core.Path.{_≡_}

@@ -1,6 +1,6 @@
--- Document 01's refusals: when each number is given, as propositions in the paper's words, written apart from the tests of the code's
--- definitions, and each call's numbers in their order. Shared with the code's definitions are what the conditions speak of: `tableOk`,
--- `nextTable`, `tableInForce` and `decode`, `settle` and `restOf`, where numbers stand in a frame, the CRC, and where a field ends.
+-- The refusals (rules R1 to R10, R20): when each number is given, as propositions in the rules' words, and each call's numbers in their
+-- order. They are written apart from the tests of the code's definitions; shared is what the conditions speak of: `tableOk`, `nextTable`,
+-- `tableInForce` and `decode`, `settle` and `restOf`, where numbers stand in a frame, the CRC, and where a field ends.
 -- Assumes nothing.
 use Prim.Native.Nat.{ℕ, _+_, _*_, _%_, _≤_, _<_}
 use mathlib.Core.Path.{_≡_}
@@ -26,17 +26,16 @@ use Rattle.reader.specs.declared.Phase.the-variants.{Closed, Feeding}
 use Rattle.reader.specs.declared.State.{State}
 use Rattle.demands.specs.World.{World, stage, withdraw, bytes, body, sub, subBytes, tow, wnc, Call, openRun, feed, finish, table, look}
 
--- ---- "No. | Given exactly when"
+-- ---- buffers, state and table
 
--- 1: "a lent buffer is too short"
+-- R1: a lent buffer is too short
 abbrev pub ShortHold : List ℕ → Type 0
 ShortHold hold = length hold < 65536
 
 abbrev pub ShortStore : List ℕ → Type 0
 ShortStore store = length store < 8192
 
--- 1: "or the state has over 65,532 held bytes, more held than taken, a standing block longer than the held bytes, a table length over 8,192,
--- over 4,294,967,295 taken, or blocks or skipped above taken"
+-- R1: a number in the state is too large
 abbrev pub BadState : State → Type 0
 BadState s =
     (65532 < s .run .held)
@@ -48,36 +47,36 @@ BadState s =
     ⊎ (s .run .counts .taken < s .run .counts .blocks)
     ⊎ (s .run .counts .taken < s .run .counts .skipped)
 
--- 3: "the run has 4,294,967,295 bytes, the held bytes give no block and the piece is not empty"
+-- R3: a byte is offered to a full run that has no block to report; the standing one does not count
 pub record Full (s : State) (hold piece : List ℕ) : Type 0 where
   pub all : 4294967295 ≤ s .run .counts .taken
   pub no-block : settle judged (restOf hold (s .run .held) (s .run .standing)) .standing ≡ none
   pub some-byte : 0 < length piece
 
--- 4: "breaks a table rule"
+-- R4: one of T1 to T17 is broken
 abbrev pub Breaks : List ℕ → Type 0
 Breaks t = tableOk t ≡ false
 
 -- ---- the block given to a record call
 
--- "A frame stands at place p of a run when all of this holds"
+-- F8: a frame stands at the place p of the run w
 pub record FrameStands (w : List ℕ) (p : ℕ) : Type 0 where
-  -- "bytes p and p+1 are 0x24 0x40"
+  -- F2: the sync pair
   pub sync₀ : getD w p 0 ≡ 0x24
   pub sync₁ : getD w (p + 1) 0 ≡ 0x40
-  -- "L is a multiple of 4 and at least 8, and p+L is not past the run's end"
+  -- F4: the length is allowed; F5: the run has all of the frame
   pub multiple : lengthAt w p % 4 ≡ 0
   pub eight : 8 ≤ lengthAt w p
   pub within : p + lengthAt w p ≤ length w
-  -- "the CRC field equals the CRC of the bytes from p+4 to p+L-1"
+  -- F6: the CRC is right
   pub crc : crcAt w p ≡ crcOf (drop (p + 4) (take (p + lengthAt w p) w))
 
--- "one whole frame": a frame at place 0, which has all the bytes
+-- R10: exactly one frame: it stands at place 0 and has all the bytes
 pub record OneFrame (b : List ℕ) : Type 0 where
   pub stands : FrameStands b 0
   pub all : lengthAt b 0 ≡ length b
 
--- L, at 6
+-- F3: L, at 6
 abbrev pub L : List ℕ → ℕ
 L b = lengthAt b 0
 
@@ -96,38 +95,38 @@ pub record RowOf (t : Table) (b : List ℕ) (r : BlockRow) : Type 0 where
 abbrev pub OfRow : Table → List ℕ → (BlockRow → Type 0) → Type 0
 OfRow t b P = (r : BlockRow) × (RowOf t b r × P r)
 
--- among these fields one "that its revision carries" ("when the field's first revision is not above it") ends past n
+-- V5: a field among these that the block's revision carries ends past n
 abbrev pub EndsPast : List FieldRow → List ℕ → ℕ → Type 0
 EndsPast fs b n = (f : FieldRow) × (Among fs f × ((f .first ≤ revisionIn b) × (n < ends f)))
 
 -- ---- the conditions on it
 
--- 6: "the block's number is not in the table"
+-- R6: the table has no row for the block
 abbrev pub NotInTable : Table → List ℕ → Type 0
 NotInTable t b = (r : BlockRow) → RowOf t b r → ⊥
 
--- 7: "a body field that its revision carries ends past L, or L is below 14"
+-- R7: a carried body field is cut off, or TOW or WNc is
 abbrev pub BodyDoesNotFit : Table → List ℕ → Type 0
 BodyDoesNotFit t b = OfRow t b (λ r. EndsPast (r .body) b (L b)) ⊎ (L b < 14)
 
--- 8: "the block's row has sub-fields, and either N is over 0 and a carried sub-field ends past SBLength, or 16 + N x SBLength is over L"
+-- R8: of sub-blocks: they are too short for a carried sub-field, or the block is too short for them
 abbrev pub SubsDoNotFit : Table → List ℕ → Type 0
 SubsDoNotFit t b =
     OfRow t b (λ r. (0 < length (r .subs)) × (((0 < N b) × EndsPast (r .subs) b (SBLength b)) ⊎ (L b < 16 + N b * SBLength b)))
 
--- 9: "no such field": "Fields, in row order, and sub-blocks are numbered from 0"
+-- R9: no field has the number
 abbrev pub NoField : List FieldRow → ℕ → Type 0
 NoField fs i = length fs ≤ i
 
--- 9: "no such sub-block": a row without sub-fields has none
+-- R9: no sub-block has the number; by a row without sub-fields none is there
 abbrev pub NoSubBlock : List ℕ → ℕ → BlockRow → Type 0
 NoSubBlock b k r = (length (r .subs) ≡ 0) ⊎ (N b ≤ k)
 
--- 10: "the bytes given to a record call are not one whole frame"
+-- R10: they are not one frame
 abbrev pub NoWholeFrame : List ℕ → Type 0
 NoWholeFrame b = OneFrame b → ⊥
 
--- ---- the numbers of a call in their order: one is given where its condition holds and none before it does
+-- ---- R20: the numbers of a call, in their order
 
 pub record Due : Type 1 where
   pub number : ℕ
@@ -150,7 +149,7 @@ pub record Exactly (o : Option ℕ) (order : Order) : Type 0 where
   pub gives : (n : ℕ) → o ≡ some n → Given order n
   pub given : (n : ℕ) → Given order n → o ≡ some n
 
--- "Record calls 1, 5, 4, 10, 6, 7, 8, 9": 9's condition is each call's own, of the block's row
+-- R20: Body, Sub and Subbytes; 9's condition is each call's own, of the block's row. R5: no table is in force
 abbrev pub recordOrder : World → List ℕ → (BlockRow → Type 0) → Order
 recordOrder w b Nine =
     let t = decode (tableInForce (w .state) (w .force)) in
@@ -164,11 +163,11 @@ recordOrder w b Nine =
     ∷ 9 when OfRow t b Nine
     ∷ []
 
--- "the TOW and WNc calls read no table and give only 1, 10 and, for L below 14, 7"
+-- R20: Tow and Wnc, which are lent nothing and read no table
 abbrev pub stampOrder : World → List ℕ → Order
 stampOrder w b = 1 when BadState (w .state) ∷ 10 when NoWholeFrame b ∷ 7 when (L b < 14) ∷ []
 
--- "Order: Open 1, 2, 5, 4. Feed 1, 2, 3. Finish 1, 2. Bytes and Withdraw 1. Stage 1, 4."
+-- R20: all calls, each by the buffers that it is lent (C3). R2 asks for the phase, R5 for a table of either kind
 abbrev pub order : Call → World → Order
 order openRun w =
     1 when (BadState (w .state) ⊎ ShortStore (w .force) ⊎ ShortStore (w .wait))

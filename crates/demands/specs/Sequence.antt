@@ -11,7 +11,7 @@ use Rattle.reader.specs.State.{newState}
 use Rattle.reader.specs.Said.{Report}
 use Rattle.demands.specs.World.{World, bytes, Call, openRun, feed, finish, table, look, Reply, told, partOf, step, end}
 
--- "any sequence of calls on a new reader": any three buffers, short ones too; the one premise is that bytes are below 256
+-- C15: a new reader, with any three buffers, short ones too; the one premise is that bytes are below 256
 pub record New (w : World) : Type 0 where
   pub state : w .state ≡ newState
   pub hold : Bytes (w .hold)
@@ -45,7 +45,7 @@ pub record Within (w : World) (before mid : List Call) : Type 0 where
   pub opens : IsSome (told (step openRun (end before w) .answer) .version)
   pub noEnd : NoEnd mid (atOpen w before)
 
--- "closed by End": the Finish that follows `mid` answers End
+-- C8: the Finish that follows `mid` closes the run
 abbrev pub Closes : World → List Call → List Call → Type 0
 Closes w before mid = IsSome (told (step finish (end mid (atOpen w before)) .answer) .end)
 
@@ -53,7 +53,7 @@ Closes w before mid = IsSome (told (step finish (end mid (atOpen w before)) .ans
 abbrev pub tookOf : Call → Reply → List ℕ
 tookOf c a = take (Option·getD (told a .taken) 0) (pieceOf c)
 
--- "its whole bytes": all that Feeds took, in their order
+-- a run's bytes: all that Feeds took, in their order
 unfoldable pub taken : List Call → World → List ℕ
 taken [] w = []
 taken (c ∷ cs) w = tookOf c (step c w .answer) ++ taken cs (step c w .world)
@@ -62,12 +62,12 @@ taken (c ∷ cs) w = tookOf c (step c w .answer) ++ taken cs (step c w .world)
 abbrev pub withBytes : Report → List ℕ → ReadBlock
 withBytes r b = record { place = r .place; number = r .number; revision = r .revision; size = r .size; bytes = b }
 
--- the first L bytes of the hold after the call that reported it
+-- C4: a reported block stands at the front of the hold
 abbrev pub inHold : Option Report → World → List ReadBlock
 inHold none w = []
 inHold (some r) w = withBytes r (take (r .size) (w .hold)) ∷ []
 
--- what Bytes then shows
+-- C9: what Bytes then shows
 abbrev pub shown : Option Report → World → List ReadBlock
 shown none w = []
 shown (some r) w = withBytes r (partOf (step (look bytes) w .answer)) ∷ []

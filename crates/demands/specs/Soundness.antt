@@ -1,4 +1,4 @@
--- Sound states: what every call keeps of a state, whatever the buffers. It has all that refusal 1 asks of one, and says of each byte
+-- Sound states: what every call keeps of a state, whatever the buffers. It has all that R1 asks of one, and says of each byte
 -- taken where it went.
 -- Assumes nothing.
 use Prim.Native.Nat.{ℕ, _+_, _-_, _≤_}
@@ -42,5 +42,5 @@ pub record SoundKept : Type 0 where
   -- the one premise is that what is held and fed is bytes below 256
   pub keeps : (c : Call) (w : World) (reported : ℕ) → Bytes (w .hold) → Bytes (pieceOf c) → Sound (w .state) reported
       → Sound (step c w .world .state) (sinceOpen c (told (step c w .answer)) reported)
-  -- a sound state is none that refusal 1 names
+  -- R1: a sound state is none that it names
   pub passes : (s : State) (reported : ℕ) → Sound s reported → sound s ≡ true

@@ -14,19 +14,19 @@ use Rattle.records.specs.Calls.{bodyOf, subOf, subBytesOf, subBytesRefusal, tow
 use Rattle.reader.specs.declared.Counts.{Counts}
 use Rattle.reader.specs.declared.State.{State}
 
--- the state, and the three lent buffers: "each given the state and lent the buffers as the last call left them"
+-- C1, C2: the state and the three buffers, as they are between two calls
 pub record World : Type 0 where
   pub state : State
   pub hold : List ℕ
   pub force : List ℕ
   pub wait : List ℕ
 
--- "table calls (Stage and Withdraw)"
+-- C10, C11: the table calls, with the table that Stage is given
 pub data TableCall : Type 0 where
   stage : List ℕ → TableCall
   withdraw : TableCall
 
--- the calls that give no state back and are lent nothing to write: Bytes, and the record calls with the bytes given to them
+-- C9, C13: the calls that change nothing: Bytes, and the record calls with the bytes and the numbers given to them
 pub data Look : Type 0 where
   bytes : Look
   body : List ℕ → ℕ → Look
@@ -42,7 +42,7 @@ pub data Call : Type 0 where
   table : TableCall → Call
   look : Look → Call
 
--- what a call answers; a part comes with the number that its second call gives, or none
+-- what a call answers; a part comes with what its twin call tells (R22)
 pub data Reply : Type 0 where
   said : Said → Reply
   part : Option ℕ → List ℕ → Reply
@@ -52,25 +52,25 @@ pub data Reply : Type 0 where
 
 -- none stands for what an answer does not speak of
 pub record Told : Type 0 where
-  -- the number of a refusal
+  -- R21: the number of a refusal
   pub refusal : Option ℕ
-  -- Open, Stage: the version
+  -- C5, C10: the version, by Open and Stage
   pub version : Option ℕ
-  -- Feed: "the count taken"
+  -- C7: how many bytes Feed took
   pub taken : Option ℕ
-  -- Feed, Finish: "Block (place, number, revision, length)"; where Feed tells a count and no block, that is More
+  -- C7, C8: the block, by Feed and Finish; where Feed tells a count and no block, that is More
   pub block : Option Report
-  -- Finish: "End (bytes, blocks, skipped bytes)"
+  -- C8: the counts, by End
   pub end : Option Counts
-  -- Withdraw: whether a table waited
+  -- C11: whether a table waited
   pub waited : Option Bool
-  -- Bytes, and a sub-block's bytes
+  -- C9, C13: the part, by Bytes and Subbytes
   pub part : Option (List ℕ)
 
 abbrev pub tells : Option ℕ → Option ℕ → Option ℕ → Option Report → Option Counts → Option Bool → Option (List ℕ) → Told
 tells n v t b e w p = record { refusal = n; version = v; taken = t; block = b; end = e; waited = w; part = p }
 
--- "a refusal, with its number inside"
+-- V7: the number, where a field is refused
 abbrev pub fieldRefusal : FieldSaid → Option ℕ
 fieldRefusal (unsigned n) = none
 fieldRefusal (signed z) = none
@@ -114,7 +114,7 @@ looked (subBytes b k) w = part (subBytesRefusal (w .state) (w .force) b k) (subB
 looked (tow b) w = value (towOf (w .state) b)
 looked (wnc b) w = value (wncOf (w .state) b)
 
--- Open may write the in-force store, Feed and Finish the hold, Stage the waiting store, the others none
+-- C2: which buffer a call may write; the others stay as they were
 unfoldable pub step : Call → World → Step
 step openRun w = let o = openOf (w .state) (w .force) (w .wait) in leaving o (w .hold) (o .lent) (w .wait)
 step (feed piece) w = let o = feedOf (w .state) (w .hold) piece in leaving o (o .lent) (w .force) (w .wait)

@@ -8,8 +8,8 @@ ghost use Rattle.demands.specs.One.{OneOutcome};
 ghost use Rattle.demands.specs.Progress.{Progress};
 ghost use Rattle.demands.specs.Soundness.{SoundKept};
 
-// Demand 1: every call is refused exactly when document 01 says; a refused call changes nothing and hands back nothing; states that are
-// reached are sound; with long enough buffers refusal 1 is not given.
+// D1: every call is refused exactly when the rules say; a refused call changes nothing and hands back nothing; states that are reached
+// are sound; with long enough buffers refusal 1 is not given.
 pub fn demand_1()
     ensures { λ _. ⌜ Demand1 ⌝ }
 {}
@@ -19,19 +19,19 @@ pub fn sound_kept()
     ensures { λ _. ⌜ SoundKept ⌝ }
 {}
 
-// Demand 2: at every moment of a run the blocks reported are the first ones of the reading rule, after More nothing more can be
+// D2: at every moment of a run the blocks reported are the first ones of the reading rule, after More nothing more can be
 // decided, and records are read by the table in force.
 pub fn demand_2()
     ensures { λ _. ⌜ Demand2 ⌝ }
 {}
 
-// Demand 3: blocks, bytes and counts of a closed run are those of its whole bytes, which are the caller's stream where he offers unread bytes
+// D3: blocks, bytes and counts of a closed run are those of its whole bytes, which are the caller's stream where he offers unread bytes
 // again; all records are read by the table that it was opened with; table calls moved to after it change nothing.
 pub fn demand_3()
     ensures { λ _. ⌜ Demand3 ⌝ }
 {}
 
-// "it is proved that one input admits one outcome": two outcomes that meet a contract of the reader are one.
+// D4: two outcomes that meet a contract of the reader are one.
 pub fn one_outcome()
     ensures { λ _. ⌜ OneOutcome ⌝ }
 {}

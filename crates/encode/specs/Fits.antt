@@ -14,7 +14,7 @@ unfoldable pub fieldRows : List BlockRow → ℕ
 fieldRows [] = 0
 fieldRows (b ∷ bs) = length (b .body) + length (b .subs) + fieldRows bs
 
--- "field rows of 4 bytes, block rows of 8, then a trailer of 12"
+-- T1: the length of its file
 unfoldable pub fileSize : Table → ℕ
 fileSize tab = 4 * fieldRows (tab .rows) + 8 * length (tab .rows) + 12
 
@@ -22,17 +22,17 @@ fileSize tab = 4 * fieldRows (tab .rows) + 8 * length (tab .rows) + 12
 abbrev pub u1Numbers : ℕ
 u1Numbers = 256
 
--- "body field count u1; .. sub-field count u1"
+-- T7: a count is a u1
 abbrev pub countFits : List FieldRow → Bool
 countFits fs = ltb (length fs) u1Numbers
 
--- "offset u1"
+-- T11: an offset is a u1
 abbrev pub offsetFits : FieldRow → Bool
 offsetFits f = ltb (f .offset) u1Numbers
 
 unfoldable pub blockFits : BlockRow → Bool
 blockFits b = countFits (b .body) && countFits (b .subs) && every offsetFits (b .body) && every offsetFits (b .subs)
 
--- "A file of T bytes, .. to 8,192"; "version u2; count R of block rows .., at least 1". All other numbers are within their bytes by the rules.
+-- T1: the file is not too long; T2: the version is a u2; T3: a block row is there. All other numbers are within their bytes by the rules.
 unfoldable pub fits : Table → Bool
 fits tab = leb (fileSize tab) 8192 && ltb (tab .version) 65536 && leb 1 (length (tab .rows)) && every blockFits (tab .rows)

@@ -1,5 +1,5 @@
--- The rules on both sides of their limits, but for the 8,192 bytes of a file: small tables with what is to come of them, computed from the
--- definitions.
+-- The table's rules, T1 to T17, on both sides of their limits, but for the 8,192 bytes of a file: small tables with what is to come of
+-- them, computed from the definitions.
 -- Assumes nothing.
 use mathlib.Core.Bool.{Bool, true, false}
 use mathlib.Core.List.{List, [], _∷_, _++_, map}

@@ -1,4 +1,4 @@
--- What the code's answers say, in the words of document 01 ('A field's answer'); those of a value are the crate `value`'s, passed on here.
+-- What the code's answers say, by the rules' values and numbers (V7, D9); those of a value are the crate `value`'s, passed on here.
 -- Assumes nothing.
 use Prim.Native.Nat.{ℕ}
 use mathlib.Core.Path.{_≡_}
@@ -38,7 +38,7 @@ abbrev pub noNanIn : Answer → Bool
 noNanIn (answer.Field v) = noNan v
 noNanIn (answer.Refused r) = true
 
--- "and a second call gives the number or none"
+-- R22: what the twin call tells
 abbrev pub handedSays : Handed → Option ℕ
 handedSays (handed.Refused r) = some (numberFor r)
 handedSays handed.Given = none

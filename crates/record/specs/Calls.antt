@@ -1,4 +1,4 @@
--- What each record call answers, of a decoded table and a block's bytes (document 01, 'Record calls', 'A field's answer').
+-- What each record call answers, of a decoded table and a block's bytes (rules C13, V5 to V8).
 -- Assumes nothing.
 use Prim.Native.Nat.{ℕ}
 use mathlib.Core.List.{List, []}
@@ -18,16 +18,16 @@ use Rattle.value.specs.Bits.{fieldValue}
 use Rattle.block.specs.declared.Span.{Span}
 use Rattle.block.specs.Block.{revisionIn, lengthIn, subSpan, Seen, refusedBy, row, seen, seenSub}
 
--- a field in these bytes: "not in this revision", or what it says
+-- V7: a field in these bytes: not in this revision, or what it says
 unfoldable pub fieldSaid : ℕ → List ℕ → FieldRow → FieldSaid
 fieldSaid revision s f = cond (carried revision f) (fieldValue s f) notInRevision
 
--- 9: "no such field"
+-- R9: no row has the number
 abbrev pub fieldOr9 : ℕ → List ℕ → Option FieldRow → FieldSaid
 fieldOr9 revision s none = fieldRefused 9
 fieldOr9 revision s (some f) = fieldSaid revision s f
 
--- "a body field by number": "Fields, in row order, and sub-blocks are numbered from 0"
+-- C13: Body, with the number i
 abbrev pub bodyBy : List ℕ → ℕ → Seen → FieldSaid
 bodyBy b i (refusedBy n) = fieldRefused n
 bodyBy b i (row r) = fieldOr9 (revisionIn b) b (pick (r .body) i)
@@ -35,11 +35,11 @@ bodyBy b i (row r) = fieldOr9 (revisionIn b) b (pick (r .body) i)
 unfoldable pub bodyField : Table → List ℕ → ℕ → FieldSaid
 bodyField tab b i = bodyBy b i (seen tab b)
 
--- "a sub-block's bytes as a part that starts inside the block": those where it stands
+-- C13: the bytes of a sub-block, by where it stands (T18)
 unfoldable pub subSlice : List ℕ → Span → List ℕ
 subSlice b s = take (s .size) (drop (s .at) b)
 
--- "a sub-block's field by two numbers"
+-- C13: Sub, with the numbers k and j
 abbrev pub subBy : List ℕ → ℕ → ℕ → Seen → FieldSaid
 subBy b k j (refusedBy n) = fieldRefused n
 subBy b k j (row r) = fieldOr9 (revisionIn b) (subSlice b (subSpan r b k)) (pick (r .subs) j)
@@ -47,7 +47,7 @@ subBy b k j (row r) = fieldOr9 (revisionIn b) (subSlice b (subSpan r b k)) (pick
 unfoldable pub subField : Table → List ℕ → ℕ → ℕ → FieldSaid
 subField tab b k j = subBy b k j (seenSub tab b k)
 
--- "A call that hands back a part then hands back an empty one"
+-- C13: Subbytes; R22: refused, it gives an empty part
 abbrev pub partBy : List ℕ → ℕ → Seen → List ℕ
 partBy b k (refusedBy n) = []
 partBy b k (row r) = subSlice b (subSpan r b k)
@@ -55,7 +55,7 @@ partBy b k (row r) = subSlice b (subSpan r b k)
 unfoldable pub subBlock : Table → List ℕ → ℕ → List ℕ
 subBlock tab b k = partBy b k (seenSub tab b k)
 
--- where that part stands in the block: the empty one at its start
+-- R22: where that part stands in the block; the empty one at its start
 abbrev pub nowhere : Span
 nowhere = record { at = 0; size = 0 }
 
@@ -66,7 +66,7 @@ placeBy b k (row r) = subSpan r b k
 unfoldable pub subPlace : Table → List ℕ → ℕ → Span
 subPlace tab b k = placeBy b k (seenSub tab b k)
 
--- "and a second call gives the number or none"
+-- R22: what the twin call tells
 abbrev pub numberBy : Seen → Option ℕ
 numberBy (refusedBy n) = some n
 numberBy (row r) = none
@@ -74,13 +74,13 @@ numberBy (row r) = none
 unfoldable pub subBlockRefusal : Table → List ℕ → ℕ → Option ℕ
 subBlockRefusal tab b k = numberBy (seenSub tab b k)
 
--- "TOW (u4 at 8) and WNc (u2 at 12) stand in every block with mark 1"
+-- V8: the rows of TOW and WNc, of every block
 abbrev pub towRow : FieldRow
 towRow = record { offset = 8; kind = u4; first = 0; mark = ones }
 
 abbrev pub wncRow : FieldRow
 wncRow = record { offset = 12; kind = u2; first = 0; mark = ones }
 
--- "the TOW and WNc calls read no table and give only 1, 10 and, for L below 14, 7"
+-- V8: what Tow and Wnc answer; R20: 10, then 7
 unfoldable pub stamp : FieldRow → List ℕ → FieldSaid
 stamp f b = cond (wholeFrame b) (cond (leb 14 (lengthIn b)) (fieldValue b f) (fieldRefused 7)) (fieldRefused 10)

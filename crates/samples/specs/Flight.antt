@@ -1,6 +1,5 @@
--- The flight line: the story that started this, told again. "A release that added the Reserved row to the attitude block landed during a
--- flight line: from that instant field 5 was pitch where it had been roll, and the line had to be flown again."
--- Here the release waits: field 5 stays roll to the end of the line, and is pitch in the next.
+-- The flight line: the story that started this (docs/RULES.md, before D1), told again with this reader. The release that arrives during the
+-- line waits: field 5 stays roll to the end of the line, and is pitch in the next.
 -- Assumes nothing.
 use Prim.Native.Nat.{ℕ}
 use mathlib.Core.Path.{_≡_}
@@ -12,18 +11,18 @@ use Rattle.record.specs.Answer.{single}
 use Rattle.demands.specs.World.{stage, bytes, body, openRun, feed, finish, table, look, Reply, part, value, Line, _⇒_}
 use Rattle.samples.specs.Transcript.{Transcript, replayed, versionIs, blockIs, endIs, report}
 
--- the table that the line is flown with, version 1: AttEuler without the Reserved row, so that field 5 is Roll
+-- the table that the line is flown with, version 1: AttEuler (T31) without the Reserved row, so that field 5 is Roll
 abbrev pub withoutReserved : List ℕ
 withoutReserved =
-    -- NrSV u1 14 (1), Error u1 15, Mode u2 16
+    -- NrSV, Error, Mode
     14 ∷ 1 ∷ 0 ∷ 1
     ∷ 15 ∷ 1 ∷ 0 ∷ 0
     ∷ 16 ∷ 2 ∷ 0 ∷ 0
-    -- Heading, Pitch, Roll f4 20, 24, 28 (3)
+    -- Heading, Pitch, Roll
     ∷ 20 ∷ 9 ∷ 0 ∷ 3
     ∷ 24 ∷ 9 ∷ 0 ∷ 3
     ∷ 28 ∷ 9 ∷ 0 ∷ 3
-    -- PitchDot, RollDot, HeadingDot f4 32, 36, 40 (3)
+    -- PitchDot, RollDot, HeadingDot
     ∷ 32 ∷ 9 ∷ 0 ∷ 3
     ∷ 36 ∷ 9 ∷ 0 ∷ 3
     ∷ 40 ∷ 9 ∷ 0 ∷ 3
@@ -32,19 +31,19 @@ withoutReserved =
     -- version 1, one block row, 20 and 56 bytes back, CRC, 42 54
     ∷ 1 ∷ 0 ∷ 1 ∷ 0 ∷ 20 ∷ 0 ∷ 56 ∷ 0 ∷ 0xEA ∷ 0x3B ∷ 0x42 ∷ 0x54 ∷ []
 
--- the release, version 2: the Reserved row is there, so that field 5 is Pitch
+-- the release, version 2: T31 as it is, with the Reserved row, so that field 5 is Pitch
 abbrev pub withReserved : List ℕ
 withReserved =
-    -- NrSV u1 14 (1), Error u1 15, Mode u2 16, Reserved u2 18
+    -- NrSV, Error, Mode, Reserved
     14 ∷ 1 ∷ 0 ∷ 1
     ∷ 15 ∷ 1 ∷ 0 ∷ 0
     ∷ 16 ∷ 2 ∷ 0 ∷ 0
     ∷ 18 ∷ 2 ∷ 0 ∷ 0
-    -- Heading, Pitch, Roll f4 20, 24, 28 (3)
+    -- Heading, Pitch, Roll
     ∷ 20 ∷ 9 ∷ 0 ∷ 3
     ∷ 24 ∷ 9 ∷ 0 ∷ 3
     ∷ 28 ∷ 9 ∷ 0 ∷ 3
-    -- PitchDot, RollDot, HeadingDot f4 32, 36, 40 (3)
+    -- PitchDot, RollDot, HeadingDot
     ∷ 32 ∷ 9 ∷ 0 ∷ 3
     ∷ 36 ∷ 9 ∷ 0 ∷ 3
     ∷ 40 ∷ 9 ∷ 0 ∷ 3

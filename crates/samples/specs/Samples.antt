@@ -1,4 +1,4 @@
--- Document 01, 'Samples on both sides': "Proved as one table of cases over the definitions, with a single theorem".
+-- The samples S1 to S10, and the bytes of S11, as one table of cases.
 -- Each case is a transcript of calls on a new reader. To add one, add its lines to `cases`.
 -- Assumes nothing.
 use Prim.Native.Nat.{ℕ}
@@ -10,10 +10,11 @@ use Rattle.demands.specs.World.{stage, bytes, body, sub, subBytes, tow, wnc, op
 use Rattle.samples.specs.Transcript.{Transcript, replayed, versionIs, moreIs, blockIs, foundIs, endIs, refusalIs, report}
 use Rattle.answers.specs.Samples.{sampleB, twelve}
 
+-- S3
 abbrev pub sampleC : List ℕ
 sampleC = 0x24 ∷ 0x40 ∷ 0xA9 ∷ 0x88 ∷ 0x00 ∷ 0x00 ∷ 0x08 ∷ 0x00 ∷ []
 
--- (d): blocks of these ID bytes, with L = 8 and the CRC right
+-- S4: blocks of these ID bytes, with L = 8 and the CRC right
 abbrev pub id3717 : List ℕ
 id3717 = 0x24 ∷ 0x40 ∷ 0x9E ∷ 0x32 ∷ 0x37 ∷ 0x17 ∷ 0x08 ∷ 0x00 ∷ []
 
@@ -23,14 +24,14 @@ id3737 = 0x24 ∷ 0x40 ∷ 0x58 ∷ 0xB4 ∷ 0x37 ∷ 0x37 ∷ 0x08 ∷ 0x00 ∷
 abbrev pub idFFFF : List ℕ
 idFFFF = 0x24 ∷ 0x40 ∷ 0x69 ∷ 0x0D ∷ 0xFF ∷ 0xFF ∷ 0x08 ∷ 0x00 ∷ []
 
--- (e): L = 4 and 9, with the CRC of the bytes from 4 to L-1
+-- S5: L = 4 and 9, with the CRC that F6 asks for
 abbrev pub length4 : List ℕ
 length4 = 0x24 ∷ 0x40 ∷ 0x00 ∷ 0x00 ∷ 0x00 ∷ 0x00 ∷ 0x04 ∷ 0x00 ∷ []
 
 abbrev pub length9 : List ℕ
 length9 = 0x24 ∷ 0x40 ∷ 0x91 ∷ 0x9E ∷ 0x00 ∷ 0x00 ∷ 0x09 ∷ 0x00 ∷ 0x00 ∷ []
 
--- (g): a header with L = 20, and then (b)
+-- S7: a header with L = 20, and then S2's bytes
 abbrev pub sampleG : List ℕ
 sampleG = 0x24 ∷ 0x40 ∷ 0x00 ∷ 0x00 ∷ 0x00 ∷ 0x00 ∷ 0x14 ∷ 0x00 ∷ sampleB
 
@@ -64,36 +65,36 @@ run rest = table (stage sampleFile) ⇒ versionIs 1 ∷ openRun ⇒ versionIs 1 
 
 abbrev pub cases : List Transcript
 cases =
-    -- (a) "the empty run ends 0, 0, 0"
+    -- S1: no byte
     run (finish ⇒ endIs 0 0 0 ∷ [])
-    -- (b) "24 40 A9 89 00 00 08 00 is one block, number 0, revision 0, length 8"
+    -- S2: one block
     ∷ run (feed sampleB ⇒ blockIs 8 (report 0 0 0 8) ∷ look bytes ⇒ part none sampleB ∷ finish ⇒ endIs 8 1 0 ∷ [])
-    -- (c) "with 88 for 89 it is none, 8 skipped"
+    -- S3: a wrong CRC
     ∷ run (feed sampleC ⇒ moreIs 8 ∷ look bytes ⇒ part none [] ∷ finish ⇒ endIs 8 0 8 ∷ [])
-    -- (d) "ID bytes 37 17 are 5943 revision 0, 37 37 are 5943 revision 1, FF FF are 8191 revision 7"
+    -- S4: IDs
     ∷ run (feed id3717 ⇒ blockIs 8 (report 0 5943 0 8) ∷ finish ⇒ endIs 8 1 0 ∷ [])
     ∷ run (feed id3737 ⇒ blockIs 8 (report 0 5943 1 8) ∷ finish ⇒ endIs 8 1 0 ∷ [])
     ∷ run (feed idFFFF ⇒ blockIs 8 (report 0 8191 7 8) ∷ finish ⇒ endIs 8 1 0 ∷ [])
-    -- (e) "lengths 4 and 9 make no frame"; on their other side, 8 makes one, see (b), and so does 12
+    -- S5: lengths not allowed; on the other side, 8 is a frame's length, see S2, and so is 12
     ∷ run (feed length4 ⇒ moreIs 8 ∷ finish ⇒ endIs 8 0 8 ∷ [])
     ∷ run (feed length9 ⇒ moreIs 9 ∷ finish ⇒ endIs 9 0 9 ∷ [])
     ∷ run (feed twelve ⇒ blockIs 12 (report 0 0 0 12) ∷ finish ⇒ endIs 12 1 0 ∷ [])
-    -- (f) "one byte 24 before (b) gives the block at place 1"
+    -- S6: a byte before the block
     ∷ run (feed (0x24 ∷ sampleB) ⇒ blockIs 9 (report 1 0 0 8) ∷ look bytes ⇒ part none sampleB ∷ finish ⇒ endIs 9 1 1 ∷ [])
-    -- (g) "24 40 00 00 00 00 14 00 and then (b), 16 bytes: nothing until Finish, then a block at 8 and 8 skipped"
+    -- S7: a header that promises more than comes
     ∷ run (feed sampleG ⇒ moreIs 16 ∷ finish ⇒ foundIs (report 8 0 0 8) ∷ look bytes ⇒ part none sampleB ∷ finish ⇒ endIs 16 1 8 ∷ [])
     -- on its other side, with all the header's 20 bytes, the block comes before Finish
     ∷ run (feed (sampleG ++ 0 ∷ 0 ∷ 0 ∷ 0 ∷ []) ⇒ blockIs 20 (report 8 0 0 8) ∷ look bytes ⇒ part none sampleB ∷ finish ⇒ endIs 20 1 12 ∷ [])
-    -- (h) "f4 bits D09502F9 with mark 3 are Do-Not-Use, D09502F8 a value"
+    -- S8: mark 3
     ∷ run (look (body allMarked 1) ⇒ value doNotUse ∷ look (body noneMarked 1) ⇒ value (single 0xD09502F8) ∷ [])
-    -- (i) "u2 65535 with mark 1 is Do-Not-Use, 65534 a value"
+    -- S9: mark 1
     ∷ run (look (body allMarked 0) ⇒ value doNotUse ∷ look (body noneMarked 0) ⇒ value (unsigned 65534) ∷ [])
-    -- (j) "a block of length 8 whose number has a row gives refusal 7", in each record call
+    -- S10: cut too short, in each record call
     ∷ run (look (body sampleB 0) ⇒ refusalIs 7 ∷ look (sub sampleB 0 0) ⇒ refusalIs 7 ∷ look (subBytes sampleB 0) ⇒ part (some 7) [] ∷ [])
     ∷ run (look (tow sampleB) ⇒ refusalIs 7 ∷ look (wnc sampleB) ⇒ refusalIs 7 ∷ [])
-    -- on its other side, one whose number has no row; of length 20 a field is read, see (h) and (i)
+    -- on its other side, one whose number has no row; of length 20 a field is read, see S8 and S9
     ∷ run (look (body id3717 0) ⇒ refusalIs 6 ∷ [])
-    -- the lister's ten bytes, 00 24 40 A9 89 00 00 08 00 24: "block 1 0 0 8", "end 10 1 2"
+    -- S11: the lister's ten bytes
     ∷ run (feed (0x00 ∷ sampleB ++ 0x24 ∷ []) ⇒ blockIs 9 (report 1 0 0 8) ∷ feed (0x24 ∷ []) ⇒ moreIs 1 ∷ finish ⇒ endIs 10 1 2 ∷ [])
     ∷ []
 

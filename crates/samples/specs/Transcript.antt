@@ -9,8 +9,7 @@ use Rattle.reader.specs.Said.{Report, version, took, found, ended}
 use Rattle.reader.specs.State.{newState}
 use Rattle.demands.specs.World.{World, Reply, said, value, Line, trace}
 
--- a new reader, lent the shortest buffers allowed: "a hold of at least 65,536 bytes, a store for the table in force and one for the
--- waiting table, each at least 8,192", full of bytes 7
+-- C2, C15: a new reader, lent the shortest buffers allowed, full of bytes 7
 unfoldable pub newWorld : World
 newWorld = record { state = newState; hold = replicate 65536 7; force = replicate 8192 7; wait = replicate 8192 7 }
 
@@ -21,30 +20,30 @@ Transcript = List Line
 unfoldable pub replayed : Transcript → Transcript
 replayed t = trace (map (λ (x : Line). x .call) t) newWorld
 
--- Open, Stage: the version
+-- C5, C10: Open and Stage answer a version
 abbrev pub versionIs : ℕ → Reply
 versionIs v = said (version v)
 
--- Feed: the count taken, with More
+-- C7: Feed answers More
 abbrev pub moreIs : ℕ → Reply
 moreIs taken = said (took taken none)
 
--- Feed: the count taken, with Block
+-- C7: Feed answers Block
 abbrev pub blockIs : ℕ → Report → Reply
 blockIs taken b = said (took taken (some b))
 
--- Finish: Block
+-- C8: Finish answers Block
 abbrev pub foundIs : Report → Reply
 foundIs b = said (found b)
 
--- Finish: End (bytes, blocks, skipped bytes)
+-- C8: Finish answers End
 abbrev pub endIs : ℕ → ℕ → ℕ → Reply
 endIs bytes blocks skipped = said (ended (record { taken = bytes; blocks = blocks; skipped = skipped }))
 
--- a record call: a refusal
+-- V7: a record call is refused
 abbrev pub refusalIs : ℕ → Reply
 refusalIs n = value (fieldRefused n)
 
--- "Block (place, number, revision, length)"
+-- C7: what Block has
 abbrev pub report : ℕ → ℕ → ℕ → ℕ → Report
 report place number revision size = record { place = place; number = number; revision = revision; size = size }

@@ -1,8 +1,8 @@
-// Document 01's samples and the story that started this, computed by the definitions that the reader's contracts cite.
+// The samples of the rules and the story that started this, computed by the definitions that the reader's contracts cite.
 ghost use Rattle.samples.specs.Flight.{FlightLine};
 ghost use Rattle.samples.specs.Samples.{SamplesHold};
 
-// Document 01's samples (a) to (j): one table of cases, one theorem.
+// S1 to S10, and the bytes of S11: one table of cases, one theorem.
 pub fn samples_hold()
     ensures { λ _. ⌜ SamplesHold ⌝ }
 {}

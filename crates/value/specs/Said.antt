@@ -1,4 +1,4 @@
--- What is said of a field, in the words of document 01 ('A field's answer'), and what the code's values mean by them.
+-- What is said of a field (rule V7), and what the code's values mean by it.
 -- Assumes nothing.
 use Prim.Native.Nat.{ℕ}
 use mathlib.Core.Path.{_≡_}
@@ -8,8 +8,7 @@ use lib.Ieee.{binary32, binary64, isNan, nanBits, ofBits, toBits}
 use Rattle.value.specs.declared.Value.{Value}
 use Rattle.value.specs.declared.Value.the-variants.{Unsigned, Signed, Single, Double, SingleNan, DoubleNan, DoNotUse, NotInRevision}
 
--- "A field answers one of: unsigned, signed, single float, double float, Do-Not-Use, not in this revision; or a refusal, with its number
--- inside. Floats keep their bits, NaNs too": a float is said by its bits
+-- V7: what a field may answer; a float is said by its bits (V2)
 pub data FieldSaid : Type 0 where
   unsigned : ℕ → FieldSaid
   signed : ℤ → FieldSaid
@@ -19,7 +18,7 @@ pub data FieldSaid : Type 0 where
   notInRevision : FieldSaid
   fieldRefused : ℕ → FieldSaid
 
--- what each case of the code's value says
+-- D9: what each case of the code's value says
 abbrev pub valueSays : Value → FieldSaid
 valueSays (Unsigned n) = unsigned n
 valueSays (Signed z) = signed z
