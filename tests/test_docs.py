@@ -1,6 +1,6 @@
 #!/usr/bin/env python3
-"""The documents name what is there: each path, function and theorem, each definition beside its file, each wrong program, and
-the crates. Prints 'N passed, M failed' last; exit status 1 where one failed."""
+"""The documents name what is there: each path, link, function and theorem, each definition beside its file, each wrong program,
+the crates, and the lines of a listing. Prints 'N passed, M failed' last; exit status 1 where one failed."""
 import glob
 import os
 import re
@@ -35,7 +35,7 @@ def sources(crate, kind):
 
 CRATES = [line.split(":")[0].strip() for line in read("crates.txt").splitlines() if ":" in line and not line.startswith("#")]
 CODE = {crate: sources(crate, "src") for crate in CRATES}
-DOCUMENTS = ["README.md"] + sorted(os.path.relpath(name, TOP) for name in glob.glob(os.path.join(TOP, "docs", "*.md")))
+DOCUMENTS = sorted(os.path.relpath(name, TOP) for folder in ("", "docs") for name in glob.glob(os.path.join(TOP, folder, "*.md")))
 
 
 def paths(document, text):
@@ -47,6 +47,28 @@ def paths(document, text):
             CASES.expect(f"{document}: {word}", found or "NAME" in word or "LABEL" in word, "there is no such file or folder")
         elif top in CRATES and word.split("/")[1] in ("src", "specs", "proofs", "must-fail", "wrong"):
             CASES.expect(f"{document}: {word}", there(os.path.join("crates", word)), "there is no such file of crates/")
+
+
+def heads(name):
+    """The anchors of a document: its headings in lower case, without marks, a hyphen for each space."""
+    return {re.sub(r"[^\w -]", "", head.lower()).replace(" ", "-") for head in re.findall(r"^#+ (.*)", read(name), re.M)}
+
+
+def links(document, text):
+    """[words](path#heading): the path, from the document's own folder, is there, and the document there has that heading."""
+    for link in sorted(set(re.findall(r"\]\(([^)\s]+)\)", text))):
+        path, _, head = link.partition("#")
+        name = os.path.normpath(os.path.join(os.path.dirname(document), path)) if path else document
+        found = there(name) and (not head or head in heads(name))
+        CASES.expect(f"{document}: the link {link}", found or "://" in link, "there is no such file or heading")
+
+
+def listing():
+    """The lines of a listing that README explains are lines of samples/flight.list."""
+    shown = re.findall(r"^    ((?:block|end) [\d ]+)$", read("README.md"), re.M)
+    CASES.expect("README.md: the lines of a listing", shown, "there are none")
+    for line in shown:
+        CASES.expect(f"README.md: {line}", line in read("samples/flight.list").splitlines(), "samples/flight.list has no such line")
 
 
 def bare_names(document, text):
@@ -100,11 +122,13 @@ def in_must_fail():
 for document in DOCUMENTS:
     text = read(document)
     paths(document, text)
+    links(document, text)
     bare_names(document, text)
     functions(document, text)
     definitions(document, text)
 wrong_programs()
 in_must_fail()
+listing()
 for crate in CRATES:
     CASES.expect(f"README.md: the crate {crate}", f"| `{crate}` |" in read("README.md"), "its table of crates has no row for it")
 sys.exit(CASES.tally())
