@@ -7,10 +7,12 @@ test_lister.py SEED    write the stream of one seed to standard output
 import binascii
 import os
 import random
+import select
 import struct
 import subprocess
 import sys
 import tempfile
+import time
 
 import programs
 from programs import TOP, Program
@@ -170,6 +172,50 @@ def unwritten(data):
     return wrong
 
 
+# ---- input that pauses
+
+LONGEST = 30  # seconds that lines may take to come
+
+
+def come(pipe, count):
+    """The next `count` bytes of a pipe, or as many as come in time."""
+    got, last = b"", time.monotonic() + LONGEST
+    while len(got) < count and select.select([pipe], [], [], max(0, last - time.monotonic()))[0]:
+        part = os.read(pipe.fileno(), count - len(got))
+        if not part:
+            break
+        got += part
+    return got.decode(errors="replace")
+
+
+def paused(*pieces):
+    """A pipe that stays open: the lines of each piece come before the next piece is written, and the last after the end."""
+    def wrong(env):
+        run, said = b"", ""
+        with subprocess.Popen([os.path.join(TOP, "tools", "x86run"), os.path.join(TOP, "target", "bin", "lister")], bufsize=0,
+                              stdin=subprocess.PIPE, stdout=subprocess.PIPE, env=env) as lister:
+            for piece in pieces:
+                lister.stdin.write(piece)
+                run += piece
+                due = listed(run).rpartition("end ")[0]
+                said += come(lister.stdout, len(due) - len(said))
+                if said != due:
+                    lister.kill()
+                    return f"after {len(run)} bytes and {LONGEST} seconds {len(said)} bytes came, {len(due)} are due"
+            lister.stdin.close()
+            said += lister.stdout.read().decode(errors="replace")
+        return "" if said == listed(run) else repr(said[-200:])
+    return wrong
+
+
+def pauses():
+    rng = random.Random(1)
+    one, two = block(rng, bytes(20)), block(rng, bytes(36))
+    yield "test_lister: a block, and the pipe stays open", paused(one)
+    yield "test_lister: a pause inside a block", paused(one[:5], one[5:], two[:30], two[30:] + one)
+    yield "test_lister: a pause after 65,536 bytes", paused(block(rng, bytes(56)) * 1024, one)
+
+
 def failures():
     yield "test_lister: a folder as standard input", unread
     yield "test_lister: a full device, few lines", unwritten(SAMPLE)
@@ -180,6 +226,6 @@ if __name__ == "__main__":
     if len(sys.argv) == 2 and sys.argv[1].isdigit():
         sys.stdout.buffer.write(stream(int(sys.argv[1])))
     elif len(sys.argv) == 1:
-        sys.exit(Program("lister", "expected is").compare(cases(), failures()))
+        sys.exit(Program("lister", "expected is").compare(cases(), [*failures(), *pauses()]))
     else:
         sys.exit(__doc__)

@@ -1,8 +1,22 @@
 // What the benchmarks in C call: feed with plain numbers, and nothing else. The C caller meets the `requires`.
+ghost use mathlib.Core.Path.{_≡_};
 ghost use Prim.Native.Nat.{_≤_};
 ghost use lib.ListN.{length};
+ghost use Rattle.frame.specs.Judge.{judgedLast};
+ghost use Rattle.scan.specs.Settle.{settle};
+ghost use Rattle.scan.specs.Feed.{feedLit, stop};
+ghost use Rattle.feed.specs.Hold.{restOf, numbersOf, holdOf};
+ghost use Rattle.benchface.specs.Four.{fourOf};
+use feed::HoldNumbers;
 
-// The new held bytes, the standing block, the bytes taken and the bytes skipped go to `out`.
+// The new held bytes, the standing block, the bytes taken and the bytes skipped.
+fn four(r: HoldNumbers) -> [usize; 4]
+    ensures { λ a. ⌜ a ≡ fourOf r ⌝ }
+{
+    let passed = r.passed;
+    [r.held, r.standing, r.taken, passed.skipped]
+}
+
 #[no_mangle]
 pub extern "C" fn alderflute_bench_feed(
     hold: &mut [u8],
@@ -13,17 +27,10 @@ pub extern "C" fn alderflute_bench_feed(
     out: &mut [usize; 4],
 )
     requires { ⌜ (standing ≤ held) × (held ≤ 65532) × (65532 ≤ length (now hold)) ⌝ }
+    ensures { λ _. ⌜ now (out .exit) ≡ fourOf (numbersOf (feedLit (restOf (now (hold .entry)) held standing) (now (piece .entry)) room)) ⌝ }
+    ensures { λ _. ⌜ now (hold .exit) ≡ holdOf (feedLit (restOf (now (hold .entry)) held standing) (now (piece .entry)) room) (now (hold .entry)) ⌝ }
 {
-    let r = feed::feed(hold, held, standing, piece, room);
-    let h = r.held;
-    let s = r.standing;
-    let t = r.taken;
-    let p = r.passed;
-    let k = p.skipped;
-    out[0] = h;
-    out[1] = s;
-    out[2] = t;
-    out[3] = k;
+    *out = four(feed::feed(hold, held, standing, piece, room));
 }
 
 #[no_mangle]
@@ -34,15 +41,8 @@ pub extern "C" fn alderflute_bench_finish(
     out: &mut [usize; 4],
 )
     requires { ⌜ (standing ≤ held) × (held ≤ 65532) × (65532 ≤ length (now hold)) ⌝ }
+    ensures { λ _. ⌜ now (out .exit) ≡ fourOf (numbersOf (stop (settle judgedLast (restOf (now (hold .entry)) held standing)))) ⌝ }
+    ensures { λ _. ⌜ now (hold .exit) ≡ holdOf (stop (settle judgedLast (restOf (now (hold .entry)) held standing))) (now (hold .entry)) ⌝ }
 {
-    let r = feed::finish(hold, held, standing);
-    let h = r.held;
-    let s = r.standing;
-    let t = r.taken;
-    let p = r.passed;
-    let k = p.skipped;
-    out[0] = h;
-    out[1] = s;
-    out[2] = t;
-    out[3] = k;
+    *out = four(feed::finish(hold, held, standing));
 }

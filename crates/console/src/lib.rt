@@ -5,6 +5,7 @@ ghost use Rattle.io.specs.Counts.{Counts};
 
 pub mod lines; // lines.rt: the next line of standard input
 
+use libc::SEEK_CUR;
 use libc::STDERR_FILENO;
 use libc::STDIN_FILENO;
 use libc::STDOUT_FILENO;
@@ -64,6 +65,12 @@ pub fn read(buf: &mut [u8; 65536]) -> Piece
         count,
         course: Course::GoesOn,
     }
+}
+
+// Whether a read of standard input can wait for bytes that are yet to come: not where the input has a place in a file, and a
+// pipe, a socket and a serial line have none. That place is asked for, and stays.
+pub fn live() -> bool {
+    libc::lseek(STDIN_FILENO, 0, SEEK_CUR) < 0
 }
 
 // Tells words on standard error.

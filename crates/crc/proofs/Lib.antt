@@ -1,5 +1,4 @@
 pub mod Xor
 pub mod Linear
 pub mod Table
-pub mod Entries
 pub mod Step

@@ -8,23 +8,18 @@ use native.Mathlib.Omega.{arith}
 use lib.ListN.{length, drop, getD, drop-of-length-le}
 use lib.Bits.{bitXor, xor-lt}
 use lib.Seq.{drop-cons}
-use Rattle.crc.specs.Crc.{crcByte, crcFrom}
-use Rattle.crc.proofs.Entries.{entries, entry}
-use Rattle.crc.proofs.Linear.{byte-table, bits8-lt}
+use Rattle.crc.specs.Crc.{crcByte, crcFrom, Remainders}
+use Rattle.crc.proofs.Linear.{byte-table}
 
 module _ (c b : ℕ) (hc : c < 65536) (hb : b < 256) where
   -- the place in the table
   pub index-lt : bitXor (c / 256) b < 256
   index-lt = xor-lt 8 (c / 256) b (omega arith) hb
 
-  -- the byte step through the table is the rule on bits
-  pub by-table : bitXor (c * 256 % 65536) (getD entries (bitXor (c / 256) b) 0) ≡ crcByte c b
-  by-table = ap (bitXor (c * 256 % 65536)) (entry (bitXor (c / 256) b) index-lt) ∙ sym (byte-table c b hc hb)
-
-  pub by-table-lt : bitXor (c * 256 % 65536) (getD entries (bitXor (c / 256) b) 0) < 65536
-  by-table-lt =
-      xor-lt 16 (c * 256 % 65536) (getD entries (bitXor (c / 256) b) 0) (omega arith)
-      (rw (entry (bitXor (c / 256) b) index-lt) (bits8-lt (bitXor (c / 256) b * 256) (omega (arith, index-lt))))
+  -- through a table that keeps the rule the byte step is the rule on bits
+  pub by-table : (t : List ℕ) → Remainders t → bitXor (c * 256 % 65536) (getD t (bitXor (c / 256) b) 0) ≡ crcByte c b
+  unfolding Remainders
+  by-table t rule = ap (bitXor (c * 256 % 65536)) (rule (bitXor (c / 256) b) index-lt) ∙ sym (byte-table c b hc hb)
 
 -- the rest from i is the byte at i and the rest from i + 1
 pub step : (r : ℕ) (s : List ℕ) (i : ℕ) → i < length s → crcFrom r (drop i s) ≡ crcFrom (crcByte r (getD s i 0)) (drop (i + 1) s)

@@ -1,8 +1,10 @@
 -- The CRC bit by bit (rule F7).
 -- Assumes nothing.
-use Prim.Native.Nat.{ℕ, _*_, _/_, _%_}
+use Prim.Native.Nat.{ℕ, _*_, _/_, _%_, _<_}
+use mathlib.Core.Path.{_≡_}
 use mathlib.Core.List.{List, [], _∷_}
 use lib.Bits.{bitXor}
+use lib.ListN.{getD}
 
 -- F7: one bit. The register is shifted left in 16 bits, and where a one falls out (c / 32768) the polynomial is xored in
 unfoldable pub crcBit : ℕ → ℕ
@@ -23,3 +25,7 @@ crcFrom c (b ∷ bs) = crcFrom (crcByte c b) bs
 -- F7: a list, from 0; the register is the result as it is
 unfoldable pub crcOf : List ℕ → ℕ
 crcOf bs = crcFrom 0 bs
+
+-- a table of the remainders of all bytes: entry k is that of the byte k in the top of an empty register
+unfoldable pub Remainders : List ℕ → Type 0
+Remainders t = (k : ℕ) → k < 256 → getD t k 0 ≡ crcBits8 (k * 256)

@@ -1,10 +1,16 @@
 // The CRC (rule F7), a byte at a time by a table (F10).
 ghost use mathlib.Core.Path.{_≡_};
 ghost use mathlib.Core.List.{_++_};
-ghost use Rattle.crc.specs.Crc.{crcFrom, crcOf};
+ghost use Rattle.crc.specs.Crc.{crcByte, crcFrom, crcOf, Remainders};
 ghost use Rattle.crc.specs.Samples.{CrcSamplesHold};
 
-// F10: entry k is the remainder of the byte k, eight bits of k x 256.
+// F10: the stored table, and its rule: entry k is the remainder of the byte k, for all 256.
+fn remainders() -> [u16; 256]
+    ensures { λ r. ⌜ Remainders r ⌝ }
+{
+    REMAINDERS
+}
+
 const REMAINDERS: [u16; 256] = [
     0x0000,
     0x1021,
@@ -264,25 +270,30 @@ const REMAINDERS: [u16; 256] = [
     0x1ef0,
 ];
 
-// The register after the bytes of `a` and then of `b`. Only this function knows the table, and it names it once: a
-// constant array is stored anew wherever it is named.
+// The register after one byte, through a table that keeps the rule.
+fn after_byte(t: &[u16; 256], c: u16, b: u8) -> u16
+    requires { ⌜ Remainders (now t) ⌝ }
+    ensures { λ r. ⌜ r ≡ crcByte c b ⌝ }
+{
+    let k = ((c >> 8) ^ (b as u16)) as usize;
+    (c << 8) ^ t[k]
+}
+
+// The register after the bytes of `a` and then of `b`. It asks for the table once: a constant array is stored anew
+// wherever it is named.
 pub fn update(crc: u16, a: &[u8], b: &[u8]) -> u16
     ensures { λ r. ⌜ r ≡ crcFrom crc (now (a .entry) ++ now (b .entry)) ⌝ }
 {
-    let t = &REMAINDERS;
+    let t = remainders();
     let mut c = crc;
     let mut i: usize = 0;
     while i < a.len() {
-        let x = a[i];
-        let k = ((c >> 8) ^ (x as u16)) as usize;
-        c = (c << 8) ^ t[k];
+        c = after_byte(&t, c, a[i]);
         i += 1;
     }
     let mut j: usize = 0;
     while j < b.len() {
-        let y = b[j];
-        let m = ((c >> 8) ^ (y as u16)) as usize;
-        c = (c << 8) ^ t[m];
+        c = after_byte(&t, c, b[j]);
         j += 1;
     }
     c

@@ -123,23 +123,33 @@ fn put_line(out: &mut [u8; 8192], at: usize, line: Line) -> usize
     }
 }
 
-// Lists the line of a call, where it has one. Nothing is read on where writing failed.
-fn list_line(called: Called, out: &mut [u8; 8192], filled: usize) -> Listing
-    requires { ⌜ filled ≤ 8192 ⌝ }
+// How much room a spent piece asks for in the output buffer: all of it where the next read can wait, so that what waits is
+// written out and a live stream's blocks are seen as they come; else as much as a line does.
+fn room_of_spent() -> usize
+    ensures { λ r. ⌜ (90 ≤ r) × (r ≤ 8192) ⌝ }
+{
+    if console::live() {
+        return 8192;
+    }
+    phrases::LIST_LINE
+}
+
+// How much room a call asks for.
+fn room_of(lists: bool, spent: usize) -> usize
+    requires { ⌜ (90 ≤ spent) × (spent ≤ 8192) ⌝ }
+    ensures { λ r. ⌜ (90 ≤ r) × (r ≤ 8192) ⌝ }
+{
+    if lists { phrases::LIST_LINE } else { spent }
+}
+
+// Lists the line of a call; one without a line comes where the piece is spent or the run is full. Nothing is read on where
+// writing failed.
+fn list_line(called: Called, out: &mut [u8; 8192], filled: usize, spent: usize) -> Listing
+    requires { ⌜ (filled ≤ 8192) × (90 ≤ spent) × (spent ≤ 8192) ⌝ }
     ensures { λ r. ⌜ (r .filled ≤ filled + 90) × (r .filled ≤ 8192) ⌝ }
 {
     let state = called.state;
-    let course = called.course;
-    let more = called.more;
-    if !called.lists {
-        return Listing {
-            state,
-            filled,
-            course,
-            more,
-        };
-    }
-    let room = console::make_room(out, filled, phrases::LIST_LINE);
+    let room = console::make_room(out, filled, room_of(called.lists, spent));
     if !room.written {
         return Listing {
             state,
@@ -149,11 +159,12 @@ fn list_line(called: Called, out: &mut [u8; 8192], filled: usize) -> Listing
         };
     }
     let line = called.line;
+    let course = called.course;
     Listing {
         state,
         filled: put_line(out, room.filled, line),
         course,
-        more,
+        more: called.more,
     }
 }
 
@@ -161,11 +172,12 @@ fn list_line(called: Called, out: &mut [u8; 8192], filled: usize) -> Listing
 fn drain(
     l: Listing,
     got: Piece,
+    spent: usize,
     hold: &mut [u8; 65536],
     buf: &[u8; 65536],
     out: &mut [u8; 8192],
 ) -> Listing
-    requires { ⌜ (l .filled ≤ 8192) × (got .count ≤ 65536) ⌝ }
+    requires { ⌜ (l .filled ≤ 8192) × (got .count ≤ 65536) × (90 ≤ spent) × (spent ≤ 8192) ⌝ }
     ensures { λ r. ⌜ r .filled ≤ 8192 ⌝ }
 {
     let all: &[u8] = buf;
@@ -183,7 +195,7 @@ fn drain(
     while turns > 0 {
         let called = offer(now.state, hold, &all[at..n]);
         at = at + called.taken;
-        now = list_line(called, out, now.filled);
+        now = list_line(called, out, now.filled, spent);
         turns = console::left(turns, now.more);
     }
     now
@@ -204,10 +216,11 @@ fn read_all(
         course: Course::GoesOn,
         more: true,
     };
+    let spent = room_of_spent();
     let mut turns: u64 = console::TURNS;
     while turns > 0 {
         let got = console::read(buf);
-        now = drain(now, got, hold, buf, out);
+        now = drain(now, got, spent, hold, buf, out);
         let course = now.course;
         turns = console::left(turns, console::goes_on(course));
     }
@@ -236,7 +249,7 @@ fn close_all(l: Listing, closings: u64, hold: &mut [u8; 65536], out: &mut [u8; 8
     let mut turns = closings;
     while turns > 0 {
         let called = close(now.state, hold);
-        now = list_line(called, out, now.filled);
+        now = list_line(called, out, now.filled, phrases::LIST_LINE);
         turns = console::left(turns, now.more);
     }
     now

@@ -9,10 +9,10 @@ use Rattle.lister.proofs.drain.Statement.{statement}
 use Rattle.lister.proofs.drain.Tie as tie
 
 abbrev Inv-loop : tie.InvT-loop
-Inv-loop hold₀ buf out₀ all n now₀ at₀ turns₀ hold out now at turns = (now .filled ≤ 8192) × (at ≤ n) × (n ≤ length all) × (n ≤ 65536)
+Inv-loop spent hold₀ buf out₀ all n now₀ at₀ turns₀ hold out now at turns = (now .filled ≤ 8192) × (at ≤ n) × (n ≤ length all) × (n ≤ 65536)
 
 abbrev μ-loop : tie.MeasureT-loop
-μ-loop hold₀ buf out₀ all n now₀ at₀ turns₀ hold out now at turns = turns
+μ-loop spent hold₀ buf out₀ all n now₀ at₀ turns₀ hold out now at turns = turns
 
 goes-on-requires : tie.Need-goes-on-requires Inv-loop μ-loop
 goes-on-requires c κs = search needs

@@ -6,10 +6,13 @@ use Rattle.lister.proofs.read_all.Statement.{statement}
 use Rattle.lister.proofs.read_all.Tie as tie
 
 abbrev Inv-loop : tie.InvT-loop
-Inv-loop buf₀ hold₀ out₀ now₀ turns₀ buf hold out now turns = (now .filled ≤ 8192)
+Inv-loop buf₀ hold₀ out₀ now₀ spent turns₀ buf hold out now turns = (now .filled ≤ 8192)
 
 abbrev μ-loop : tie.MeasureT-loop
-μ-loop buf₀ hold₀ out₀ now₀ turns₀ buf hold out now turns = turns
+μ-loop buf₀ hold₀ out₀ now₀ spent turns₀ buf hold out now turns = turns
+
+room-of-spent-requires : tie.Need-room-of-spent-requires Inv-loop μ-loop
+room-of-spent-requires c κs = search needs
 
 loop-holds : tie.Need-loop-holds Inv-loop μ-loop
 loop-holds c = search needs
@@ -41,6 +44,7 @@ read-all-spec =
     (tie.spec
     Inv-loop
     μ-loop
+    room-of-spent-requires
     loop-holds
     read-requires
     drain-requires
