@@ -3,6 +3,7 @@
 make and show are inverse. Prints 'N passed, M failed' last; exit status 1 where one failed."""
 import os
 import re
+import shutil
 import subprocess
 import sys
 import tempfile
@@ -69,8 +70,9 @@ def agreement():
         crate = os.path.join(folder, "shipped")
         os.makedirs(os.path.join(crate, "src"))
         os.makedirs(os.path.join(crate, "specs"))
+        shutil.copy(os.path.join(CRATE, "src", "lib.rt"), os.path.join(crate, "src"))
         expect("rattle takes the text", tool("rattle", os.path.relpath(TEXT, ROOT), crate)[0] == 0)
-        for name in ("src/bytes.rt", "specs/Rows.antt"):
+        for name in ("src/bytes.rt", "src/lib.rt", "specs/Rows.antt"):
             expect("%s is what the text gives" % name, read(os.path.join(crate, name)) == read(os.path.join(CRATE, name)))
     source = read(os.path.join(CRATE, "src", "bytes.rt"))
     constant = re.search(r"const TABLE: \[u8; (\d+)\] = \[(.*?)\];", source, re.S)
