@@ -22,7 +22,14 @@ class Complaints:
         self.name, self.bad, self.numbers, self.others = name, 0, [], []
 
     def read(self, stream):
-        for line in stream:
+        rest = b""
+        while piece := os.read(stream.fileno(), 65536):
+            *lines, rest = (rest + piece).split(b"\n")
+            self.take(lines)
+        self.take([rest] if rest else [])
+
+    def take(self, lines):
+        for line in lines:
             words = line.decode("utf-8", "backslashreplace").strip()
             if re.fullmatch(r"bad line \d+", words):
                 self.bad += 1
@@ -58,17 +65,17 @@ def copied(stream):
 def played(name, given):
     """Runs the program. Gives what it complains of, its status and the end of what it prints."""
     command = [os.path.join(TOP, "tools", "x86run"), os.path.join(TOP, "target", "bin", name)]
-    with subprocess.Popen(command, stdin=given, stdout=subprocess.PIPE, stderr=subprocess.PIPE) as ran:
-        complaints = Complaints(name)
-        listener = threading.Thread(target=complaints.read, args=(ran.stderr,), daemon=True)
-        listener.start()
-        try:
-            end = copied(ran.stdout)
-            listener.join()
-            return complaints.told(), ran.wait(), end
-        finally:
-            if ran.returncode is None:
-                ran.kill()
+    ran = subprocess.Popen(command, stdin=given, stdout=subprocess.PIPE, stderr=subprocess.PIPE, bufsize=0)
+    complaints = Complaints(name)
+    listener = threading.Thread(target=complaints.read, args=(ran.stderr,), daemon=True)
+    listener.start()
+    try:
+        end = copied(ran.stdout)
+        listener.join()
+        return complaints.told(), ran.wait(), end
+    finally:
+        if ran.returncode is None:
+            ran.kill()
 
 
 def run(doc, name, last, unwhole):
