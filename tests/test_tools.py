@@ -119,6 +119,9 @@ def helps(stand):
         wrong = [] if name in ("quiet", "rt", "table", "x86cc", "x86run") else ["-x", "a", "b"]
         status, out, err = stand.run(name, *wrong, top=TOP)
         expect(f"tools/{name}, called wrongly", (status, out) == (2, b"") and err.startswith(f"usage: tools/{name}"), (status, out, err))
+    for name in ("tests/run", "tests/wrong", ".ci/run", "bench/crc", "bench/framer", "bench/lister"):
+        with subprocess.Popen([os.path.join(TOP, name), "--help"], stdout=subprocess.PIPE, env=stand.env, cwd="/") as ran:
+            expect(f"{name} --help", ran.communicate()[0] and ran.returncode == 0, ran.returncode)
     for head in sorted(os.listdir(os.path.join(TOP, "tools"))):
         if os.path.isfile(os.path.join(TOP, "tools", head)):
             first = read(os.path.join(TOP, "tools", head), "r").splitlines()[:2]

@@ -46,13 +46,33 @@ def usage_of(doc):
     return doc[doc.index("Usage:"):].split("\n\n")[0].rstrip()
 
 
+SIGNALS = (signal.SIGINT, signal.SIGTERM, signal.SIGHUP)
+
+
+class Held:
+    """Whether signals are held back, and the one that came meanwhile."""
+    back, came = False, None
+
+
 def on_signal(number, _):
+    if Held.back:
+        Held.came = number
+        return
     for each in SIGNALS:
         signal.signal(each, signal.SIG_IGN)
     raise Signalled(number)
 
 
-SIGNALS = (signal.SIGINT, signal.SIGTERM, signal.SIGHUP)
+@contextlib.contextmanager
+def held_back():
+    """A signal that comes now ends the tool after this, when what is made here has a name, by which it can be ended or removed."""
+    Held.back = True
+    try:
+        yield
+    finally:
+        Held.back = False
+    if Held.came is not None:
+        on_signal(Held.came, None)
 
 
 def end_by(number):
@@ -156,13 +176,14 @@ def put(data):
 @contextlib.contextmanager
 def begun(command, **how):
     """A command that runs in a session of its own; where the tool ends before it, all of that session is ended."""
-    with told_of(command[0]):
-        ran = subprocess.Popen(command, start_new_session=True, **how)
+    ran = None
     try:
+        with held_back(), told_of(command[0]):
+            ran = subprocess.Popen(command, start_new_session=True, **how)
         yield ran
         ran.wait()
     finally:
-        if ran.returncode is None:
+        if ran and ran.returncode is None:
             end_session(ran)
 
 
@@ -206,8 +227,10 @@ def soonest():
     """The environment in which rt is done soonest: tools/rt says why. Where TMPDIR or RT_JOBS is set, that stands."""
     env = dict(os.environ)
     env["RT_JOBS"] = env.get("RT_JOBS") or "4"
-    folder = None if env.get("TMPDIR") else memory_folder()
+    folder = None
     try:
+        with held_back():
+            folder = None if env.get("TMPDIR") else memory_folder()
         if folder and runs_programs(folder):
             os.chmod(folder, 0o711)  # a program that is tried runs as nobody, in a folder of its own below
             env["TMPDIR"] = folder

@@ -9,7 +9,7 @@ import subprocess
 import sys
 import threading
 
-from common import TOP, Failed, Misused, open_input, prove, put, say, shown, tool
+from common import TOP, Failed, Misused, held_back, open_input, prove, put, say, shown, tool
 
 KEPT = 256  # bytes of the end of what is printed, more than a last line has
 NAMED = 10  # bad lines that are named; of the others the number is told
@@ -65,16 +65,18 @@ def copied(stream):
 def played(name, given):
     """Runs the program. Gives what it complains of, its status and the end of what it prints."""
     command = [os.path.join(TOP, "tools", "x86run"), os.path.join(TOP, "target", "bin", name)]
-    ran = subprocess.Popen(command, stdin=given, stdout=subprocess.PIPE, stderr=subprocess.PIPE, bufsize=0)
-    complaints = Complaints(name)
-    listener = threading.Thread(target=complaints.read, args=(ran.stderr,), daemon=True)
-    listener.start()
+    ran = None
     try:
+        with held_back():
+            ran = subprocess.Popen(command, stdin=given, stdout=subprocess.PIPE, stderr=subprocess.PIPE, bufsize=0)
+        complaints = Complaints(name)
+        listener = threading.Thread(target=complaints.read, args=(ran.stderr,), daemon=True)
+        listener.start()
         end = copied(ran.stdout)
         listener.join()
         return complaints.told(), ran.wait(), end
     finally:
-        if ran.returncode is None:
+        if ran and ran.returncode is None:
             ran.kill()
 
 
