@@ -210,6 +210,7 @@ def streams(stand):
         said = stand.run(tool, *words, good, stdout=right)
         os.close(right)
         expect(f"{tool}: a pipe that nobody reads", said[0] == -signal.SIGPIPE and said[2] == "", said)
+    one_line("list: a name of two lines", stand.run("list", "no\nfile"), "list", "'no\\nfile'", "there is no such file")
     if os.geteuid():  # root may read and write all
         os.chmod(stand.at("file"), 0)
         one_line("list: a file that may not be read", stand.run("list", "file"), "list", "file", "permission is denied")
@@ -302,6 +303,9 @@ def capi(stand):
     expect("capi: a proof that fails", stand.run("capi")[0] == 1)
     os.remove(stand.at("says"))
     makes("after a proof that failed", True)
+    os.remove(stand.at("crates.txt"))
+    one_line("capi: no crates.txt", stand.run("capi"), "capi", stand.at("crates.txt"), "there is no such file")
+    one_line("sizes: no crates.txt", stand.run("sizes"), "sizes", "crates.txt", "cannot be read")
 
 
 def until(true):

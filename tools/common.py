@@ -31,11 +31,17 @@ class Signalled(BaseException):
     """A signal came; the value is its number."""
 
 
+def tell(data):
+    """Writes text or bytes to standard error. Where that is closed nobody wants to know."""
+    data = data.encode("utf-8", "backslashreplace") if isinstance(data, str) else data
+    with contextlib.suppress(OSError):
+        while data:
+            data = data[os.write(2, data):]
+
+
 def say(line):
-    """Tells a line on standard error."""
-    with contextlib.suppress(OSError, AttributeError):  # it may be closed
-        sys.stderr.write("%s: %s\n" % (NAME, line))
-        sys.stderr.flush()
+    """Tells a line of this tool."""
+    tell("%s: %s\n" % (NAME, line))
 
 
 # ---- a tool's run
@@ -97,7 +103,7 @@ def tool(doc, main):
             os.close(1)  # some file systems tell only now that there is no room
         return status
     except Misused:
-        sys.stderr.write("%s\n%s --help says more\n" % (usage_of(doc).replace("Usage", "usage", 1), NAME))
+        tell("%s\n%s --help says more\n" % (usage_of(doc).replace("Usage", "usage", 1), NAME))
         return 2
     except Failed as why:
         say(str(why))
@@ -112,7 +118,8 @@ def tool(doc, main):
 
 
 def shown(path):
-    return "standard input" if path == "-" else path
+    """A path in a line: a name may have a line end in it."""
+    return "standard input" if path == "-" else path if path.isprintable() else ascii(path)
 
 
 def why_not(error):
@@ -253,8 +260,7 @@ def quietly(command, env=None, folder=None):
             if PROVED.fullmatch(line):
                 say(line.decode()[4:].rstrip())
     if ran.returncode:
-        sys.stderr.buffer.write(b"".join(log))
-        sys.stderr.flush()
+        tell(b"".join(log))
     return ran.returncode
 
 
