@@ -4,6 +4,7 @@ and make and show are inverse. Prints 'N passed, M failed' last; exit status 1 w
 compiled by the kit's clang."""
 import os
 import re
+import shutil
 import subprocess
 import sys
 import tempfile
@@ -71,8 +72,9 @@ def agreement():
         crate = os.path.join(folder, "shipped")
         os.makedirs(os.path.join(crate, "src"))
         os.makedirs(os.path.join(crate, "specs"))
+        shutil.copy(os.path.join(CRATE, "src", "lib.rt"), os.path.join(crate, "src"))
         expect("rattle takes the text", tool("rattle", os.path.relpath(TEXT, ROOT), crate)[0] == 0)
-        for name in ("src/bytes.rt", "specs/Rows.antt"):
+        for name in ("src/bytes.rt", "src/lib.rt", "specs/Rows.antt"):
             expect("%s is what the text gives" % name, read(os.path.join(crate, name)) == read(os.path.join(CRATE, name)))
     source = read(os.path.join(CRATE, "src", "bytes.rt"))
     constant = re.search(r"const TABLE: \[u8; (\d+)\] = \[(.*?)\];", source, re.S)
@@ -287,8 +289,60 @@ def refused_names():
             expect("no header: %s" % rule, status == 1 and out == "" and (": line %d: " % line) in err and rule in err, err)
 
 
+# A block's name or a field's name, and words of why it cannot stand in the readable list.
+NAMES = [
+    ("block 1 4X highest 0", "a block's name in the readable list is letters and digits"),
+    ("block 1 A_B highest 0", "a block's name in the readable list is letters and digits"),
+    ("block 1 - highest 0", "a block's name in the readable list is letters and digits"),
+    ("block 1 Gr\u00f6\u00dfe highest 0", "a block's name in the readable list is letters and digits"),
+    ("block 1 Let highest 0", "is a word of the readable list itself"),
+    ("block 1 Block highest 0", "is a word of the readable list itself"),
+    ("block 1 Shipped highest 0", "is a word of the readable list itself"),
+    ("block 1 U1 highest 0", "is a word of the readable list itself"),
+    ("block 1 ABc highest 0\nblock 2 AbC highest 0", "'ABc' and 'AbC' do not"),
+    ('block 1 A highest 0\nbody B"C u1 14 rev 0 mark none', "a field's name in the readable list is letters, digits and '_'"),
+    ("block 1 A highest 0\nbody B\\ u1 14 rev 0 mark none", "a field's name in the readable list is letters, digits and '_'"),
+    ("block 1 A highest 0\nbody - u1 14 rev 0 mark none", "a field's name in the readable list is letters, digits and '_'"),
+]
+
+
+def all_of(folder):
+    """Each file below a folder with its bytes."""
+    return {os.path.join(at, name): read(os.path.join(at, name), "rb") for at, _, names in os.walk(folder) for name in names}
+
+
+def changed_rows():
+    """What `rattle` writes of a changed row, what it says, and the names that it refuses."""
+    with tempfile.TemporaryDirectory() as folder:
+        crate, given = os.path.join(folder, "shipped"), os.path.join(folder, "new.table.txt")
+        shutil.copytree(CRATE, crate)
+        before = all_of(crate)
+        for lines, words in NAMES:
+            with open(given, "w", encoding="utf-8") as f:
+                f.write("version 1\n" + lines + "\n")
+            status, out, err = tool("rattle", given, crate)
+            place = "%s: line %d: " % (given, 2 + lines.count("\n"))
+            expect("refused name: %r" % lines, status == 1 and out == "" and place in err and words in err and all_of(crate) == before, err)
+        text = read(TEXT).replace("version 1\n", "version 7\n") + "  body Spare u1 14 rev 0 mark ones\nblock 6000 MyBlock highest 1\n"
+        with open(given, "w", encoding="utf-8") as f:
+            f.write(text)
+        status, out, err = tool("rattle", given, crate)
+        data = make(text, folder)[2]
+        expect("rattle takes a changed row", (status, err) == (0, "") and len(data) == 392, (status, err))
+        expect("the table file beside the text", read(given[:-4], "rb") == data)
+        lib, constant, rows = (read(os.path.join(crate, name)) for name in ("src/lib.rt", "src/bytes.rt", "specs/Rows.antt"))
+        expect("the length of the array that is handed out", "pub fn table() -> [u8; 392]\n" in lib and "380" not in lib)
+        expect("the version in the first line", lib.startswith("// The rows shipped, version 7,"), lib[:80])
+        expect("the constant", "[u8; 392]" in constant and bytes(int(n, 16) for n in re.findall(r"^    0x(..),$", constant, re.M)) == data)
+        expect("the readable list", 'field "Spare" u1 14 0 ones' in rows and "endofatt ∷ myblock ∷ []" in rows and "tableOf 7 (" in rows)
+        expect("an edit that no longer applies is told", "a_number_twice.edit: its line '0xe4,' stands in src/bytes.rt 0 times" in out, out)
+        expect("what is left is told", all(name in out for name in ("tests/model/model.py", "tests/test_table.py", "docs/PROMISES.md", "README.md", "rt check shipped")), out)
+        expect("nothing is left the second time", tool("rattle", given, crate)[1].endswith("nothing has changed\n"))
+
+
 agreement()
 round_trips()
+changed_rows()
 refused_texts()
 refused_files()
 headers()

@@ -6,10 +6,10 @@ use Rattle.crcsum.proofs.all.Statement.{statement}
 use Rattle.crcsum.proofs.all.Tie as tie
 
 abbrev Inv-loop : tie.InvT-loop
-Inv-loop crc₀ turns₀ crc turns = turns ≤ turns₀
+Inv-loop now₀ turns₀ now turns = turns ≤ turns₀
 
 abbrev μ-loop : tie.MeasureT-loop
-μ-loop crc₀ turns₀ crc turns = turns
+μ-loop now₀ turns₀ now turns = turns
 
 loop-holds : tie.Need-loop-holds Inv-loop μ-loop
 loop-holds c = search needs
