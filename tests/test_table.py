@@ -332,7 +332,7 @@ def changed_rows():
         expect("the table file beside the text", read(given[:-4], "rb") == data)
         lib, constant, rows = (read(os.path.join(crate, name)) for name in ("src/lib.rt", "src/bytes.rt", "specs/Rows.antt"))
         expect("the length of the array that is handed out", "pub fn table() -> [u8; 392]\n" in lib and "380" not in lib)
-        expect("the version in the first line", lib.startswith("// The rows shipped, version 7,"), lib[:80])
+        expect("the version in the first line", lib.startswith("// The rows shipped, version 7 "), lib[:80])
         expect("the constant", "[u8; 392]" in constant and bytes(int(n, 16) for n in re.findall(r"^    0x(..),$", constant, re.M)) == data)
         expect("the readable list", 'field "Spare" u1 14 0 ones' in rows and "endofatt ∷ myblock ∷ []" in rows and "tableOf 7 (" in rows)
         expect("an edit that no longer applies is told", "a_number_twice.edit: its line '0xe4,' stands in src/bytes.rt 0 times" in out, out)
