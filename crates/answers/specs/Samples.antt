@@ -89,6 +89,19 @@ abbrev pub nosubs : List ℕ
 nosubs =
     0x24 ∷ 0x40 ∷ 0x8C ∷ 0x8C ∷ 0x02 ∷ 0x00 ∷ 0x10 ∷ 0x00 ∷ 0x00 ∷ 0x00 ∷ 0x00 ∷ 0x00 ∷ 0x00 ∷ 0x00 ∷ 0x00 ∷ 0xFF ∷ []
 
+-- N zero, where the carried sub-field would end past an SBLength of 0, and past one of 1
+abbrev pub noneOfZero : List ℕ
+noneOfZero =
+    0x24 ∷ 0x40 ∷ 0x7C ∷ 0x92 ∷ 0x02 ∷ 0x00 ∷ 0x10 ∷ 0x00 ∷ 0x00 ∷ 0x00 ∷ 0x00 ∷ 0x00 ∷ 0x00 ∷ 0x00 ∷ 0x00 ∷ 0x00 ∷ []
+
+abbrev pub noneOfOne : List ℕ
+noneOfOne =
+    0x24 ∷ 0x40 ∷ 0x5D ∷ 0x82 ∷ 0x02 ∷ 0x00 ∷ 0x10 ∷ 0x00 ∷ 0x00 ∷ 0x00 ∷ 0x00 ∷ 0x00 ∷ 0x00 ∷ 0x00 ∷ 0x00 ∷ 0x01 ∷ []
+
+-- L = 12 ends before N and SBLength, and before 16, where sub-blocks begin: both 7 and 8 hold
+abbrev pub countless : List ℕ
+countless = 0x24 ∷ 0x40 ∷ 0x45 ∷ 0x84 ∷ 0x02 ∷ 0x00 ∷ 0x0C ∷ 0x00 ∷ 0x00 ∷ 0x00 ∷ 0x00 ∷ 0x00 ∷ []
+
 -- N 5, SBLength 0, with a carried sub-field
 abbrev pub flat : List ℕ
 flat =
@@ -181,9 +194,19 @@ recordCases =
     ∷ case (ofBody narrow 0) (says (fieldRefused 8))
     ∷ case (ofBytes narrow 0) (partSaid [] (some 8))
     ∷ case (ofSub overlong 0 0) (says (fieldRefused 8))
+    -- R20: 7 comes before 8
+    ∷ case (ofBody countless 0) (says (fieldRefused 7))
+    ∷ case (ofSub countless 0 0) (says (fieldRefused 7))
+    ∷ case (ofBytes countless 0) (partSaid [] (some 7))
     -- T18, R8: N zero, and SBLength zero
     ∷ case (ofBody nosubs 1) (says (unsigned 255))
     ∷ case (ofSub nosubs 0 0) (says (fieldRefused 9))
+    ∷ case (ofBody noneOfZero 1) (says (unsigned 0))
+    ∷ case (ofSub noneOfZero 0 0) (says (fieldRefused 9))
+    ∷ case (ofBytes noneOfZero 0) (partSaid [] (some 9))
+    ∷ case (ofBody noneOfOne 1) (says (unsigned 1))
+    ∷ case (ofSub noneOfOne 0 0) (says (fieldRefused 9))
+    ∷ case (ofBytes noneOfOne 0) (partSaid [] (some 9))
     ∷ case (ofBytes flat 0) (partSaid [] (some 8))
     ∷ case (ofBytes hollow 4) (partSaid [] none)
     ∷ case (ofSub hollow 4 0) (says notInRevision)

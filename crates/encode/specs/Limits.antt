@@ -2,18 +2,21 @@
 -- them, computed from the definitions.
 -- Assumes nothing.
 use mathlib.Core.Bool.{Bool, true, false}
-use mathlib.Core.List.{List, [], _∷_, _++_, map}
+use mathlib.Core.List.{List, [], _∷_, _++_, map, flatMap}
+use mathlib.Core.Option.{Option, none, some}
 use mathlib.Core.Path.{_≡_}
-use Prim.Native.Nat.{ℕ}
+use Prim.Native.Nat.{ℕ, _+_}
 use Prim.Native.String.{String}
 use lib.ListN.{set, take, drop}
 use Rattle.crc.specs.Crc.{crcOf}
-use Rattle.kinds.specs.Types.{u1, u2, u4, u8, i1, i8, f4, f8}
-use Rattle.kinds.specs.Marks.{unmarked, ones, zeroes, minus2e10, least}
+use Rattle.kinds.specs.Types.{u1, u2, u4, u8, i1, i8, f8}
+use Rattle.kinds.specs.Marks.{unmarked, ones, least}
+use Rattle.kinds.specs.Grid.{GridRow, marksTried, grid}
 use Rattle.rows.specs.declared.FieldRow.{FieldRow}
 use Rattle.table.specs.Rows.{BlockRow, Table}
 use Rattle.encode.specs.Encode.{u2Bytes, unsealed, encode}
-use Rattle.table.specs.Rules.{tableOk}
+use Rattle.table.specs.Decode.{decode}
+use Rattle.table.specs.Rules.{meaningOk, tableOk}
 use Rattle.rows.specs.Places.{fieldRow}
 
 pub record LimitCase : Type 0 where
@@ -63,8 +66,6 @@ abbrev fields : List LimitCase
 fields =
     bad "a body offset of 13" (withBody (fieldRow 13 u1 0 unmarked ∷ []))
     ∷ ok "a body offset of 255" (withBody (fieldRow 255 f8 0 unmarked ∷ []))
-    ∷ ok "a field where the previous one ends" (withBody (fieldRow 14 u2 0 unmarked ∷ fieldRow 16 u1 0 unmarked ∷ []))
-    ∷ bad "a field before the previous one ends" (withBody (fieldRow 14 u2 0 unmarked ∷ fieldRow 15 u1 0 unmarked ∷ []))
     ∷ ok "a gap" (withBody (fieldRow 20 u2 0 unmarked ∷ fieldRow 30 u1 0 unmarked ∷ []))
     ∷ ok "first revisions rising to the highest" (withBody (fieldRow 14 u1 0 unmarked ∷ fieldRow 15 u1 3 unmarked ∷ fieldRow 16 u1 3 unmarked ∷ []))
     ∷ bad "a first revision above the highest" (withBody (fieldRow 14 u1 4 unmarked ∷ []))
@@ -81,23 +82,24 @@ fields =
     ∷ bad "SBLength from revision 1" (blockRow 1 1 (fieldRow 14 u1 0 unmarked ∷ fieldRow 15 u1 1 unmarked ∷ []) (fieldRow 0 u1 0 unmarked ∷ []) ∷ [])
     ∷ []
 
-abbrev markCases : List LimitCase
-markCases =
+abbrev types : List LimitCase
+types =
     bad "type 0" (bears 0 unmarked)
-    ∷ ok "type 10" (bears f8 unmarked)
     ∷ bad "type 11" (bears 11 unmarked)
-    ∷ ok "mark 1 on u8" (bears u8 ones)
-    ∷ ok "mark 2 on u1" (bears u1 zeroes)
-    ∷ ok "mark 3 on f4" (bears f4 minus2e10)
-    ∷ ok "mark 4 on i1" (bears i1 least)
-    ∷ ok "mark 4 on i8" (bears i8 least)
-    ∷ bad "mark 1 on i1" (bears i1 ones)
-    ∷ bad "mark 2 on f8" (bears f8 zeroes)
-    ∷ bad "mark 3 on i8" (bears i8 minus2e10)
-    ∷ bad "mark 3 on u8" (bears u8 minus2e10)
-    ∷ bad "mark 4 on u8" (bears u8 least)
-    ∷ bad "mark 4 on f4" (bears f4 least)
-    ∷ bad "mark 5 on u2" (bears u2 5)
+    ∷ ok "a mark that the type may bear" (bears i8 least)
+    ∷ bad "a mark that it may not bear" (bears u8 least)
+    ∷ bad "a mark that is none" (bears u8 5)
+    ∷ []
+
+-- a field of the type at 14, and the next one here
+abbrev followed : ℕ → ℕ → List BlockRow
+followed kind next = withBody (fieldRow 14 kind 0 unmarked ∷ fieldRow next u1 0 unmarked ∷ [])
+
+-- a type of the grid, by its size
+abbrev sizeCases : GridRow → List LimitCase
+sizeCases r =
+    ok "a field where the previous one ends" (followed (r .kind) (14 + r .size))
+    ∷ bad "a field a byte before the previous one ends" (followed (r .kind) (13 + r .size))
     ∷ []
 
 -- bytes before the CRC, closed with the right one
@@ -132,7 +134,24 @@ files =
     ∷ []
 
 abbrev pub limitCases : List LimitCase
-limitCases = rows ++ (fields ++ (markCases ++ files))
+limitCases = rows ++ (fields ++ (types ++ (flatMap sizeCases grid ++ files)))
 
 abbrev pub LimitsHold : Type 0
 LimitsHold = map (λ (c : LimitCase). tableOk (c .bytes)) limitCases ≡ map (λ (c : LimitCase). c .passes) limitCases
+
+-- The marks of the grid, each in a table of its own. The rules on form name no mark, so these are held against those on meaning.
+
+-- T15: of a type, whether a table with each mark passes
+abbrev marksPass : GridRow → List Bool
+marksPass r = map (λ (mark : ℕ). meaningOk (decode (encode (tableWith (bears (r .kind) mark))))) marksTried
+
+-- V3: whether the type may bear the mark, by the grid's cell
+abbrev borne : Option (List ℕ) → Bool
+borne none = false
+borne (some bits) = true
+
+abbrev marksBorne : GridRow → List Bool
+marksBorne r = map borne (r .cells)
+
+abbrev pub MarksHold : Type 0
+MarksHold = map marksPass grid ≡ map marksBorne grid

@@ -4,6 +4,7 @@ ghost use mathlib.Core.Path.{_≡_};
 ghost use Prim.Native.Nat.{_≤_};
 ghost use Rattle.kinds.specs.Types.{sizeOf};
 ghost use Rattle.kinds.specs.Marks.{markFits, isDoNotUse, UnsetIsTold};
+ghost use Rattle.kinds.specs.Grid.{GridHolds};
 
 // D7: entry k is the size of type k + 1. Table check and field reader look sizes up here.
 const SIZES: [usize; 10] = [1, 2, 4, 8, 1, 2, 4, 8, 4, 8];
@@ -85,4 +86,9 @@ pub fn is_do_not_use(mark: u8, kind: u8, x: u64) -> bool
 // What an unset field is written with reads as Do-Not-Use.
 pub fn unset_is_told()
     ensures { λ _. ⌜ UnsetIsTold ⌝ }
+{}
+
+// Of each type: its size, the marks that it may bear, and which bits are then Do-Not-Use.
+pub fn grid_holds()
+    ensures { λ _. ⌜ GridHolds ⌝ }
 {}

@@ -1,4 +1,5 @@
 -- `encode::limits_hold`: antt computes both sides. Assumes nothing.
+use mathlib.Core.List.{flatMap}
 use mathlib.Core.Path.{refl}
 use Rattle.crc.specs.Crc.{crcBit, crcBits8, crcByte, crcFrom, crcOf}
 use Rattle.wire.specs.Little.{littleAt}
@@ -13,7 +14,7 @@ use Rattle.encode.proofs.limits_hold.Statement.{statement}
 use Rattle.encode.proofs.limits_hold.Tie as tie
 
 returns : tie.Need-returns
-unfolding crcBit crcBits8 crcByte crcFrom crcOf littleAt tabulate every chain neighbours sizeOf markFits fieldAt rowFrom rowAt rowsOf blockOf decode u2Bytes fieldBytes fieldsPart rowsPart unsealed encode fileOk indexOk usedFields formOk risingOk isPair fieldsOk blockOk meaningOk tableOk
+unfolding flatMap crcBit crcBits8 crcByte crcFrom crcOf littleAt tabulate every chain neighbours sizeOf markFits fieldAt rowFrom rowAt rowsOf blockOf decode u2Bytes fieldBytes fieldsPart rowsPart unsealed encode fileOk indexOk usedFields formOk risingOk isPair fieldsOk blockOk meaningOk tableOk
 returns c = refl
 
 pub limits-hold-spec : {M : Type 1} → statement M
