@@ -4,8 +4,9 @@
  *
  * WORDS. A run is the bytes from an open to END; a piece is what one feed is given of it, cut anywhere. A block has a number,
  * which says what it is, and a revision, which grows as fields are added to it. A table has a row for each block number: where
- * its fields stand, their types, from which revision on, and which values mean that there is none. Body fields stand once in a
- * block; a sub-block repeats its fields.
+ * its fields stand, their types, from which revision on, and which values mean that there is none. A block of a later revision
+ * than its row knows is read by the fields that the row has, and not refused. Body fields stand once in a block; a sub-block
+ * repeats its fields.
  *
  * CALLS IN ORDER. alderflute_new once; stage a table; open a run; feed it, and after each BLOCK ask for its bytes and fields;
  * finish until END. Then open the next run. Stage and withdraw may come at any time: a staged table waits for the next open.
@@ -14,21 +15,28 @@
  * alderflute.pc in place, and then `cc .. $(pkg-config --cflags --libs alderflute)` links. The archive is position-independent
  * code for x86-64 Linux and the System V ABI, about 14 kB with its constants. Of a C library it wants memmove and nothing
  * else, so it links into a freestanding program that has one. It allocates nothing, keeps no variables, calls nothing back and
- * starts no threads. It uses the SSE registers and the red zone below the stack pointer. This header includes stddef.h and
- * stdint.h only. At the start compare alderflute_abi() with ALDERFLUTE_ABI, as the example does: where they differ, header and
- * archive do not belong together.
+ * starts no threads. This header includes stddef.h and stdint.h only. At the start compare alderflute_abi() with
+ * ALDERFLUTE_ABI, as the example does: where they differ, header and archive do not belong together.
+ *
+ * BARE METAL. The archive uses the SSE registers: switch SSE on before the first call, and let interrupt handlers that use it
+ * save and restore these registers. It uses the red zone, 128 bytes below the stack pointer: an interrupt must not push onto
+ * the stack of the call that it interrupts. Give interrupts another stack, by the processor's interrupt stack table.
  *
  * THREADS. Calls of one reader come one after the other, also where they are lent different buffers. Feed and stage, say, both
  * return the next state: of two that begin with the same state, what the one did is lost. Where threads share a reader, one
- * lock goes around each call and the keeping of its state. Calls of different readers may run at the same time.
+ * lock goes around each call and the keeping of its state. From BLOCK on it is held until the last use of that block's bytes,
+ * or until they are copied: they stand in the hold, where another thread's feed writes. An interrupt handler counts as a
+ * thread, and cannot wait for a lock: switch it off meanwhile, or let it queue bytes and make no calls. Calls of different
+ * readers may run at the same time.
  *
- * STATE. A reader is an alderflute_state and its three buffers. alderflute_new() is the only start; a struct of zeros is none:
- * a later version refuses it. The state goes into every call by value. A call that returns an alderflute_reply returns the
- * next state in it: go on with that one, and with no older one. The others (bytes, body, sub, subbytes, tow, wnc) change
- * nothing. The struct has no pointers: keep it where you like, move or save it with the buffers, but write nothing into it.
- * Of made-up states refusal 1 finds those that its line below names, and no others. Any other is taken at its word: five held
- * bytes are a standing block where the state says so, places and the counts of END come from the state, and a count that was
- * close to its bound may pass it, which the next call refuses. But no call reads or writes past the buffers given.
+ * STATE. A reader is an alderflute_state and its three buffers. alderflute_new() is the only start. Never start with a struct
+ * of zeros: today it happens to be the same, but a later version will refuse it (there the state has a ceiling for block
+ * lengths, request M-103, and 0 is none). The state goes into every call by value. A call that returns an alderflute_reply
+ * returns the next state in it: go on with that one, and with no older one. The others (bytes, body, sub, subbytes, tow, wnc)
+ * change nothing. The struct has no pointers: keep it where you like, move or save it with the buffers, but write nothing into
+ * it. Of made-up states refusal 1 finds those that its line below names, and no others. Any other is taken at its word: five
+ * held bytes are a standing block where the state says so, places and the counts of END come from the state, and a count that
+ * was close to its bound may pass it, which the next call refuses. But no call reads or writes past the buffers given.
  *
  * BUFFERS. You own every buffer; a call borrows it until it returns, and no pointer is kept after that. Three buffers belong
  * to one reader from alderflute_new on, and between calls nobody else may write to them:
@@ -48,7 +56,9 @@
  *
  * ANSWERS. refusal is 0 where the call was done, else the number of the refusal; kind says which values are set. All other
  * values are 0. A refused call returns the state that it was given and has written nothing: go on as if it had not been made. A
- * block that stood before a refused feed stands after it. The same arguments and bytes give the same answer.
+ * block that stood before a refused feed stands after it. The same arguments and bytes give the same answer, member by member:
+ * alderflute_answer, alderflute_block and alderflute_part have padding, of which nothing is promised, so compare members and
+ * not memory.
  *
  * REFUSALS. The numbers have names, ALDERFLUTE_REFUSAL_.., and alderflute_refusal_text gives a line for a log.
  *    1  BAD_BUFFER. A buffer of the reader is shorter than above, or a number in the state is out of bounds: phase is above
@@ -109,12 +119,14 @@
  *     {
  *         alderflute_part part = alderflute_bytes(state, hold, sizeof hold);
  *         const uint8_t *block = hold + part.offset;
- *         alderflute_field tow = alderflute_tow(state, block, part.length), heading = {0};
- *         if (b.number == ALDERFLUTE_ATTEULER)
- *             heading = alderflute_body(state, in_force, sizeof in_force, block, part.length, ALDERFLUTE_ATTEULER_HEADING);
+ *         alderflute_field tow = alderflute_tow(state, block, part.length);
  *         printf("block %llu %u %u %llu", (unsigned long long)b.place, b.number, b.revision, (unsigned long long)b.length);
  *         if (tow.kind == ALDERFLUTE_UNSIGNED) printf(" tow %llu", (unsigned long long)tow.number);
- *         if (heading.kind == ALDERFLUTE_SINGLE) printf(" heading %.3f", degrees(heading.bits));
+ *         if (b.number == ALDERFLUTE_ATTEULER) {
+ *             alderflute_field heading =
+ *                 alderflute_body(state, in_force, sizeof in_force, block, part.length, ALDERFLUTE_ATTEULER_HEADING);
+ *             if (heading.kind == ALDERFLUTE_SINGLE) printf(" heading %.3f", degrees(heading.bits));
+ *         }
  *         printf("\n");
  *     }
  *
@@ -128,6 +140,16 @@
  *             at += r.answer.taken;
  *             if (r.answer.kind == ALDERFLUTE_BLOCK) show(r.state, r.answer.block);
  *         } while (r.answer.kind == ALDERFLUTE_BLOCK || (r.answer.refusal == 0 && at < n));
+ *         return r;
+ *     }
+ *
+ *     // No more bytes come: the blocks that are still held, then END.
+ *     static alderflute_reply finish_all(alderflute_reply r)
+ *     {
+ *         do {
+ *             r = alderflute_finish(r.state, hold, sizeof hold);
+ *             if (r.answer.kind == ALDERFLUTE_BLOCK) show(r.state, r.answer.block);
+ *         } while (r.answer.kind == ALDERFLUTE_BLOCK);
  *         return r;
  *     }
  *
@@ -147,17 +169,22 @@
  *             fprintf(stderr, "example: cannot read standard input\n");
  *             return 2;
  *         }
- *         while (r.answer.refusal == 0 && r.answer.kind != ALDERFLUTE_END) {
- *             r = alderflute_finish(r.state, hold, sizeof hold);
- *             if (r.answer.kind == ALDERFLUTE_BLOCK) show(r.state, r.answer.block);
+ *         uint32_t refusal = r.answer.refusal;
+ *         if (refusal == 0 || refusal == ALDERFLUTE_REFUSAL_RUN_FULL) r = finish_all(r); // a full run may hold blocks too
+ *         if (r.answer.kind == ALDERFLUTE_END)
+ *             printf("end %llu %llu %llu\n", (unsigned long long)r.answer.end.bytes, (unsigned long long)r.answer.end.blocks,
+ *                    (unsigned long long)r.answer.end.skipped);
+ *         else if (refusal == 0)
+ *             refusal = r.answer.refusal;
+ *         if (fflush(stdout) != 0 || ferror(stdout)) {
+ *             fprintf(stderr, "example: cannot write standard output\n");
+ *             return 2;
  *         }
- *         if (r.answer.refusal != 0) {
- *             fprintf(stderr, "example: refused: %s\n", alderflute_refusal_text(r.answer.refusal));
+ *         if (refusal != 0) {
+ *             fprintf(stderr, "example: refused: %s\n", alderflute_refusal_text(refusal));
  *             return 1;
  *         }
- *         printf("end %llu %llu %llu\n", (unsigned long long)r.answer.end.bytes, (unsigned long long)r.answer.end.blocks,
- *                (unsigned long long)r.answer.end.skipped);
- *         return fflush(stdout) == 0 ? 0 : 2;
+ *         return 0;
  *     }
  */
 #ifndef ALDERFLUTE_H
@@ -184,7 +211,7 @@ extern "C" {
 
 /* Kinds of an alderflute_answer. */
 #define ALDERFLUTE_REFUSED 0       /* refusal: the number; also the kind of a refused alderflute_field */
-#define ALDERFLUTE_TABLE_VERSION 1 /* version: of the table that open brought in force, or that stage took */
+#define ALDERFLUTE_TABLE_VERSION 1 /* version: of the table in force after open, or that stage took */
 #define ALDERFLUTE_BLOCK 2         /* block; from feed also taken */
 #define ALDERFLUTE_MORE 3          /* taken: no block is decided yet */
 #define ALDERFLUTE_END 4           /* end: the run is closed */
@@ -285,14 +312,14 @@ alderflute_reply alderflute_open(alderflute_state state, uint8_t *in_force, size
                                  size_t waiting_length);
 
 /* Drops the block last reported and takes bytes of the piece, up to a block that they end, up to the end of the piece, or up
-   to 4,294,967,295 bytes in the run. BLOCK or MORE, each with taken. After BLOCK call again with the rest of the piece, which
-   may be empty, until MORE or a refusal. MORE with less than the piece taken: the run is full, and the next feed that is not
-   empty is refused with 3. */
+   to 4,294,967,295 bytes in the run. BLOCK or MORE, each with taken. BLOCK with taken 0 is usual: that block was held
+   already. After BLOCK call again with the rest of the piece, which may be empty, until MORE or a refusal. MORE with less than
+   the piece taken: the run is full, and the next feed that is not empty is refused with 3. Finish it then: it may hold
+   blocks. */
 alderflute_reply alderflute_feed(alderflute_state state, uint8_t *hold, size_t hold_length, const uint8_t *piece,
                                  size_t piece_length);
 
-/* No more bytes come. Drops the block last reported. BLOCK, or END, which closes the run. Call it until
-   END or a refusal. */
+/* No more bytes come. Drops the block last reported. BLOCK, or END, which closes the run. Call it until END or a refusal. */
 alderflute_reply alderflute_finish(alderflute_state state, uint8_t *hold, size_t hold_length);
 
 /* The block last reported, as a part of the hold; a part of length 0 where none stands. */
@@ -312,7 +339,8 @@ alderflute_reply alderflute_withdraw(alderflute_state state);
 alderflute_field alderflute_body(alderflute_state state, const uint8_t *in_force, size_t in_force_length, const uint8_t *block,
                                  size_t block_length, size_t field);
 
-/* A field of a sub-block, by two numbers from 0. */
+/* A field of a sub-block, by two numbers from 0. Body fields 0 and 1 of such a block are N and SBLength: how many sub-blocks
+   it has, and how many bytes each. */
 alderflute_field alderflute_sub(alderflute_state state, const uint8_t *in_force, size_t in_force_length, const uint8_t *block,
                                 size_t block_length, size_t sub_block, size_t field);
 
@@ -341,7 +369,7 @@ static inline const char *alderflute_refusal_text(uint32_t refusal)
     case ALDERFLUTE_REFUSAL_BAD_SUB_BLOCKS: return "the sub-blocks do not fit their row or their block: pass it by";
     case ALDERFLUTE_REFUSAL_NO_SUCH_FIELD: return "no such field or sub-block: see the table, and the block's N";
     case ALDERFLUTE_REFUSAL_NOT_ONE_FRAME: return "no whole block: give the part that alderflute_bytes hands back";
-    default: return "a refusal that this header does not know: header and archive do not belong together";
+    default: return "a refusal that this header does not know: the archive is newer";
     }
 }
 

@@ -20,12 +20,14 @@ static void show(alderflute_state state, alderflute_block b)
 {
     alderflute_part part = alderflute_bytes(state, hold, sizeof hold);
     const uint8_t *block = hold + part.offset;
-    alderflute_field tow = alderflute_tow(state, block, part.length), heading = {0};
-    if (b.number == ALDERFLUTE_ATTEULER)
-        heading = alderflute_body(state, in_force, sizeof in_force, block, part.length, ALDERFLUTE_ATTEULER_HEADING);
+    alderflute_field tow = alderflute_tow(state, block, part.length);
     printf("block %llu %u %u %llu", (unsigned long long)b.place, b.number, b.revision, (unsigned long long)b.length);
     if (tow.kind == ALDERFLUTE_UNSIGNED) printf(" tow %llu", (unsigned long long)tow.number);
-    if (heading.kind == ALDERFLUTE_SINGLE) printf(" heading %.3f", degrees(heading.bits));
+    if (b.number == ALDERFLUTE_ATTEULER) {
+        alderflute_field heading =
+            alderflute_body(state, in_force, sizeof in_force, block, part.length, ALDERFLUTE_ATTEULER_HEADING);
+        if (heading.kind == ALDERFLUTE_SINGLE) printf(" heading %.3f", degrees(heading.bits));
+    }
     printf("\n");
 }
 
@@ -39,6 +41,16 @@ static alderflute_reply feed_all(alderflute_reply r, const uint8_t *piece, size_
         at += r.answer.taken;
         if (r.answer.kind == ALDERFLUTE_BLOCK) show(r.state, r.answer.block);
     } while (r.answer.kind == ALDERFLUTE_BLOCK || (r.answer.refusal == 0 && at < n));
+    return r;
+}
+
+// No more bytes come: the blocks that are still held, then END.
+static alderflute_reply finish_all(alderflute_reply r)
+{
+    do {
+        r = alderflute_finish(r.state, hold, sizeof hold);
+        if (r.answer.kind == ALDERFLUTE_BLOCK) show(r.state, r.answer.block);
+    } while (r.answer.kind == ALDERFLUTE_BLOCK);
     return r;
 }
 
@@ -58,15 +70,20 @@ int main(void)
         fprintf(stderr, "example: cannot read standard input\n");
         return 2;
     }
-    while (r.answer.refusal == 0 && r.answer.kind != ALDERFLUTE_END) {
-        r = alderflute_finish(r.state, hold, sizeof hold);
-        if (r.answer.kind == ALDERFLUTE_BLOCK) show(r.state, r.answer.block);
+    uint32_t refusal = r.answer.refusal;
+    if (refusal == 0 || refusal == ALDERFLUTE_REFUSAL_RUN_FULL) r = finish_all(r); // a full run may hold blocks too
+    if (r.answer.kind == ALDERFLUTE_END)
+        printf("end %llu %llu %llu\n", (unsigned long long)r.answer.end.bytes, (unsigned long long)r.answer.end.blocks,
+               (unsigned long long)r.answer.end.skipped);
+    else if (refusal == 0)
+        refusal = r.answer.refusal;
+    if (fflush(stdout) != 0 || ferror(stdout)) {
+        fprintf(stderr, "example: cannot write standard output\n");
+        return 2;
     }
-    if (r.answer.refusal != 0) {
-        fprintf(stderr, "example: refused: %s\n", alderflute_refusal_text(r.answer.refusal));
+    if (refusal != 0) {
+        fprintf(stderr, "example: refused: %s\n", alderflute_refusal_text(refusal));
         return 1;
     }
-    printf("end %llu %llu %llu\n", (unsigned long long)r.answer.end.bytes, (unsigned long long)r.answer.end.blocks,
-           (unsigned long long)r.answer.end.skipped);
-    return fflush(stdout) == 0 ? 0 : 2;
+    return 0;
 }

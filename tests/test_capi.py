@@ -190,7 +190,7 @@ def build(env):
     if not expect("tools/capi builds the archive", status == 0 and os.path.exists(ARCHIVE), error.decode(errors="replace")[-2000:]):
         return False
     os.makedirs(BUILT, exist_ok=True)
-    for source in [EXAMPLE] + [os.path.join(TOP, "tests", "capi", name + ".c") for name in ("play", "odd", "stack")]:
+    for source in [EXAMPLE] + [os.path.join(TOP, "tests", "capi", name + ".c") for name in ("play", "odd", "stack", "full")]:
         if not compiled(env, source, os.path.join(BUILT, os.path.basename(source)[:-2]), CFLAGS, [ARCHIVE]):
             return False
     return True
@@ -222,6 +222,8 @@ def header(env):
     for language, standard in [("c", "c11"), ("c++", "c++11")]:
         said = syntax(env, os.path.join(TOP, "tests", "capi", "sizes.c"), language, standard)
         expect(f"the structs' sizes in {standard}", said == "", said)
+        said = syntax(env, EXAMPLE, language, standard)
+        expect(f"the example is {standard}", said == "", said)
     text = read(HEADER)
     shown = "".join(line[7:] + "\n" for line in text.split("EXAMPLE")[1].split("\n */")[0].split("\n")[2:])
     expect("the header's example is samples/example.c", shown == read(EXAMPLE))
@@ -359,6 +361,15 @@ def example(env):
     expect("the example lists the flight line", (status, out, error) == (0, listed(), b""), out[-300:])
     status, out, error = ran([os.path.join(TOP, "tools", "x86run"), os.path.join(BUILT, "example")], env, b"")
     expect("the example lists an empty run", (status, out, error) == (0, b"end 0 0 0\n", b""), out[-300:])
+    # S7's bytes fill the run; the block behind the false header is reported by finish only
+    held_back = bytes.fromhex("2440000000001400" "2440a98900000800") + bytes(4)
+    status, out, error = ran([os.path.join(TOP, "tools", "x86run"), os.path.join(BUILT, "full")], env, held_back)
+    want = b"block 4294967287 0 0 8\nend 4294967295 1 8\n"
+    expect("the example finishes a full run, and tells", (status, out) == (1, want) and b"the run is full" in error, out + error)
+    with open("/dev/full", "wb") as nowhere:
+        run = subprocess.run([os.path.join(TOP, "tools", "x86run"), os.path.join(BUILT, "example")], input=flight(), env=env,
+                             stdout=nowhere, stderr=subprocess.PIPE, timeout=600)
+    expect("the example tells that it cannot write", run.returncode == 2 and b"cannot write" in run.stderr, run.stderr)
 
 
 def odd(env):

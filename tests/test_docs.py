@@ -1,6 +1,6 @@
 #!/usr/bin/env python3
 """The documents name what is there: each path, link, function and theorem, each definition beside its file, each wrong program,
-the crates, and the lines of a listing. Prints 'N passed, M failed' last; exit status 1 where one failed."""
+the crates, and the lines of a listing; README counts the wrong programs. Prints 'N passed, M failed' last; exit status 1 where one failed."""
 import glob
 import os
 import re
@@ -101,22 +101,38 @@ def definitions(document, text):
 
 def wrong_programs():
     """Each edit stands in WRONG-PROGRAMS.md, and each that stands there is an edit."""
-    edits = {f"{name.split(os.sep)[-3]}/{os.path.basename(name)[:-5]}"
-             for kind in ("must-fail", "wrong") for name in glob.glob(os.path.join(TOP, "crates", "*", kind, "*.edit"))}
+    edits = {f"{name.split(os.sep)[-3]}/{os.path.basename(name)[:-5]}" for name in edits_of("*")}
     listed = {word for word in re.findall(r"`(\w+/\w+)`", read("docs/WRONG-PROGRAMS.md")) if word.split("/")[0] in CRATES}
     for edit in sorted(edits | listed):
         CASES.expect(f"docs/WRONG-PROGRAMS.md: {edit}", edit in listed, "the edit is not listed")
         CASES.expect(f"docs/WRONG-PROGRAMS.md: {edit}", edit in edits, "there is no such edit")
 
 
+def edits_of(crate):
+    """The wrong programs of a crate; of all crates by `*`."""
+    return [name for kind in ("must-fail", "wrong") for name in glob.glob(os.path.join(TOP, "crates", crate, kind, "*.edit"))]
+
+
+def counted():
+    """README counts the wrong programs: all of them, and in its table of crates those of each."""
+    count = len(edits_of("*"))
+    CASES.expect("README.md: the number of wrong programs", f"- {count} wrong programs" in read("README.md"), f"there are {count}")
+    rows = [[cell.strip() for cell in line.split("|")] for line in read("README.md").splitlines() if line.startswith("|")]
+    heading = next((row for row in rows if row[1] == "crate"), None)
+    if CASES.expect("README.md: the table of crates", heading and "wrong programs" in heading, "it has no column 'wrong programs'"):
+        column = heading.index("wrong programs")
+        told = {row[1]: row[column] for row in rows[rows.index(heading) + 2:] if len(row) == len(heading)}
+        for crate in CRATES:
+            count = str(len(edits_of(crate)))
+            CASES.expect(f"README.md: the wrong programs of {crate}", told.get(f"`{crate}`") == count, f"there are {count}")
+
+
 def in_must_fail():
-    """must-fail/ has those wrong programs that decision 78 names, and README counts all."""
+    """must-fail/ has those wrong programs that decision 78 names."""
     named = set(re.findall(r"`(\w+/\w+)`", re.search(r"\*\*78\. .*", read("docs/DECISIONS.md"))[0]))
     found = {f"{name.split(os.sep)[-3]}/{os.path.basename(name)[:-5]}" for name in glob.glob(os.path.join(TOP, "crates", "*", "must-fail", "*.edit"))}
     for edit in sorted(named | found):
         CASES.expect(f"docs/DECISIONS.md, 78: {edit}", edit in named and edit in found, "it stands in must-fail/ or in the text alone")
-    edits = glob.glob(os.path.join(TOP, "crates", "*", "must-fail", "*.edit")) + glob.glob(os.path.join(TOP, "crates", "*", "wrong", "*.edit"))
-    CASES.expect("README.md: the number of wrong programs", f"- {len(edits)} wrong programs" in read("README.md"), f"there are {len(edits)}")
 
 
 for document in DOCUMENTS:
@@ -128,6 +144,7 @@ for document in DOCUMENTS:
     definitions(document, text)
 wrong_programs()
 in_must_fail()
+counted()
 listing()
 for crate in CRATES:
     CASES.expect(f"README.md: the crate {crate}", f"| `{crate}` |" in read("README.md"), "its table of crates has no row for it")
