@@ -155,7 +155,7 @@ def listed(stand):
         ("a write that fails", "echo 'lister: cannot write to standard output' >&2", "cannot be written"),
         ("rows that are refused", "echo 'lister: the rows shipped are refused; mend them' >&2", "the rows shipped are refused"),
         ("a status", "echo 'end 8 0 0'; exit 3", "ended with status 3"),
-        ("a signal", "kill -9 $$", "ended with status -9"),
+        ("a signal", "kill -9 $$", "ended with status 137"),
     ]:
         stand.program("lister", script + "\n")
         one_line("list: " + name, stand.run("list", "run.sbf"), "list", "run.sbf", words)
@@ -269,6 +269,7 @@ def proving(stand):
     expect("quiet shows what fails, with its status", (status, out, err) == (5, b"", "out\nerr\n"), (status, err))
     expect("quiet is quiet", stand.run("quiet", "sh", "-c", "echo out; echo err >&2") == (0, b"", ""))
     expect("rt's status", stand.run("rt", "check")[0] == 1)
+    expect("quiet: a signal, as a shell tells it", stand.run("quiet", "sh", "-c", "kill -9 $$") == (137, b"", ""))
     os.remove(stand.at("says"))
     env = dict(stand.env, PATH="/usr/bin:/bin")
     if not shutil.which("rt", path=env["PATH"]):
