@@ -297,6 +297,7 @@ NAMES = [
     ("block 1 Gr\u00f6\u00dfe highest 0", "a block's name in the readable list is letters and digits"),
     ("block 1 Let highest 0", "is a word of the readable list itself"),
     ("block 1 Block highest 0", "is a word of the readable list itself"),
+    ("block 1 Mathlib highest 0", "is a word of the readable list itself"),
     ("block 1 Shipped highest 0", "is a word of the readable list itself"),
     ("block 1 U1 highest 0", "is a word of the readable list itself"),
     ("block 1 ABc highest 0\nblock 2 AbC highest 0", "'ABc' and 'AbC' do not"),

@@ -51,6 +51,16 @@ def write(path, text):
         os.chmod(path, 0o755)
 
 
+def ended(ran, data=None):
+    """Status, standard output and standard error of what was started."""
+    try:
+        out, err = ran.communicate(data, timeout=20)
+    except subprocess.TimeoutExpired:
+        ran.kill()
+        return "no end after 20 s", b"", ""
+    return ran.returncode, out, (err or b"").decode(errors="replace")
+
+
 class Stand:
     """A copy of tools/ in a repository of its own, with a stand-in for rt on the path."""
 
@@ -89,16 +99,10 @@ class Stand:
         return subprocess.Popen([os.path.join(how.pop("top", self.folder), "tools", tool), *words], **how)
 
     def run(self, tool, *words, data=None, **how):
-        """Status, standard output and standard error."""
         if data is not None:
             how["stdin"] = subprocess.PIPE
         with self.start(tool, *words, **how) as ran:
-            try:
-                out, err = ran.communicate(data, timeout=20)
-            except subprocess.TimeoutExpired:
-                ran.kill()
-                return "no end after 20 s", b"", ""
-        return ran.returncode, out, err.decode(errors="replace")
+            return ended(ran, data)
 
 
 def one_line(name, said, tool, file, words):
@@ -121,7 +125,8 @@ def helps(stand):
         expect(f"tools/{name}, called wrongly", (status, out) == (2, b"") and err.startswith(f"usage: tools/{name}"), (status, out, err))
     for name in ("tests/run", "tests/wrong", ".ci/run", "bench/crc", "bench/framer", "bench/lister"):
         with subprocess.Popen([os.path.join(TOP, name), "--help"], stdout=subprocess.PIPE, env=stand.env, cwd="/") as ran:
-            expect(f"{name} --help", ran.communicate()[0] and ran.returncode == 0, ran.returncode)
+            said = ended(ran)
+        expect(f"{name} --help", said[0] == 0 and said[1], said)
     for head in sorted(os.listdir(os.path.join(TOP, "tools"))):
         if os.path.isfile(os.path.join(TOP, "tools", head)):
             first = read(os.path.join(TOP, "tools", head), "r").splitlines()[:2]
@@ -140,7 +145,7 @@ def listed(stand):
     expect("from another folder", stand.run("list", "../run.sbf", cwd=stand.at("tmp")) == whole)
     os.symlink(stand.at("tools/list"), stand.at("bin/lists"))
     with subprocess.Popen([stand.at("bin/lists"), "run.sbf"], stdout=subprocess.PIPE, env=stand.env, cwd=stand.folder) as ran:
-        expect("through a link", ran.communicate()[0] == whole[1])
+        expect("through a link", ended(ran) == whole)
     for name, script, words in [
         ("no last line", "echo 'block 0 0 0 8'", "no last line 'end ..'"),
         ("a last line that is cut", "printf 'block 0 0 0 8\\nend 8 1'", "no last line 'end ..'"),
@@ -150,7 +155,7 @@ def listed(stand):
         ("a write that fails", "echo 'lister: cannot write to standard output' >&2", "cannot be written"),
         ("rows that are refused", "echo 'lister: the rows shipped are refused; mend them' >&2", "the rows shipped are refused"),
         ("a status", "echo 'end 8 0 0'; exit 3", "ended with status 3"),
-        ("a signal", "kill -9 $$", "ended with status -9"),
+        ("a signal", "kill -9 $$", "ended with status 137"),
     ]:
         stand.program("lister", script + "\n")
         one_line("list: " + name, stand.run("list", "run.sbf"), "list", "run.sbf", words)
@@ -200,8 +205,7 @@ def streams(stand):
         good = table if tool == "table" else "file"
         closed = 'exec "$0" "$@" >&-'
         with subprocess.Popen(["sh", "-c", closed, stand.at("tools/" + tool), *words, good], env=stand.env, cwd=stand.folder, stderr=subprocess.PIPE) as ran:
-            err = ran.communicate()[1].decode()
-            one_line(f"{tool}: standard output closed", (ran.returncode, b"", err), tool, "standard output", "is closed")
+            one_line(f"{tool}: standard output closed", ended(ran), tool, "standard output", "is closed")
         with open("/dev/full", "wb") as full:
             said = stand.run(tool, *words, good, stdout=full)
         one_line(f"{tool}: a full device", said, tool, "standard output" if tool == "table" else good, "no room is left")
@@ -248,12 +252,12 @@ def proving(stand):
     write(stand.at("file"), ONE)
     stand.says('echo "fn x: proved"; echo "rt: low proved (unchanged since it was last proved)"; echo "rt: ok"\n')
     expect("nothing to prove, nothing told", stand.run("list", "file") == (0, b"end 8 1 0\n", ""))
-    stand.says('echo "fn x: proved"; echo "rt: low proved (12 s)"; until [ -e "$STAND/go" ]; do sleep 0.1; done; echo "rt: lister proved (3 s)"\n')
+    stand.says('echo "fn x: proved"; echo "rt: low proved (12 s)"; n=0; until [ -e "$STAND/go" ] || [ $n = 90 ]; do sleep 0.1; n=$((n + 1)); done; echo "rt: lister proved (3 s)"\n')
     with stand.start("list", "file") as ran:
         first = ran.stderr.readline()
         expect("a line a crate, while rt goes on", first == b"tools/list: low proved (12 s)\n" and ran.poll() is None, first)
         write(stand.at("go"), "")
-        expect("and the next", ran.communicate()[1] == b"tools/list: lister proved (3 s)\n")
+        expect("and the next", ended(ran) == (0, b"end 8 1 0\n", "tools/list: lister proved (3 s)\n"))
     os.remove(stand.at("target/bin/lister"))
     stand.says("printf '#!/bin/sh\\necho end 0 0 0\\n' >target/bin/lister; chmod +x target/bin/lister\n")
     said = stand.run("list", "file")
@@ -265,6 +269,7 @@ def proving(stand):
     expect("quiet shows what fails, with its status", (status, out, err) == (5, b"", "out\nerr\n"), (status, err))
     expect("quiet is quiet", stand.run("quiet", "sh", "-c", "echo out; echo err >&2") == (0, b"", ""))
     expect("rt's status", stand.run("rt", "check")[0] == 1)
+    expect("quiet: a signal, as a shell tells it", stand.run("quiet", "sh", "-c", "kill -9 $$") == (137, b"", ""))
     os.remove(stand.at("says"))
     env = dict(stand.env, PATH="/usr/bin:/bin")
     if not shutil.which("rt", path=env["PATH"]):
@@ -338,8 +343,8 @@ def signals(stand):
                 expect(name, until(lambda: os.path.exists(stand.at("sleeps"))), "rt has not begun")
                 folder = read(stand.at("tmpdir"), "r").strip()
                 ran.send_signal(number)
-                out, err = ran.communicate(timeout=20)
-            expect(name, (ran.returncode, out, err) == (-number, b"", b""), (ran.returncode, out, err))
+                said = ended(ran)
+            expect(name, said == (-number, b"", ""), said)
             sleeper = read(stand.at("sleeps"), "r").strip()
             expect(name + ": what it began", until(lambda: gone(sleeper)), "runs on")
             expect(name + ": its folder", not folder or not os.path.exists(folder), folder)
@@ -352,8 +357,8 @@ def signals(stand):
             ran.stdin.flush()
             expect(f"{tool} {words}: it reads", until(lambda: unread(ran.stdin) == 0))
             ran.send_signal(signal.SIGINT)
-            _, err = ran.communicate(timeout=20)
-        expect(f"{tool} {words}: Ctrl-C while it reads", (ran.returncode, err) == (-signal.SIGINT, b""), (ran.returncode, err))
+            said = ended(ran)
+        expect(f"{tool} {words}: Ctrl-C while it reads", said[0] == -signal.SIGINT and said[2] == "", said)
 
 
 def compiler(stand):
@@ -368,7 +373,7 @@ def compiler(stand):
             expect("x86cc compiles", until(lambda: os.path.exists(stand.at("compiles"))))
             if number:
                 ran.send_signal(number)
-            ran.communicate(timeout=20)
+            ended(ran)
         expect(f"x86cc: its folder after {number}", (ran.returncode == 0) == (number is None) and os.listdir(stand.at("cc")) == [], ran.returncode)
         os.remove(stand.at("compiles"))
 

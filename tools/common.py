@@ -194,6 +194,11 @@ def begun(command, **how):
             end_session(ran)
 
 
+def status_of(ran):
+    """The status that a shell would give."""
+    return ran.returncode if ran.returncode >= 0 else 128 - ran.returncode
+
+
 def end_session(ran):
     for number, seconds in ((signal.SIGTERM, 2), (signal.SIGKILL, None)):
         with contextlib.suppress(ProcessLookupError, subprocess.TimeoutExpired):
@@ -261,7 +266,7 @@ def quietly(command, env=None, folder=None):
                 say(line.decode()[4:].rstrip())
     if ran.returncode:
         tell(b"".join(log))
-    return ran.returncode
+    return status_of(ran)
 
 
 def need_rt():

@@ -9,7 +9,7 @@ import subprocess
 import sys
 import threading
 
-from common import TOP, Failed, Misused, held_back, open_input, prove, put, say, shown, tool
+from common import TOP, Failed, Misused, held_back, open_input, prove, put, say, shown, status_of, tool
 
 KEPT = 256  # bytes of the end of what is printed, more than a last line has
 NAMED = 10  # bad lines that are named; of the others the number is told
@@ -74,7 +74,8 @@ def played(name, given):
         listener.start()
         end = copied(ran.stdout)
         listener.join()
-        return complaints.told(), ran.wait(), end
+        ran.wait()
+        return complaints.told(), status_of(ran), end
     finally:
         if ran and ran.returncode is None:
             ran.kill()
