@@ -26,12 +26,12 @@
  * return the next state: of two that begin with the same state, what the one did is lost. Where threads share a reader, one
  * lock goes around each call and the keeping of its state. From BLOCK on it is held until the last use of that block's bytes,
  * or until they are copied: they stand in the hold, where another thread's feed writes. An interrupt handler counts as a
- * thread, and cannot wait for a lock: switch it off meanwhile, or let it queue bytes and make no calls. Calls of different
- * readers may run at the same time.
+ * thread, and cannot wait for a lock: keep its interrupt off meanwhile, or let it queue bytes and make no calls. Calls of
+ * different readers may run at the same time.
  *
  * STATE. A reader is an alderflute_state and its three buffers. alderflute_new() is the only start. Never start with a struct
  * of zeros: today it happens to be the same, but a later version will refuse it (there the state has a ceiling for block
- * lengths, request M-103, and 0 is none). The state goes into every call by value. A call that returns an alderflute_reply
+ * lengths, request M-103, and 0 is a bad one). The state goes into every call by value. A call that returns an alderflute_reply
  * returns the next state in it: go on with that one, and with no older one. The others (bytes, body, sub, subbytes, tow, wnc)
  * change nothing. The struct has no pointers: keep it where you like, move or save it with the buffers, but write nothing into
  * it. Of made-up states refusal 1 finds those that its line below names, and no others. Any other is taken at its word: five
