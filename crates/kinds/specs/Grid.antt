@@ -20,7 +20,7 @@ pub record GridRow : Type 0 where
 abbrev gridRow : ℕ → ℕ → List ℕ → List (Option (List ℕ)) → GridRow
 gridRow kind size tried cells = record { kind = kind; size = size; tried = tried; cells = cells }
 
--- the type may not bear the mark; it may, and no bits are Do-Not-Use; it may, and these are and no others
+-- the type may not bear the mark; it may, and of the bits tried none are Do-Not-Use; it may, and of those tried only these are
 abbrev no : Option (List ℕ)
 no = none
 
