@@ -7,17 +7,17 @@ use mathlib.Core.Bool.{true, false}
 use mathlib.Core.List.{List, [], _∷_}
 use mathlib.Core.Logic.{inl, inr}
 use mathlib.Core.Option.{Option, none, some, Option·getD}
-use lib.ListN.{length}
+use lib.ListN.{length, take, drop}
 use borrow.Author.Tests.{ne-eqb}
-use Rattle.block.specs.Block.{Seen, refusedBy, row, seenSub}
+use Rattle.block.specs.Block.{Seen, refusedBy, row, seenSub, subSpan}
 use Rattle.table.specs.Decode.{decode}
-use Rattle.record.specs.Calls.{numberBy, placeBy, subPlace, subBlockRefusal}
+use Rattle.record.specs.Calls.{subSlice, numberBy, partBy, placeBy, subBlock, subPlace, subBlockRefusal}
 use Rattle.reader.specs.declared.Phase.the-variants.{Closed, Feeding, Finishing}
 use Rattle.reader.specs.declared.State.{State}
 use Rattle.runs.specs.Refusals.{bytesRefusal}
 use Rattle.runs.specs.Calls.{feedOf, finishOf, bytesOf}
 use Rattle.records.specs.Calls.{tableInForce, askRefusal, firstOf, placeUnless, subBytesOf, subPlaceOf, subBytesRefusal}
-use Rattle.reader.specs.Outcome.{Outcome}
+use Rattle.reader.specs.Outcome.{Outcome, partUnless}
 use Rattle.tables.specs.Calls.{openOf, stageOf, withdrawOf}
 use Rattle.records.specs.Calls.{bodyOf, subOf, towOf, wncOf}
 use Rattle.record.specs.Answer.{FieldSaid}
@@ -28,8 +28,8 @@ use Rattle.cform.specs.Answer.{replyC, fieldC, partC}
 use Rattle.cform.specs.Theorems.{answerBack, fieldBack}
 use Rattle.cform.proofs.Phases.{closed-of, feeding-of, finishing-of, none-over}
 use Rattle.cform.proofs.Back.{nothing-lost}
-use Rattle.capi.specs.Calls.{Left, Handing, goesOn, openC, feedC, finishC, stageC, withdrawC, tellsField, bodyC, subC, towC, wncC, hands, bytesC, subBytesC}
-use Rattle.demands.specs.World.{World, stage, withdraw, Look, bytes, body, sub, subBytes, tow, wnc, Call, openRun, feed, finish, table, look, Reply, said, part, value, told, looked, step, end, Line, _⇒_, trace}
+use Rattle.capi.specs.Calls.{Left, Handing, goesOn, openC, feedC, finishC, stageC, withdrawC, tellsField, bodyC, subC, towC, wncC, hands, cut, bytesC, subBytesC}
+use Rattle.demands.specs.World.{World, stage, withdraw, Look, bytes, body, sub, subBytes, tow, wnc, Call, openRun, feed, finish, table, look, Reply, said, part, value, told, partOf, looked, step, end, Line, _⇒_, trace}
 use Rattle.demands.specs.Refusals.{Order, Given, order}
 use Rattle.demands.specs.Demand1.{Demand1}
 use Rattle.demands.proofs.Listed.{nothing-there}
@@ -105,20 +105,48 @@ module _ (w : World) where
   unfolding withdrawC
   withdraws = goes withdrawOf (w .state) []
 
-looks : (l : Look) (w : World) → replyBack (look l) (lookedC l (worldC w)) ≡ looked l w
+-- a list cut at its own length
+take-again : (n : ℕ) (v : List ℕ) → take (length (take n v)) v ≡ take n v
+take-again zero v = refl
+take-again (suc n) [] = refl
+take-again (suc n) (x ∷ xs) = ap (λ (ys : List ℕ). x ∷ ys) (take-again n xs)
+
+-- what C cuts out of the buffer is what the reader hands back
+module _ (at n : ℕ) (v : List ℕ) where
+  cut-unless : (o : Option ℕ) → cut (partC o at (length (partUnless o (take n (drop at v))))) v ≡ partUnless o (take n (drop at v))
+  cut-unless none = take-again n (drop at v)
+  cut-unless (some m) = refl
+
+bytes-cut : (s : State) (hold : List ℕ) → cut (partC (bytesRefusal s hold) 0 (length (bytesOf s hold))) hold ≡ bytesOf s hold
+unfolding bytesOf
+bytes-cut s hold = cut-unless 0 (s .run .standing) hold (bytesRefusal s hold)
+
+sub-cut-by : (o : Option ℕ) (x : Seen) (b : List ℕ) (k : ℕ)
+    → cut (partC (firstOf o (numberBy x)) (placeUnless o (placeBy b k x) .at) (length (partUnless o (partBy b k x)))) b ≡ partUnless o (partBy b k x)
+unfolding subSlice
+sub-cut-by (some n) x b k = refl
+sub-cut-by none (refusedBy n) b k = refl
+sub-cut-by none (row r) b k = take-again (subSpan r b k .size) (drop (subSpan r b k .at) b)
+
+sub-cut : (s : State) (force b : List ℕ) (k : ℕ)
+    → cut (partC (subBytesRefusal s force b k) (subPlaceOf s force b k .at) (length (subBytesOf s force b k))) b ≡ subBytesOf s force b k
+unfolding subBytesRefusal subBlockRefusal subPlaceOf subPlace subBytesOf subBlock
+sub-cut s force b k = sub-cut-by (askRefusal s force) (seenSub (decode (tableInForce s force)) b k) b k
+
+looks : (l : Look) (w : World) → replyBack (look l) (worldC w) (lookedC l (worldC w)) ≡ looked l w
 unfolding bytesC bodyC subC subBytesC towC wncC
 looks bytes w =
-    ap (λ (h : Handing). part (refusalBack (h .part .refusal)) (h .bytes)) (hands-it (λ t. bytesRefusal t (w .hold)) (λ t. 0) (λ t. bytesOf t (w .hold)) (w .state))
-    ∙ ap (λ (x : Option ℕ). part x (bytesOf (w .state) (w .hold))) (part-back (bytesRefusal (w .state) (w .hold)) _ _ (bytes-over w))
+    ap (λ (h : Handing). part (refusalBack (h .part .refusal)) (cut (h .part) (w .hold))) (hands-it (λ t. bytesRefusal t (w .hold)) (λ t. 0) (λ t. bytesOf t (w .hold)) (w .state))
+    ∙ ap₂ part (part-back (bytesRefusal (w .state) (w .hold)) _ _ (bytes-over w)) (bytes-cut (w .state) (w .hold))
 looks (body b i) w = ap value (tells-it (λ t. bodyOf t (w .force) b i) (w .state))
 looks (sub b k j) w = ap value (tells-it (λ t. subOf t (w .force) b k j) (w .state))
 looks (subBytes b k) w =
-    ap (λ (h : Handing). part (refusalBack (h .part .refusal)) (h .bytes)) (hands-it (λ t. subBytesRefusal t (w .force) b k) (λ t. subPlaceOf t (w .force) b k .at) (λ t. subBytesOf t (w .force) b k) (w .state))
-    ∙ ap (λ (x : Option ℕ). part x (subBytesOf (w .state) (w .force) b k)) (part-back (subBytesRefusal (w .state) (w .force) b k) _ _ (sub-over w b k))
+    ap (λ (h : Handing). part (refusalBack (h .part .refusal)) (cut (h .part) b)) (hands-it (λ t. subBytesRefusal t (w .force) b k) (λ t. subPlaceOf t (w .force) b k .at) (λ t. subBytesOf t (w .force) b k) (w .state))
+    ∙ ap₂ part (part-back (subBytesRefusal (w .state) (w .force) b k) _ _ (sub-over w b k)) (sub-cut (w .state) (w .force) b k)
 looks (tow b) w = ap value (tells-it (λ t. towOf t b) (w .state))
 looks (wnc b) w = ap value (tells-it (λ t. wncOf t b) (w .state))
 
-means : (c : Call) (w : World) → replyBack c (stepC c (worldC w) .answer) ≡ step c w .answer
+means : (c : Call) (w : World) → replyBack c (worldC w) (stepC c (worldC w) .answer) ≡ step c w .answer
 unfolding stepC step
 means openRun w = ap said (ap (λ (l : Left). answerBack false (l .reply .answer)) (opens w) ∙ open-back (w .state) (w .force) (w .wait))
 means (feed piece) w = ap said (ap (λ (l : Left). answerBack false (l .reply .answer)) (feeds w piece) ∙ feed-back (w .state) (w .hold) piece)
@@ -151,7 +179,7 @@ answers (c ∷ cs) w =
 
 -- ---- a state that is made up
 
-unknown-look : (l : Look) (w : CWorld) → stateOf (w .state) ≡ none → told (replyBack (look l) (lookedC l w)) .refusal ≡ some 1
+unknown-look : (l : Look) (w : CWorld) → stateOf (w .state) ≡ none → told (replyBack (look l) w (lookedC l w)) .refusal ≡ some 1
 unfolding bytesC bodyC subC subBytesC towC wncC
 unknown-look bytes w e = rw e
 unknown-look (body b i) w e = rw e
@@ -160,7 +188,7 @@ unknown-look (subBytes b k) w e = rw e
 unknown-look (tow b) w e = rw e
 unknown-look (wnc b) w e = rw e
 
-unknown : (c : Call) (w : CWorld) → stateOf (w .state) ≡ none → told (replyBack c (stepC c w .answer)) .refusal ≡ some 1
+unknown : (c : Call) (w : CWorld) → stateOf (w .state) ≡ none → told (replyBack c w (stepC c w .answer)) .refusal ≡ some 1
 unfolding stepC openC feedC finishC stageC withdrawC
 unknown openRun w e = rw e
 unknown (feed piece) w e = rw e
@@ -168,6 +196,24 @@ unknown finish w e = rw e
 unknown (table (stage t)) w e = rw e
 unknown (table withdraw) w e = rw e
 unknown (look l) w e = unknown-look l w e
+
+empty-look : (l : Look) (w : CWorld) → stateOf (w .state) ≡ none → partOf (replyBack (look l) w (lookedC l w)) ≡ []
+unfolding bytesC subBytesC
+empty-look bytes w e = rw e
+empty-look (body b i) w e = refl
+empty-look (sub b k j) w e = refl
+empty-look (subBytes b k) w e = rw e
+empty-look (tow b) w e = refl
+empty-look (wnc b) w e = refl
+
+empty : (c : Call) (w : CWorld) → stateOf (w .state) ≡ none → partOf (replyBack c w (stepC c w .answer)) ≡ []
+unfolding stepC openC feedC finishC stageC withdrawC
+empty openRun w e = rw e
+empty (feed piece) w e = rw e
+empty finish w e = rw e
+empty (table (stage t)) w e = rw e
+empty (table withdraw) w e = rw e
+empty (look l) w e = empty-look l w e
 
 keeps : (c : Call) (w : CWorld) → stateOf (w .state) ≡ none → stepC c w .world ≡ w
 unfolding stepC openC feedC finishC stageC withdrawC
@@ -203,11 +249,34 @@ start-by : (x : Option ℕ) (l : ℕ) → partC x 0 l .offset ≡ 0
 start-by none l = refl
 start-by (some n) l = refl
 
-bytes-at : (s : State) (hold : List ℕ) → bytesC (stateC s) hold .part .offset ≡ 0
+long-by : (x : Option ℕ) (at : ℕ) (xs v : List ℕ) → cut (partC x at (length xs)) v ≡ xs → length (cut (partC x at (length xs)) v) ≡ partC x at (length xs) .length
+long-by none at xs v e = ap length e
+long-by (some n) at xs v e = refl
+
+-- of any state of C's: it stands for one, or for none
+bytes-at-by : (hold : List ℕ) (o : Option State) → hands (λ t. bytesRefusal t hold) (λ t. 0) (λ t. bytesOf t hold) o .part .offset ≡ 0
+bytes-at-by hold none = refl
+bytes-at-by hold (some t) = start-by (bytesRefusal t hold) (length (bytesOf t hold))
+
+bytes-at : (s : CState) (hold : List ℕ) → bytesC s hold .part .offset ≡ 0
 unfolding bytesC
-bytes-at s hold =
-    ap (λ (h : Handing). h .part .offset) (hands-it (λ t. bytesRefusal t hold) (λ t. 0) (λ t. bytesOf t hold) s)
-    ∙ start-by (bytesRefusal s hold) (length (bytesOf s hold))
+bytes-at s hold = bytes-at-by hold (stateOf s)
+
+bytes-all-by : (hold : List ℕ) (o : Option State) → let p = hands (λ t. bytesRefusal t hold) (λ t. 0) (λ t. bytesOf t hold) o .part in length (cut p hold) ≡ p .length
+bytes-all-by hold none = refl
+bytes-all-by hold (some t) = long-by (bytesRefusal t hold) 0 (bytesOf t hold) hold (bytes-cut t hold)
+
+bytes-all : (s : CState) (hold : List ℕ) → length (cut (bytesC s hold .part) hold) ≡ bytesC s hold .part .length
+unfolding bytesC
+bytes-all s hold = bytes-all-by hold (stateOf s)
+
+sub-all-by : (force b : List ℕ) (k : ℕ) (o : Option State) → let p = hands (λ t. subBytesRefusal t force b k) (λ t. subPlaceOf t force b k .at) (λ t. subBytesOf t force b k) o .part in length (cut p b) ≡ p .length
+sub-all-by force b k none = refl
+sub-all-by force b k (some t) = long-by (subBytesRefusal t force b k) (subPlaceOf t force b k .at) (subBytesOf t force b k) b (sub-cut t force b k)
+
+sub-bytes-all : (s : CState) (force b : List ℕ) (k : ℕ) → length (cut (subBytesC s force b k .part) b) ≡ subBytesC s force b k .part .length
+unfolding subBytesC
+sub-bytes-all s force b k = sub-all-by force b k (stateOf s)
 
 sub-bytes-at : (s : State) (force b : List ℕ) (k : ℕ) → subBytesC (stateC s) force b k .part .offset ≡ subPlaceOf s force b k .at
 unfolding subBytesC subBytesRefusal subBlockRefusal subPlaceOf subPlace
@@ -224,7 +293,10 @@ through-c =
       ends = ends;
       known = λ s t. known-by s t (s .phase) refl;
       unknown = unknown;
+      empty = empty;
       keeps = keeps;
       bytes-at = bytes-at;
+      bytes-all = bytes-all;
       sub-bytes-at = sub-bytes-at;
+      sub-bytes-all = sub-bytes-all;
     }

@@ -6,16 +6,18 @@ use mathlib.Core.Path.{_≡_}
 use mathlib.Core.Bool.{Bool, true, false, cond}
 use mathlib.Core.List.{List, [], _∷_}
 use mathlib.Core.Option.{Option, none, some}
+use lib.ListN.{length}
 use lib.Dec.{eqb}
 use Rattle.reader.specs.declared.State.{State}
 use Rattle.records.specs.Calls.{subPlaceOf}
 use Rattle.cform.specs.declared.CAnswer.{CAnswer}
 use Rattle.cform.specs.declared.CField.{CField}
+use Rattle.cform.specs.declared.CPart.{CPart}
 use Rattle.cform.specs.declared.CState.{CState}
 use Rattle.cform.specs.State.{stateOf, stateC}
 use Rattle.cform.specs.Theorems.{answerBack, fieldBack}
-use Rattle.capi.specs.Calls.{Left, openC, feedC, finishC, stageC, withdrawC, bodyC, subC, towC, wncC, Handing, bytesC, subBytesC}
-use Rattle.demands.specs.World.{World, TableCall, stage, withdraw, Look, bytes, body, sub, subBytes, tow, wnc, Call, openRun, feed, finish, table, look, Reply, said, part, value, told, step, end, Line, _⇒_, trace}
+use Rattle.capi.specs.Calls.{Left, openC, feedC, finishC, stageC, withdrawC, bodyC, subC, towC, wncC, cut, bytesC, subBytesC}
+use Rattle.demands.specs.World.{World, TableCall, stage, withdraw, Look, bytes, body, sub, subBytes, tow, wnc, Call, openRun, feed, finish, table, look, Reply, said, part, value, told, partOf, step, end, Line, _⇒_, trace}
 
 -- the state as C has it, and the three buffers
 pub record CWorld : Type 0 where
@@ -28,11 +30,11 @@ pub record CWorld : Type 0 where
 abbrev pub worldC : World → CWorld
 worldC w = record { state = stateC (w .state); hold = w .hold; force = w .force; wait = w .wait }
 
--- what an exported call answers; a part with the bytes in it
+-- what an exported call answers
 pub data CSaid : Type 0 where
   cAnswer : CAnswer → CSaid
   cField : CField → CSaid
-  cPart : Handing → CSaid
+  cPart : CPart → CSaid
 
 -- ---- what an exported call does
 
@@ -46,10 +48,10 @@ leavingC l hold force wait =
     record { answer = cAnswer (l .reply .answer); world = record { state = l .reply .state; hold = hold; force = force; wait = wait } }
 
 abbrev pub lookedC : Look → CWorld → CSaid
-lookedC bytes w = cPart (bytesC (w .state) (w .hold))
+lookedC bytes w = cPart (bytesC (w .state) (w .hold) .part)
 lookedC (body b i) w = cField (bodyC (w .state) (w .force) b i)
 lookedC (sub b k j) w = cField (subC (w .state) (w .force) b k j)
-lookedC (subBytes b k) w = cPart (subBytesC (w .state) (w .force) b k)
+lookedC (subBytes b k) w = cPart (subBytesC (w .state) (w .force) b k .part)
 lookedC (tow b) w = cField (towC (w .state) b)
 lookedC (wnc b) w = cField (wncC (w .state) b)
 
@@ -75,10 +77,27 @@ isFinish (look l) = false
 abbrev pub refusalBack : ℕ → Option ℕ
 refusalBack n = cond (eqb n 0) none (some n)
 
-abbrev pub replyBack : Call → CSaid → Reply
-replyBack c (cAnswer a) = said (answerBack (isFinish c) a)
-replyBack c (cField f) = value (fieldBack f)
-replyBack c (cPart h) = part (refusalBack (h .part .refusal)) (h .bytes)
+-- what C's offsets count in: the hold, or the block that was given; a call that answers no part has none
+abbrev pub lookedIn : Look → CWorld → List ℕ
+lookedIn bytes w = w .hold
+lookedIn (body b i) w = []
+lookedIn (sub b k j) w = []
+lookedIn (subBytes b k) w = b
+lookedIn (tow b) w = []
+lookedIn (wnc b) w = []
+
+abbrev pub countedIn : Call → CWorld → List ℕ
+countedIn openRun w = []
+countedIn (feed piece) w = []
+countedIn finish w = []
+countedIn (table t) w = []
+countedIn (look l) w = lookedIn l w
+
+-- R23: a part is what stands in the buffer from its offset on
+abbrev pub replyBack : Call → CWorld → CSaid → Reply
+replyBack c w (cAnswer a) = said (answerBack (isFinish c) a)
+replyBack c w (cField f) = value (fieldBack f)
+replyBack c w (cPart p) = part (refusalBack (p .refusal)) (cut p (countedIn c w))
 
 -- ---- sequences
 
@@ -88,19 +107,23 @@ endC (c ∷ cs) w = endC cs (stepC c w .world)
 
 unfoldable pub traceC : List Call → CWorld → List Line
 traceC [] w = []
-traceC (c ∷ cs) w = c ⇒ replyBack c (stepC c w .answer) ∷ traceC cs (stepC c w .world)
+traceC (c ∷ cs) w = c ⇒ replyBack c w (stepC c w .answer) ∷ traceC cs (stepC c w .world)
 
 pub record ThroughC : Type 0 where
   -- one call: its answer means the reader's, and it leaves what the reader's leaves
-  pub means : (c : Call) (w : World) → replyBack c (stepC c (worldC w) .answer) ≡ step c w .answer
+  pub means : (c : Call) (w : World) → replyBack c (worldC w) (stepC c (worldC w) .answer) ≡ step c w .answer
   pub leaves : (c : Call) (w : World) → stepC c (worldC w) .world ≡ worldC (step c w .world)
   -- any calls, one after the other: what the demands say of the reader's answers and worlds, they say of C's
   pub answers : (cs : List Call) (w : World) → traceC cs (worldC w) ≡ trace cs w
   pub ends : (cs : List Call) (w : World) → endC cs (worldC w) ≡ worldC (end cs w)
-  -- every state of C's is one of the reader's, or is made up: every call refuses it with 1, and changes nothing
+  -- R23: every state of C's is one of the reader's, or its phase is none: then every call refuses it with 1, hands back no byte, and
+  -- changes nothing
   pub known : (s : CState) (t : State) → stateOf s ≡ some t → s ≡ stateC t
-  pub unknown : (c : Call) (w : CWorld) → stateOf (w .state) ≡ none → told (replyBack c (stepC c w .answer)) .refusal ≡ some 1
+  pub unknown : (c : Call) (w : CWorld) → stateOf (w .state) ≡ none → told (replyBack c w (stepC c w .answer)) .refusal ≡ some 1
+  pub empty : (c : Call) (w : CWorld) → stateOf (w .state) ≡ none → partOf (replyBack c w (stepC c w .answer)) ≡ []
   pub keeps : (c : Call) (w : CWorld) → stateOf (w .state) ≡ none → stepC c w .world ≡ w
-  -- C's parts stand where the reader's do: the block just reported where the hold starts, a sub-block at its place in the block
-  pub bytes-at : (s : State) (hold : List ℕ) → bytesC (stateC s) hold .part .offset ≡ 0
+  -- C9, C13: C's parts stand where the reader's do, and all their bytes are in the buffer
+  pub bytes-at : (s : CState) (hold : List ℕ) → bytesC s hold .part .offset ≡ 0
+  pub bytes-all : (s : CState) (hold : List ℕ) → length (cut (bytesC s hold .part) hold) ≡ bytesC s hold .part .length
   pub sub-bytes-at : (s : State) (force b : List ℕ) (k : ℕ) → subBytesC (stateC s) force b k .part .offset ≡ subPlaceOf s force b k .at
+  pub sub-bytes-all : (s : CState) (force b : List ℕ) (k : ℕ) → length (cut (subBytesC s force b k .part) b) ≡ subBytesC s force b k .part .length

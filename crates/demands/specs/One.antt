@@ -27,7 +27,7 @@ use Rattle.reader.specs.declared.State.{State}
 abbrev pub One : {A : Type 0} → (A → Said) → Outcome → Type 0
 One {A} said o = (a b : A) (s t : State) (l m : List ℕ) → outcome (said a) s l ≡ o → outcome (said b) t m ≡ o → ((a ≡ b) × (s ≡ t)) × (l ≡ m)
 
--- two parts of these bytes, at this pointer, are one
+-- two parts of these bytes, at this pointer, are one; p below is where the hold, or the block that was given, stands
 abbrev pub OnePart : List ℕ → ℕ × ℕ → Type 0
 OnePart part at = (v w : List ℕ) (p q : ℕ × ℕ) → v ≡ part → p ≡ at → w ≡ part → q ≡ at → (v ≡ w) × (p ≡ q)
 

@@ -13,18 +13,9 @@ use Rattle.block.specs.Block.{Seen, refusedBy, row, seenSub}
 use Rattle.record.specs.Calls.{subSlice, partBy, placeBy, numberBy, subBlock, subPlace}
 
 module _ (b : List ℕ) (s : Span) (h : s .at + s .size ≤ length b) where
-  end : s .at + s .size - s .at ≡ s .size
-  end = omega arith
-
   pub part-long : length (subSlice b s) ≡ s .size
   unfolding subSlice
   part-long = let l : s .size ≤ length (drop (s .at) b) = rw length-drop (omega arith) in length-take-le (s .size) (drop (s .at) b) l
-
-  pub part-is : (take (s .at + s .size - s .at) (drop (s .at) b) ≡ subSlice b s) × (length (take (s .at + s .size - s .at) (drop (s .at) b)) ≡ s .size)
-  unfolding subSlice
-  part-is =
-      let e = ap (λ (n : ℕ). take n (drop (s .at) b)) end in
-      (e, ap length e ∙ part-long)
 
 -- the part that stands at a call's place is the one that it hands back
 part-by : (b : List ℕ) (k : ℕ) (x : Seen) → subSlice b (placeBy b k x) ≡ partBy b k x

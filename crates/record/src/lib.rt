@@ -64,15 +64,13 @@ pub fn body_field(table: &[u8], block: &[u8], i: usize) -> Answer
     }
 }
 
-// The part of a block that stands there. Every part of a block that is handed back is made here.
+// The part of a block that stands there.
 pub fn part(block: &[u8], s: Span) -> &[u8]
     requires { ⌜ s .at + s .size ≤ length (now block) ⌝ }
     ensures { λ r. ⌜ (now r ≡ subSlice (now (block .entry)) s) × (length (now r) ≡ s .size) ⌝ }
     ensures { λ r. ⌜ r .ptr ≡ offsetBy (block .entry .ptr) (s .at) ⌝ }
 {
-    let a = s.at;
-    let e = a + s.size;
-    &block[a..e]
+    wire::part(block, s.at, s.size)
 }
 
 // Field j of sub-block k of a block.

@@ -129,8 +129,8 @@ pub fn bytes(s: State, hold: &[u8]) -> &[u8]
     let run = s.run;
     let n = run.standing;
     match c {
-        Check::Refused(_) => &hold[..0],
-        Check::Passed => &hold[..n],
+        Check::Refused(_) => wire::part(hold, 0, 0),
+        Check::Passed => wire::part(hold, 0, n),
     }
 }
 

@@ -1,4 +1,4 @@
--- Where a part of a buffer stands: a pointer is a block of memory and an offset in it.
+-- Where a part of a buffer stands: a pointer is an allocation and an offset in it.
 -- Assumes nothing.
 use Prim.Native.Nat.{ℕ, _+_}
 

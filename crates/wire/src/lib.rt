@@ -1,9 +1,10 @@
-// Numbers in a slice of bytes (rule F1), and the two parts of a block's ID (F9).
+// Numbers in a slice of bytes (rule F1), parts of a slice, and what a block's ID is made of (F9).
 ghost use mathlib.Core.Path.{_≡_};
 ghost use Prim.Native.Nat.{_+_, _*_, _≤_, _<_, _/_, _%_};
-ghost use lib.ListN.{length};
+ghost use lib.ListN.{length, take, drop};
 ghost use Rattle.wire.specs.Little.{littleAt};
 ghost use Rattle.wire.specs.Range.{InRange};
+ghost use Rattle.wire.specs.Parts.{offsetBy};
 
 // The number of two bytes.
 pub fn pair(low: u8, high: u8) -> u16
@@ -34,6 +35,16 @@ pub fn u8(s: &[u8], at: usize) -> u64
     ensures { λ r. ⌜ r ≡ littleAt 8 (now (s .entry)) at ⌝ }
 {
     (u4(s, at) as u64) + 4294967296 * (u4(s, at + 4) as u64)
+}
+
+// So many bytes from `at` on, where they stand: every part that a call hands back is made here.
+pub fn part(s: &[u8], at: usize, size: usize) -> &[u8]
+    requires { ⌜ at + size ≤ length (now s) ⌝ }
+    ensures { λ r. ⌜ (now r ≡ take size (drop at (now (s .entry)))) × (length (now r) ≡ size) ⌝ }
+    ensures { λ r. ⌜ r .ptr ≡ offsetBy (s .entry .ptr) at ⌝ }
+{
+    let end = at + size;
+    &s[at..end]
 }
 
 // F9: the block number, by a mask (D7).
