@@ -59,7 +59,7 @@ subSpan r b k = record { at = 16 + k * subLengthIn b; size = subLengthIn b }
 unfoldable pub subsFit : List ℕ → BlockRow → Bool
 subsFit b r =
     let end = subSpan r b (countIn b) in
-    not (hasSubs r) || (eqb (countIn b) 0 || every (endsBy (revisionIn b) (end .size)) (r .subs)) && leb (end .at) (lengthIn b)
+    not (hasSubs r) || ((eqb (countIn b) 0 || every (endsBy (revisionIn b) (end .size)) (r .subs)) && leb (end .at) (lengthIn b))
 
 -- the row that a block is read by, or the number of a refusal
 pub data Seen : Type 0 where

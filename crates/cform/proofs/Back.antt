@@ -81,7 +81,7 @@ nothing-lost =
     record {
       state = state-back;
       unknown = none-over;
-      known = λ s. by-number s (s .phase) refl;
+      only-over-2 = λ s. by-number s (s .phase) refl;
       opened = opened-back;
       fed = fed-back;
       finished = finished-back;

@@ -47,7 +47,7 @@ pub record NothingLost : Type 0 where
   -- the next call goes on with the state that this one left; a state stands for none exactly where its phase is over 2
   pub state : (t : State) → stateOf (stateC t) ≡ some t
   pub unknown : (s : CState) → 2 < s .phase → stateOf s ≡ none
-  pub known : (s : CState) → stateOf s ≡ none → 2 < s .phase
+  pub only-over-2 : (s : CState) → stateOf s ≡ none → 2 < s .phase
   pub opened : (a : Opened) → answerBack false (answerC (saidOpened a)) ≡ saidOpened a
   pub fed : (a : Fed) → answerBack false (answerC (saidFed a)) ≡ saidFed a
   pub finished : (a : Finished) → answerBack true (answerC (saidFinished a)) ≡ saidFinished a

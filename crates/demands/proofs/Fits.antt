@@ -17,8 +17,8 @@ use Rattle.table.specs.Decode.{decode}
 use Rattle.table.specs.Rules.{tableOk}
 use Rattle.table.specs.Lookup.{hasNumber, findRow}
 use Rattle.table.proofs.Laws.{one-row}
-use Rattle.block.specs.Block.{numberIn, revisionIn, countIn as N, subLengthIn as SBLength, endsBy, bodyFits, subsFit, subCount}
-use Rattle.demands.specs.Refusals.{OneFrame, L, RowOf, OfRow, EndsPast, NotInTable, BodyDoesNotFit, SubsDoNotFit, NoField, NoSubBlock}
+use Rattle.block.specs.Block.{numberIn, revisionIn, endsBy, bodyFits, subsFit, subCount}
+use Rattle.demands.specs.Refusals.{OneFrame, blockRevision, L, N, SBLength, RowOf, OfRow, EndsPast, NotInTable, BodyDoesNotFit, SubsDoNotFit, NoField, NoSubBlock}
 use Rattle.demands.proofs.Exact.{Tells, both, within, orelse, empty-tells}
 use Rattle.demands.proofs.Listed.{first-there, first-none, every-tells}
 
@@ -71,7 +71,7 @@ twice false u = u
 
 past-tells : (fs : List FieldRow) (b : List ℕ) (n : ℕ) → Tells (every (endsBy (revisionIn b) n) fs) (EndsPast fs b n)
 past-tells fs b n =
-    every-tells (endsBy (revisionIn b) n) (λ (f : FieldRow). (f .first ≤ revisionIn b) × (n < ends f))
+    every-tells (endsBy (revisionIn b) n) (λ (f : FieldRow). (f .first ≤ blockRevision b) × (n < ends f))
     (λ f. orelse (above (f .first) (revisionIn b)) (within (ends f) n)) fs
 
 -- a test on the number of the bytes is one on L

@@ -1,7 +1,8 @@
 pub mod Apart
 pub mod Exact
-pub mod Soundness
 pub mod Steps
+pub mod Clean
+pub mod Soundness
 pub mod Reached
 pub mod Live
 pub mod Force

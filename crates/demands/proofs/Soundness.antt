@@ -7,14 +7,14 @@ use mathlib.Core.Path.{_≡_, refl, subst, subst⁻¹}
 use mathlib.Core.Bool.{Bool, true, false, _&&_, cond}
 use mathlib.Core.List.{List, []}
 use mathlib.Core.Option.{Option, none, some}
-use lib.ListN.{length, drop}
+use lib.ListN.{length}
 use lib.Dec.{ltb}
 use borrow.Author.Tests.{le-leb}
 use Rattle.wire.specs.Range.{Bytes}
 use Rattle.scan.specs.Settle.{settle}
 use Rattle.scan.specs.Feed.{Intake, feedLit, stop, size}
 use Rattle.wire.proofs.Tests.{both-true}
-use Rattle.feed.proofs.Bounds.{take-bytes, drop-bytes, fed-held}
+use Rattle.feed.proofs.Bounds.{fed-held}
 use Rattle.frame.specs.Judge.{judged, judgedLast}
 use Rattle.scan.proofs.Stable.{judging}
 use Rattle.scan.proofs.Calls.{call, settle-sum}
@@ -39,6 +39,7 @@ use Rattle.runs.proofs.Feeding.{WholeIf, fed-whole, end-whole}
 use Rattle.demands.specs.World.{World, stage, withdraw, Call, openRun, feed, finish, table, look, said, told, step}
 use Rattle.demands.specs.Sequence.{pieceOf}
 use Rattle.demands.specs.Soundness.{Sound, reportSize, sinceOpen, SoundKept}
+use Rattle.demands.proofs.Clean.{rest-bytes, clean-step}
 
 -- the bytes of the block that an answer reports
 abbrev sizeIn : Said → ℕ
@@ -87,10 +88,6 @@ went-on x s b n F h e sum l t w =
       force = h .force;
       wait = h .wait;
     }
-
-pub rest-bytes : (hold : List ℕ) (held standing : ℕ) → Bytes hold → Bytes (restOf hold held standing)
-unfolding restOf
-rest-bytes hold held standing b = take-bytes (drop standing hold) (held - standing) (drop-bytes hold standing b)
 
 feed-done : (s : State) (b : ℕ) (hold piece : List ℕ) → Bytes hold → Bytes piece → Sound s b → feedRefusal s hold piece ≡ none
     → Sound (feedingBy (feedingOf s hold piece) s hold .state) (b + sizeIn (feedingBy (feedingOf s hold piece) s hold .said))
@@ -188,5 +185,6 @@ sound-kept =
     record {
       new = record { few = omega arith; front = omega arith; among = omega arith; count = omega arith; sum = refl; most = omega arith; force = omega arith; wait = omega arith };
       keeps = kept-by;
+      bytes = clean-step;
       passes = passes-one;
     }

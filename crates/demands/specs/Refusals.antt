@@ -1,8 +1,10 @@
 -- The refusals (rules R1 to R10, R20): when each number is given, as propositions in the rules' words, and each call's numbers in their
--- order. They are written apart from the tests of the code's definitions; shared is what the conditions speak of: `tableOk`, `nextTable`,
--- `tableInForce` and `decode`, `settle` and `restOf`, where numbers stand in a frame, the CRC, and where a field ends.
+-- order. They are written apart from the tests of the code's definitions, the block's numbers among them (`blockNumber` to `SBLength`): a
+-- second rendering is wanted here, so that `demand_1` fails where code and definitions of the crate `block` are wrong alike. Shared is what
+-- the conditions speak of: `tableOk`, `nextTable`, `tableInForce` and `decode`, `settle` and `restOf`, where the header's numbers stand, the
+-- CRC, and where a field ends.
 -- Assumes nothing.
-use Prim.Native.Nat.{ℕ, _+_, _*_, _%_, _≤_, _<_}
+use Prim.Native.Nat.{ℕ, _+_, _*_, _%_, _/_, _≤_, _<_}
 use mathlib.Core.Path.{_≡_}
 use mathlib.Core.Bool.{false}
 use mathlib.Core.List.{List, [], _∷_}
@@ -10,7 +12,7 @@ use mathlib.Core.Logic.{_⊎_}
 use mathlib.Core.Option.{Option, none, some}
 use lib.ListN.{length, getD, take, drop}
 use Rattle.crc.specs.Crc.{crcOf}
-use Rattle.frame.specs.Frame.{crcAt, lengthAt}
+use Rattle.frame.specs.Frame.{crcAt, idAt, lengthAt}
 use Rattle.frame.specs.Judge.{judged}
 use Rattle.scan.specs.Settle.{settle}
 use Rattle.feed.specs.Hold.{restOf}
@@ -19,7 +21,6 @@ use Rattle.table.specs.Lists.{pick}
 use Rattle.table.specs.Rows.{BlockRow, Table, ends}
 use Rattle.table.specs.Decode.{decode}
 use Rattle.table.specs.Rules.{tableOk}
-use Rattle.block.specs.Block.{numberIn, revisionIn, countIn as N, subLengthIn as SBLength}
 use Rattle.tables.specs.Calls.{nextTable}
 use Rattle.records.specs.Calls.{tableInForce}
 use Rattle.reader.specs.declared.Phase.the-variants.{Closed, Feeding}
@@ -76,9 +77,23 @@ pub record OneFrame (b : List ℕ) : Type 0 where
   pub stands : FrameStands b 0
   pub all : lengthAt b 0 ≡ length b
 
+-- F9: the low thirteen bits of its ID, and the other three
+abbrev pub blockNumber : List ℕ → ℕ
+blockNumber b = idAt b 0 % 8192
+
+abbrev pub blockRevision : List ℕ → ℕ
+blockRevision b = idAt b 0 / 8192
+
 -- F3: L, at 6
 abbrev pub L : List ℕ → ℕ
 L b = lengthAt b 0
+
+-- T16: the bytes at 14 and 15
+abbrev pub N : List ℕ → ℕ
+N b = getD b 14 0
+
+abbrev pub SBLength : List ℕ → ℕ
+SBLength b = getD b 15 0
 
 -- ---- its row in the table
 
@@ -89,7 +104,7 @@ Among xs x = (i : ℕ) × (pick xs i ≡ some x)
 -- r is a row of the table, of the block's number
 pub record RowOf (t : Table) (b : List ℕ) (r : BlockRow) : Type 0 where
   pub among : Among (t .rows) r
-  pub same : r .number ≡ numberIn b
+  pub same : r .number ≡ blockNumber b
 
 -- P of the block's row
 abbrev pub OfRow : Table → List ℕ → (BlockRow → Type 0) → Type 0
@@ -97,7 +112,7 @@ OfRow t b P = (r : BlockRow) × (RowOf t b r × P r)
 
 -- V5: a field among these that the block's revision carries ends past n
 abbrev pub EndsPast : List FieldRow → List ℕ → ℕ → Type 0
-EndsPast fs b n = (f : FieldRow) × (Among fs f × ((f .first ≤ revisionIn b) × (n < ends f)))
+EndsPast fs b n = (f : FieldRow) × (Among fs f × ((f .first ≤ blockRevision b) × (n < ends f)))
 
 -- ---- the conditions on it
 

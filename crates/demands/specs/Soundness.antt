@@ -1,5 +1,5 @@
--- Sound states: what every call keeps of a state, whatever the buffers. It has all that R1 asks of one, and says of each byte
--- taken where it went.
+-- Sound states: what every call keeps of a state, whatever the buffers. It has all that R1 asks of one; and the bytes taken are
+-- as many as those reported, skipped and held.
 -- Assumes nothing.
 use Prim.Native.Nat.{ℕ, _+_, _-_, _≤_}
 use mathlib.Core.Path.{_≡_}
@@ -19,7 +19,7 @@ pub record Sound (s : State) (reported : ℕ) : Type 0 where
   pub front : s .run .standing ≤ s .run .held
   pub among : s .run .standing ≤ reported
   pub count : s .run .counts .blocks ≤ reported
-  -- a byte that was taken is one of a reported block, is skipped, or is held behind the standing block
+  -- held are here those behind the standing block, which are not reported yet
   pub sum : reported + s .run .counts .skipped + (s .run .held - s .run .standing) ≡ s .run .counts .taken
   pub most : s .run .counts .taken ≤ limit
   pub force : s .«in_force» ≤ 8192
@@ -39,8 +39,9 @@ sinceOpen (look l) a reported = reported
 
 pub record SoundKept : Type 0 where
   pub new : Sound newState 0
-  -- the one premise is that what is held and fed is bytes below 256
+  -- the one premise is that what is held and fed is bytes below 256; of what is held then it is so again, for the next call
   pub keeps : (c : Call) (w : World) (reported : ℕ) → Bytes (w .hold) → Bytes (pieceOf c) → Sound (w .state) reported
       → Sound (step c w .world .state) (sinceOpen c (told (step c w .answer)) reported)
+  pub bytes : (c : Call) (w : World) → Bytes (w .hold) → Bytes (pieceOf c) → Bytes (step c w .world .hold)
   -- R1: a sound state is none that it names
   pub passes : (s : State) (reported : ℕ) → Sound s reported → sound s ≡ true

@@ -14,7 +14,8 @@ pub fn demand_1()
     ensures { λ _. ⌜ Demand1 ⌝ }
 {}
 
-// Every call keeps a sound state sound, whatever the buffers: each byte taken is one of a reported block, skipped or held.
+// Every call keeps a sound state sound, whatever the buffers: the bytes taken are as many as those reported, skipped and held. It
+// keeps a hold of bytes one, too.
 pub fn sound_kept()
     ensures { λ _. ⌜ SoundKept ⌝ }
 {}
