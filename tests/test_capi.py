@@ -293,9 +293,9 @@ def installed(env):
         print("test_capi: there is no make here; make install is left out")
         return
     with tempfile.TemporaryDirectory() as folder:
-        status, _, error = ran(["make", "install", "PREFIX=/opt/af", "DESTDIR=" + folder], env)
-        expect("make install with DESTDIR", status == 0 and os.path.exists(folder + "/opt/af/lib/libalderflute.a"), error.decode())
-        expect("DESTDIR is in no path", "prefix=/opt/af\n" in read(folder + "/opt/af/lib/pkgconfig/alderflute.pc"))
+        status, _, error = ran(["make", "install", "PREFIX=/usr/af", "DESTDIR=" + folder], env)
+        expect("make install with DESTDIR", status == 0 and os.path.exists(folder + "/usr/af/lib/libalderflute.a"), error.decode())
+        expect("DESTDIR is in no path", "prefix=/usr/af\n" in read(folder + "/usr/af/lib/pkgconfig/alderflute.pc"))
         status, _, error = ran(["make", "install", "PREFIX=" + folder], env)
         expect("make install with PREFIX", status == 0, error.decode())
         cflags, libs = flags_of(env, os.path.join(folder, "lib", "pkgconfig"))
