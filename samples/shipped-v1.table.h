@@ -1,8 +1,9 @@
 /* Block table version 1, for C and C++: the bytes that alderflute_stage takes, and a name for each number in it.
    Written by `tools/table c`; change this text and not the header: samples/shipped-v1.table.txt
-   A field's number belongs to its table's version, so headers of two versions do not go into one C file. */
-#ifndef ALDERFLUTE_NAMES_1_H
-#define ALDERFLUTE_NAMES_1_H
+   A field's number belongs to its table, so headers of two tables do not go into one C file.
+   The version is what the table says of itself: nothing checks that two tables of one version have the same rows. */
+#ifndef ALDERFLUTE_NAMES_1_E4A0_H
+#define ALDERFLUTE_NAMES_1_E4A0_H
 
 #include <stdint.h>
 

@@ -17,6 +17,8 @@ FILE = os.path.join(ROOT, "samples", "shipped-v1.table")
 HEADER = os.path.join(ROOT, "samples", "shipped-v1.table.h")
 CRATE = os.path.join(ROOT, "crates", "shipped")
 
+EDITS = ["wrong/a_number_twice.edit", "wrong/another_first_index.edit"]  # those that name bytes of the constant
+
 CASES = Cases()
 expect = CASES.expect
 
@@ -64,7 +66,6 @@ def closed(head):
 
 def agreement():
     data = read(FILE, "rb")
-    expect("the file has 380 bytes", len(data) == 380, len(data))
     with tempfile.TemporaryDirectory() as folder:
         made = os.path.join(folder, "made.table")
         expect("make takes the text", tool("make", TEXT, made)[0] == 0)
@@ -72,13 +73,16 @@ def agreement():
         crate = os.path.join(folder, "shipped")
         os.makedirs(os.path.join(crate, "src"))
         os.makedirs(os.path.join(crate, "specs"))
+        os.makedirs(os.path.join(crate, "wrong"))
         shutil.copy(os.path.join(CRATE, "src", "lib.rt"), os.path.join(crate, "src"))
+        for name in EDITS:
+            open(os.path.join(crate, name), "w").close()
         expect("rattle takes the text", tool("rattle", os.path.relpath(TEXT, ROOT), crate)[0] == 0)
-        for name in ("src/bytes.rt", "src/lib.rt", "specs/Rows.antt"):
+        for name in ["src/bytes.rt", "src/lib.rt", "specs/Rows.antt"] + EDITS:
             expect("%s is what the text gives" % name, read(os.path.join(crate, name)) == read(os.path.join(CRATE, name)))
     source = read(os.path.join(CRATE, "src", "bytes.rt"))
     constant = re.search(r"const TABLE: \[u8; (\d+)\] = \[(.*?)\];", source, re.S)
-    numbers = [int(n, 0) for n in re.findall(r"0x[0-9a-f]+|\d+", constant.group(2))]
+    numbers = [int(n, 0) for n in re.findall(r"0x[0-9a-f]+|\d+", re.sub("//.*", "", constant.group(2)))]
     expect("file and constant agree", bytes(numbers) == data)
     expect("the constant's length", int(constant.group(1)) == len(data) == len(numbers))
     expect("the CRC by long division", data == closed(data[:-4]))
@@ -86,7 +90,10 @@ def agreement():
     listed = [(m[0], m[1], m[2], m[3]) for m in field.findall(read(os.path.join(CRATE, "specs", "Rows.antt")))]
     lines = [l.split() for l in read(TEXT).split("\n") if l.split()[:1] in (["body"], ["sub"])]
     expect("the readable list has the text's fields", listed == [(w[1], w[2], w[3], w[5]) for w in lines])
-    expect("78 fields", len(lines) == 78, len(lines))
+    blocks = read(TEXT).count("\nblock ")
+    for page, words in [("README.md", "its file of %d bytes" % len(data)),
+                        ("docs/DECISIONS.md", "has %d field rows and %d block rows, %d bytes" % (len(lines), blocks, len(data)))]:
+        expect("%s has the counts of now" % page, words in read(os.path.join(ROOT, page)), "it has to say: " + words)
 
 
 def round_trips():
@@ -100,12 +107,34 @@ def round_trips():
         for name, body in {
             "the smallest table": "version 0\nblock 0 A highest 0\n",
             "numbers at their limits": "version 65535\nblock 8191 A highest 7\n  body B u8 255 rev 7 mark ones\n",
+            "a byte order mark": "\ufeffversion 3\nblock 1 A highest 0\n",
             "a comment, a blank line": "# c\n\nversion 3 # d\nblock 1 A highest 0\n",
             "the largest table": "version 1\n" + "".join("block %d A highest 0\n" % n for n in range(1022)),
         }.items():
             status, err, made = make(body, folder)
             expect("%s is made" % name, status == 0, err)
             expect("%s is shown and made again" % name, made and make(show(made, folder)[1], folder)[2] == made)
+        status, err, made = make("version 1\n\ufeffblock 1 A highest 0\n", folder)
+        expect("a mark in the middle is none", status == 1 and made is None and "line 2: " in err, err)
+
+
+def own_text():
+    """What is made is not written over its own text."""
+    with tempfile.TemporaryDirectory() as folder:
+        given, link = os.path.join(folder, "given.txt"), os.path.join(folder, "link.txt")
+        shutil.copy(TEXT, given)
+        os.symlink(given, link)
+        for act in ("make", "c"):
+            for file in (given, link):
+                status, out, err = tool(act, given, file)
+                good = (status, out, err) == (1, "", "tools/table: %s: is the text itself; name another file\n" % file)
+                expect("%s: over its own text" % act, good and read(given) == read(TEXT), err)
+        with open(given, "rb") as text:
+            run = subprocess.run([sys.executable, TOOL, "make", "-", given], stdin=text, capture_output=True, text=True)
+        expect("make: over standard input", run.returncode == 1 and "is the text itself" in run.stderr and read(given) == read(TEXT), run.stderr)
+        os.remove(link)
+        shutil.copy(FILE, link)
+        expect("make: over another file", tool("make", given, link)[0] == 0 and read(link, "rb") == read(FILE, "rb"))
 
 
 BLOCK = "version 1\nblock 1 A highest 3\n"
@@ -141,8 +170,8 @@ TEXTS = [
     (PAIR.replace("SBLength u1 15 rev 0", "SBLength u1 15 rev 1"), 4, PAIR_RULE),
     (PAIR.replace("sub C", "body B u1 16 rev 0 mark none\nsub C"), 5, PAIR_RULE),
     (PAIR + "body B u1 16 rev 0 mark none\n", 6, "T10: a block's body rows come before its sub-field rows"),
-    (BLOCK + "body B u3 14 rev 0 mark none\n", 3, "T15: there is no type 'u3'"),
-    (BLOCK + "body B u1 14 rev 0 mark no\n", 3, "T15: there is no mark 'no'"),
+    (BLOCK + "body B u3 14 rev 0 mark none\n", 3, "T15: there is no type 'u3'; there are u1 u2 u4 u8 i1 i2 i4 i8 f4 f8"),
+    (BLOCK + "body B u1 14 rev 0 mark no\n", 3, "T15: there is no mark 'no'; there are none ones zero minus2e10 least"),
     (BLOCK + "body B i1 14 rev 0 mark ones\n", 3, "T15: the type does not allow the mark: ones on i1"),
     (BLOCK + "body B f4 14 rev 0 mark zero\n", 3, "T15: the type does not allow the mark: zero on f4"),
     (BLOCK + "body B u4 14 rev 0 mark minus2e10\n", 3, "T15: the type does not allow the mark: minus2e10 on u4"),
@@ -176,7 +205,10 @@ def refused_files():
             (other(24, 29), "byte 24", "T4: from the file's end to the first block row it is 12 + 8R"),
             (other(26, 33), "byte 26", "T4: from the file's end to the first field row it is the file's size"),
             (good[:28] + b"\0\0BT", "byte 28", "T5: the CRC of all bytes before it is"),
-            (good[:-1] + b"2", "byte 30", "T6: the closing bytes are 42 54"),
+            (good[:-1] + b"2", "byte 30", "this is no table file (T6: the closing bytes are 42 54, and here 42 32)"),
+            (text.encode(), "byte %d" % (len(text) - 2), "this is no table file (T6: the closing bytes are 42 54, and here 30 0A)"),
+            (read(os.path.join(ROOT, "samples", "flight.sbf"), "rb"), "byte 3517", "this is no table file (T6"),
+            (8193 * b"B", "the file", "this is no table file (T1"),
             (closed(good[:4] + b"\0" + good[4:26] + b"\x21\0"), "byte 0", "T1: field rows (4 bytes each), block rows (8 each) and the trailer (12) make up the file"),
             (other(11, 1), "byte 11", "T17: the last byte of a block row is 0"),
             (other(16, 0), "byte 16", "T10: the index is the number of field rows claimed by earlier block rows"),
@@ -245,7 +277,16 @@ def headers():
     status, out, err = tool("c", os.path.relpath(TEXT, ROOT))
     expect("c takes the text", status == 0, err)
     expect("the sample is what c writes", out == read(HEADER))
+    run = subprocess.run([sys.executable, TOOL, "c", "../" + os.path.relpath(TEXT, ROOT)], capture_output=True, text=True, cwd=os.path.join(ROOT, "tools"))
+    expect("from another folder too", run.stdout == out, run.stderr)
     with tempfile.TemporaryDirectory() as folder:
+        made, bad = os.path.join(folder, "my.table.h"), os.path.join(folder, "bad.txt")
+        with open(bad, "w", encoding="utf-8") as f:
+            f.write("version 1\n")
+        expect("a refused text leaves no header", tool("c", bad, made)[0] == 1 and not os.path.exists(made))
+        expect("c writes a file", tool("c", TEXT, made) == (0, "", "") and read(made) == out)
+        expect("a refused text leaves the header as it was", tool("c", bad, made)[0] == 1 and read(made) == out)
+        expect("c to standard output", tool("c", TEXT, "-") == (0, out, ""))
         for name, text in {
             "the rows shipped": read(TEXT),
             "names with digits and _": BLOCK.replace(" A ", " 3D_a1 ") + "body _ u1 14 rev 0 mark none\nbody 4 i8 15 rev 3 mark least\n",
@@ -263,6 +304,10 @@ def headers():
             expect("the header of %s compiles, with its numbers" % name, said == "", said[-600:])
         first, second = (tool("c", "samples/flight-line-v%d.table.txt" % n)[1] for n in (1, 2))
         expect("headers of two versions do not go into one file", "redefin" in compiles(first + second, {}, 20, folder))
+        third = c_of(re.sub(r"(?m)^version \d+$", "version 1", read(TEXT)), folder)[1]
+        expect("nor of two tables of one version", "#define ALDERFLUTE_NAMES_VERSION 1\n" in first and "#define ALDERFLUTE_NAMES_VERSION 1\n" in third
+               and "redefinition of 'alderflute_table'" in compiles(first + third, {}, 20, folder))
+        expect("a header says that nothing checks a version", "nothing checks" in first)
 
 
 # A text that has no header, the line that the tool names, and words of why.
@@ -312,6 +357,21 @@ def all_of(folder):
     return {os.path.join(at, name): read(os.path.join(at, name), "rb") for at, _, names in os.walk(folder) for name in names}
 
 
+def edited(crate, edit):
+    """The files that a wrong program changes, as it leaves them."""
+    files, name, old = {}, "", ""
+    for word, _, line in (line.partition(": ") for line in read(os.path.join(crate, edit)).splitlines()):
+        if word == "file":
+            name = line
+            files[name] = read(os.path.join(crate, name))
+        elif word == "old":
+            old = line
+        else:
+            expect("%s: '%s' stands once" % (edit, old), files[name].count(old) == 1)
+            files[name] = files[name].replace(old, line)
+    return files
+
+
 def changed_rows():
     """What `rattle` writes of a changed row, what it says, and the names that it refuses."""
     with tempfile.TemporaryDirectory() as folder:
@@ -324,25 +384,49 @@ def changed_rows():
             status, out, err = tool("rattle", given, crate)
             place = "%s: line %d: " % (given, 2 + lines.count("\n"))
             expect("refused name: %r" % lines, status == 1 and out == "" and place in err and words in err and all_of(crate) == before, err)
-        text = read(TEXT).replace("version 1\n", "version 7\n") + "  body Spare u1 14 rev 0 mark ones\nblock 6000 MyBlock highest 1\n"
+        size, version = len(read(FILE, "rb")), int(re.search(r"(?m)^version (\d+)$", read(TEXT))[1])
+        rows = "  body Spare u1 14 rev 0 mark ones\nblock 6000 MyBlock highest 1\n"
+        with open(given, "w", encoding="utf-8") as f:
+            f.write(read(TEXT) + rows)
+        status, out, err = tool("rattle", given, crate)
+        expect("a version that stays is told", (status, err) == (0, "") and "the version, %d, has not: raise it in %s" % (version, given) in out, out)
+        text = re.sub(r"(?m)^version \d+$", "version %d" % (version + 6), read(TEXT)) + rows
         with open(given, "w", encoding="utf-8") as f:
             f.write(text)
+        with open(given[:-4] + ".h", "w", encoding="utf-8") as f:
+            f.write("old\n")
         status, out, err = tool("rattle", given, crate)
         data = make(text, folder)[2]
-        expect("rattle takes a changed row", (status, err) == (0, "") and len(data) == 392, (status, err))
+        expect("rattle takes a changed row", (status, err) == (0, "") and len(data) == size + 12 and "raise it" not in out, (status, err, out))
+        expect("the C header beside the text", read(given[:-4] + ".h") == tool("c", given)[1])
         expect("the table file beside the text", read(given[:-4], "rb") == data)
         lib, constant, rows = (read(os.path.join(crate, name)) for name in ("src/lib.rt", "src/bytes.rt", "specs/Rows.antt"))
-        expect("the length of the array that is handed out", "pub fn table() -> [u8; 392]\n" in lib and "380" not in lib)
-        expect("the version in the first line", lib.startswith("// The rows shipped, version 7 "), lib[:80])
-        expect("the constant", "[u8; 392]" in constant and bytes(int(n, 16) for n in re.findall(r"^    0x(..),$", constant, re.M)) == data)
-        expect("the readable list", 'field "Spare" u1 14 0 ones' in rows and "endofatt ∷ myblock ∷ []" in rows and "tableOf 7 (" in rows)
-        expect("an edit that no longer applies is told", "a_number_twice.edit: its line '0xe4,' stands in src/bytes.rt 0 times" in out, out)
-        expect("what is left is told", all(name in out for name in ("tests/model/model.py", "tests/test_table.py", "docs/PROMISES.md", "README.md", "rt check shipped")), out)
+        expect("the length of the array that is handed out", "pub fn table() -> [u8; %d]\n" % len(data) in lib and str(size) not in lib)
+        expect("the version in the first line", lib.startswith("// The rows shipped, version %d " % (version + 6)), lib[:80])
+        expect("the constant", "[u8; %d]" % len(data) in constant and bytes(int(n, 16) for n in re.findall(r"^    0x(..),", constant, re.M)) == data)
+        expect("the readable list", 'field "Spare" u1 14 0 ones' in rows and "endofatt ∷ myblock ∷ []" in rows and "tableOf %d (" % (version + 6) in rows)
+        expect("all edits apply", "has to once" not in out, out)
+        wrong = edited(crate, "wrong/a_number_twice.edit")
+        with_twice = bytes(int(n, 16) for n in re.findall(r"^    0x(..),", wrong["src/bytes.rt"], re.M))
+        numbers = re.findall(r'block "\w+" (\d+) ', wrong["specs/Rows.antt"])
+        expect("a number twice, with the right CRC", with_twice == closed(with_twice[:-4]) != data and len(set(numbers)) == len(numbers) - 1, numbers)
+        twice = show(with_twice, folder)
+        expect("a number twice, in the constant too", "T8: block numbers rise" in twice[2], twice)
+        with_index = bytes(int(n, 16) for n in re.findall(r"^    0x(..),", edited(crate, "wrong/another_first_index.edit")["src/bytes.rt"], re.M))
+        expect("another first index", "T10: the index" in show(closed(with_index[:-4]), folder)[2])
+        hand = ("docs/RULES.md", "docs/PROMISES.md", "docs/DECISIONS.md, 9", "README.md", "CHANGELOG.md", "tests/model/model.py", "rt check shipped lister")
+        expect("what is left is told", all(name in out for name in hand), out)
         expect("nothing is left the second time", tool("rattle", given, crate)[1].endswith("nothing has changed\n"))
+        with open(given, "w", encoding="utf-8") as f:
+            f.write(re.sub(r"PPPInfo u2 (\d+)", r"PPP u2 \1", text))
+        status, out, err = tool("rattle", given, crate)
+        expect("an edit that no longer applies is told", "pppinfo_of_another_mark.edit: its line" in out and "stands in specs/Rows.antt 0 times" in out, out)
+        expect("another name asks for no other version", status == 0 and "raise it" not in out, out)
 
 
 agreement()
 round_trips()
+own_text()
 changed_rows()
 refused_texts()
 refused_files()

@@ -123,6 +123,8 @@ def helps(stand):
         wrong = [] if name in ("quiet", "rt", "table", "x86cc", "x86run") else ["-x", "a", "b"]
         status, out, err = stand.run(name, *wrong, top=TOP)
         expect(f"tools/{name}, called wrongly", (status, out) == (2, b"") and err.startswith(f"usage: tools/{name}"), (status, out, err))
+    out = stand.run("list", "--help", top=TOP)[1].decode()
+    expect("list --help says what each column is", all(out.count(column) > 1 for column in ("PLACE", "NUMBER", "REVISION", "LENGTH", "BYTES", "BLOCKS", "SKIPPED")), out)
     for name in ("tests/run", "tests/wrong", ".ci/run", "bench/crc", "bench/framer", "bench/lister"):
         with subprocess.Popen([os.path.join(TOP, name), "--help"], stdout=subprocess.PIPE, env=stand.env, cwd="/") as ran:
             said = ended(ran)
@@ -205,7 +207,7 @@ def streams(stand):
         good = table if tool == "table" else "file"
         closed = 'exec "$0" "$@" >&-'
         with subprocess.Popen(["sh", "-c", closed, stand.at("tools/" + tool), *words, good], env=stand.env, cwd=stand.folder, stderr=subprocess.PIPE) as ran:
-            one_line(f"{tool}: standard output closed", ended(ran), tool, "standard output", "is closed")
+            one_line(f"{tool}: standard output closed", ended(ran), tool, "standard output", "is closed; lead it to a file")
         with open("/dev/full", "wb") as full:
             said = stand.run(tool, *words, good, stdout=full)
         one_line(f"{tool}: a full device", said, tool, "standard output" if tool == "table" else good, "no room is left")
@@ -214,11 +216,26 @@ def streams(stand):
         said = stand.run(tool, *words, good, stdout=right)
         os.close(right)
         expect(f"{tool}: a pipe that nobody reads", said[0] == -signal.SIGPIPE and said[2] == "", said)
+    one_line("list: an empty name", stand.run("list", ""), "list", "''", "there is no such file")
     one_line("list: a name of two lines", stand.run("list", "no\nfile"), "list", "'no\\nfile'", "there is no such file")
     if os.geteuid():  # root may read and write all
         os.chmod(stand.at("file"), 0)
         one_line("list: a file that may not be read", stand.run("list", "file"), "list", "file", "permission is denied")
         one_line("table: a file that may not be written", stand.run("table", "make", TEXT, "file"), "table", "file", "permission is denied")
+
+
+def terminal(stand):
+    """Who types is told that a tool waits."""
+    stand.program("lister", "echo 'end 0 0 0'\n")
+    for tool, words in [("list", []), ("table", ["show"]), ("table", ["c"]), ("table", ["make", "-", "out"])]:
+        typed, given = os.openpty()
+        with stand.start(tool, *words, stdin=given) as ran:
+            first = ran.stderr.readline()
+            expect(f"{tool} {words}: at a terminal", first == f"tools/{tool}: reads standard input; Ctrl-D ends it\n".encode(), first)
+            os.write(typed, b"\4")
+            expect(f"{tool} {words}: Ctrl-D ends it", ended(ran)[0] == (0 if tool == "list" else 1))
+        os.close(typed)
+        os.close(given)
 
 
 def tables(stand):
@@ -389,6 +406,9 @@ def real(stand):
         said = stand.run(tool, BROKEN, top=TOP, env=env)
         one_line(f"{tool}: reading fails", said, tool, BROKEN, "cannot be read to its end")
         expect(f"{tool}: nothing is printed of it", said[1] == b"", said)
+    write(stand.at("arm"), b"\x7fELF" + bytes(14) + b"\xb7\0")
+    for file, words in [("none", "there is no such file"), ("tmp", "there is no such file"), (SAMPLE, "is no x86-64 program"), ("arm", "is no x86-64 program")]:
+        one_line(f"x86run of {file}", stand.run("x86run", file, top=TOP, env=env), "x86run", file, words)
     one_line("replay of no script", stand.run("replay", SAMPLE, top=TOP, env=env), "replay", SAMPLE, "no call")
 
 
@@ -400,7 +420,7 @@ def main():
             part(Stand(os.path.realpath(folder)))
 
     with ThreadPoolExecutor(3) as pool:
-        list(pool.map(apart, (streams, signals, listed, helps, others, tables, proving, capi, compiler, real)))
+        list(pool.map(apart, (streams, signals, listed, helps, others, terminal, tables, proving, capi, compiler, real)))
     return CASES.tally()
 
 

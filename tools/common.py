@@ -118,8 +118,8 @@ def tool(doc, main):
 
 
 def shown(path):
-    """A path in a line: a name may have a line end in it."""
-    return "standard input" if path == "-" else path if path.isprintable() else ascii(path)
+    """A path in a line: a name may have a line end in it, or nothing."""
+    return "standard input" if path == "-" else path if path and path.isprintable() else ascii(path)
 
 
 def why_not(error):
@@ -143,7 +143,8 @@ def told_of(path):
     except BrokenPipeError:
         raise
     except OSError as error:
-        raise Failed("%s: %s" % (shown(path), why_not(error)))
+        closed = path == "standard output" and error.errno == errno.EBADF
+        raise Failed("%s: %s" % (shown(path), "is closed; lead it to a file" if closed else why_not(error)))
 
 
 def open_input(path):
@@ -152,6 +153,8 @@ def open_input(path):
         given = 0 if path == "-" else os.open(path, os.O_RDONLY)
         if stat.S_ISDIR(os.fstat(given).st_mode):
             raise IsADirectoryError(errno.EISDIR, "")
+        if path == "-" and os.isatty(given):
+            say("reads standard input; Ctrl-D ends it")
         return given
 
 

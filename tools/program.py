@@ -90,8 +90,6 @@ def run(doc, name, last, unwhole):
             raise Misused
         path = words[0] if words else "-"
         given = open_input(path)
-        if path == "-" and os.isatty(given):
-            say("reads standard input; Ctrl-D ends it")
         if not os.path.exists(os.path.join(TOP, "target", "bin", name)):
             say("proving and building %s; the first time takes some minutes" % name)
         prove("check", name)

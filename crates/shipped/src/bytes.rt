@@ -312,60 +312,60 @@ pub const TABLE: [u8; 380] = [
     0x09,
     0x00,
     0x03,
-    0xa6,
-    0x0f,
+    0xa6, // PVTCartesian: number, low
+    0x0f, // PVTCartesian: number, high
     0x02,
     0x1a,
+    0x00, // PVTCartesian: first field row, low
+    0x00, // PVTCartesian: first field row, high
     0x00,
     0x00,
-    0x00,
-    0x00,
-    0xcb,
-    0x0f,
+    0xcb, // BaseVectorCart: number, low
+    0x0f, // BaseVectorCart: number, high
     0x00,
     0x02,
-    0x1a,
-    0x00,
+    0x1a, // BaseVectorCart: first field row, low
+    0x00, // BaseVectorCart: first field row, high
     0x0f,
     0x00,
-    0x12,
-    0x17,
+    0x12, // PosCovGeodetic: number, low
+    0x17, // PosCovGeodetic: number, high
     0x00,
     0x0c,
-    0x2b,
+    0x2b, // PosCovGeodetic: first field row, low
+    0x00, // PosCovGeodetic: first field row, high
     0x00,
     0x00,
-    0x00,
-    0x24,
-    0x17,
+    0x24, // ExtEvent: number, low
+    0x17, // ExtEvent: number, high
     0x01,
     0x05,
-    0x37,
+    0x37, // ExtEvent: first field row, low
+    0x00, // ExtEvent: first field row, high
     0x00,
     0x00,
-    0x00,
-    0x32,
-    0x17,
+    0x32, // AttEuler: number, low
+    0x17, // AttEuler: number, high
     0x00,
     0x0a,
-    0x3c,
+    0x3c, // AttEuler: first field row, low
+    0x00, // AttEuler: first field row, high
     0x00,
     0x00,
-    0x00,
-    0x33,
-    0x17,
+    0x33, // AttCovEuler: number, low
+    0x17, // AttCovEuler: number, high
     0x00,
     0x08,
-    0x46,
+    0x46, // AttCovEuler: first field row, low
+    0x00, // AttCovEuler: first field row, high
     0x00,
     0x00,
+    0x37, // EndOfAtt: number, low
+    0x17, // EndOfAtt: number, high
     0x00,
-    0x37,
-    0x17,
     0x00,
-    0x00,
-    0x4e,
-    0x00,
+    0x4e, // EndOfAtt: first field row, low
+    0x00, // EndOfAtt: first field row, high
     0x00,
     0x00,
     0x01,
@@ -376,8 +376,8 @@ pub const TABLE: [u8; 380] = [
     0x00,
     0x7c,
     0x01,
-    0xa0,
-    0xe4,
+    0xa0, // the CRC, low
+    0xe4, // the CRC, high
     0x42,
     0x54,
 ];
