@@ -415,6 +415,9 @@ def real(stand):
 def main():
     signal.signal(signal.SIGINT, signal.default_int_handler)  # a shell's background job would have its children ignore it
 
+    for number in (signal.SIGTERM, signal.SIGINT, signal.SIGHUP):
+        signal.signal(number, signal.default_int_handler)  # who starts this in the background hands them on as ignored, to the tools too
+
     def apart(part):
         with tempfile.TemporaryDirectory() as folder:
             part(Stand(os.path.realpath(folder)))
