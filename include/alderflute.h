@@ -6,17 +6,19 @@
  * which says what it is, and a revision, which grows as fields are added to it. A table has a row for each block number: where
  * its fields stand, their types, from which revision on, and which values mean that there is none. A block of a later revision
  * than its row knows is read by the fields that the row has, and not refused. Body fields stand once in a block; a sub-block
- * repeats its fields.
+ * repeats its fields. A table's version is only what the table says of itself. Nothing checks that two tables of one version
+ * are the same: those of samples/shipped-v1 and samples/flight-line-v1 both say 1, with other field numbers.
  *
  * CALLS IN ORDER. alderflute_new once; stage a table; open a run; feed it, and after each BLOCK ask for its bytes and fields;
  * finish until END. Then open the next run. Stage and withdraw may come at any time: a staged table waits for the next open.
  *
  * LINKING. tools/capi, or make, builds target/staticlib/libalderflute.a; `make install PREFIX=..` puts header, archive and
- * alderflute.pc in place, and then `cc .. $(pkg-config --cflags --libs alderflute)` links. The archive is position-independent
- * code for x86-64 Linux and the System V ABI, about 14 kB with its constants. Of a C library it wants memmove and nothing
- * else, so it links into a freestanding program that has one. It allocates nothing, keeps no variables, calls nothing back and
- * starts no threads. This header includes stddef.h and stdint.h only. At the start compare alderflute_abi() with
- * ALDERFLUTE_ABI, as the example does: where they differ, header and archive do not belong together.
+ * alderflute.pc in place, and then `cc .. $(pkg-config --cflags --libs alderflute)` links; PREFIX/share/alderflute has the
+ * example, with the table that it includes as a C header. The archive is position-independent code for x86-64 Linux and the
+ * System V ABI, about 14 kB with its constants. Of a C library it wants memmove and nothing else, so it links into a
+ * freestanding program that has one. It allocates nothing, keeps no variables, calls nothing back and starts no threads. This
+ * header includes stddef.h and stdint.h only. At the start compare alderflute_abi() with ALDERFLUTE_ABI, as the example does:
+ * where they differ, header and archive do not belong together.
  *
  * BARE METAL. The archive uses the SSE registers: switch SSE on before the first call, and let interrupt handlers that use it
  * save and restore these registers. It uses the red zone, 128 bytes below the stack pointer: an interrupt must not push onto
@@ -307,7 +309,8 @@ alderflute_state alderflute_new(void);
 
 /* Opens a run. A table that waits is copied to the in-force store first, and waits no more. The counts begin at 0, and the
    hold counts as empty. TABLE_VERSION: of the table in force from now on. Field numbers belong to a version: where it is not
-   the one that yours were taken from (ALDERFLUTE_NAMES_VERSION of a header by `tools/table c`), ask for no fields by them. */
+   the one that yours were taken from (ALDERFLUTE_NAMES_VERSION of a header by `tools/table c`), ask for no fields by them.
+   That tells tables apart only where you number them all yourself, and give each one that you release a number of its own. */
 alderflute_reply alderflute_open(alderflute_state state, uint8_t *in_force, size_t in_force_length, const uint8_t *waiting,
                                  size_t waiting_length);
 

@@ -227,6 +227,9 @@ def header(env):
     text = read(HEADER)
     shown = "".join(line[7:] + "\n" for line in text.split("EXAMPLE")[1].split("\n */")[0].split("\n")[2:])
     expect("the header's example is samples/example.c", shown == read(EXAMPLE))
+    shipped, other = ([line.strip() for line in read(os.path.join(TOP, "samples", name + "-v1.table.txt")).splitlines()
+                       if line.split() and line[0] != "#"] for name in ("shipped", "flight-line"))
+    expect("two samples say version 1, with other rows", shipped[0] == other[0] == "version 1" and shipped != other, (shipped[0], other[0]))
     listed = re.findall(r"^ \* +(\d+)  \S", text, re.M)
     expect("the header has a sentence for each refusal", listed == [str(n) for n in range(1, 11)], listed)
     names = re.findall(r"^    ALDERFLUTE_REFUSAL_(\w+) = (\d+),?$", text, re.M)
@@ -288,10 +291,12 @@ def archive(env):
 
 
 def installed(env):
-    """`make install` into a folder; the example with the flags of alderflute.pc and no others."""
+    """`make install` into a folder; the example there, with the flags of alderflute.pc and no others; `make uninstall`."""
     if shutil.which("make") is None:
         print("test_capi: there is no make here; make install is left out")
         return
+    status, _, error = ran(["make"], env)
+    expect("make", status == 0, error.decode())
     with tempfile.TemporaryDirectory() as folder:
         status, _, error = ran(["make", "install", "PREFIX=/usr/af", "DESTDIR=" + folder], env)
         expect("make install with DESTDIR", status == 0 and os.path.exists(folder + "/usr/af/lib/libalderflute.a"), error.decode())
@@ -299,8 +304,8 @@ def installed(env):
         status, _, error = ran(["make", "install", "PREFIX=" + folder], env)
         expect("make install with PREFIX", status == 0, error.decode())
         cflags, libs = flags_of(env, os.path.join(folder, "lib", "pkgconfig"))
-        program = os.path.join(folder, "example")
-        if compiled(env, EXAMPLE, program, CFLAGS[:-1] + cflags, libs):
+        program, source = os.path.join(folder, "example"), os.path.join(folder, "share", "alderflute", "example.c")
+        if compiled(env, source, program, CFLAGS[:-1] + cflags, libs):
             status, out, error = ran([os.path.join(TOP, "tools", "x86run"), program], env, flight())
             expect("the installed copy lists the flight line", (status, out, error) == (0, listed(), b""), out[-300:])
         # a header of another interface
@@ -308,9 +313,49 @@ def installed(env):
         text = re.sub(r"#define ALDERFLUTE_ABI (\d+)", lambda m: m[0] + "1", read(name))
         with open(name, "w", encoding="utf-8") as f:
             f.write(text)
-        if compiled(env, EXAMPLE, program, CFLAGS[:-1] + cflags, libs):
+        if compiled(env, source, program, CFLAGS[:-1] + cflags, libs):
             status, out, error = ran([os.path.join(TOP, "tools", "x86run"), program], env, flight())
             expect("the example finds that header and archive differ", (status, out) == (2, b"") and b"belong" in error, error)
+        os.remove(program)
+        ran(["make", "uninstall", "PREFIX=/usr/af", "DESTDIR=" + folder], env)
+        status, _, error = ran(["make", "uninstall", "PREFIX=" + folder], env)
+        expect("make uninstall leaves no file", (status, files_in(folder)) == (0, []), (error, files_in(folder)))
+
+
+def files_in(folder):
+    return [os.path.join(at, name) for at, _, names in os.walk(folder) for name in names]
+
+
+def not_installed(env):
+    """What `make install` refuses, with nothing written: an archive that is not there or older than its sources, and paths that
+    cannot stand in alderflute.pc. And a relative PREFIX."""
+    if shutil.which("make") is None:
+        return
+    with tempfile.TemporaryDirectory() as folder:
+        old, there = os.path.join(folder, "old.a"), os.path.join(folder, "there")
+        shutil.copyfile(ARCHIVE, old)
+        os.utime(old, (0, 0))
+        for name, words, why in [("with an archive older than a source", ["PREFIX=" + there, "ARCHIVE=" + old], b"is older than "),
+                                 ("with no archive", ["PREFIX=" + there, "ARCHIVE=" + old + "s"], b"run make first"),
+                                 ("with a space in PREFIX", [f"PREFIX={there}/a b"], b"name another PREFIX"),
+                                 ("into the repository itself", ["PREFIX=."], b"name another PREFIX"),
+                                 ("with a space in LIBDIR", ["PREFIX=" + there, f"LIBDIR={there}/a b"], b"name another PREFIX")]:
+            status, _, error = ran(["make", "install"] + words, env)
+            expect("make install " + name, status == 2 and why in error and not os.path.exists(there), (status, error))
+        expect("make clean", ran(["make", "clean", "ARCHIVE=" + old], env)[0] == 0 and files_in(folder) == [], files_in(folder))
+        if not re.search(r"\s", TOP):
+            status, _, error = ran(["make", "install", "PREFIX=" + os.path.relpath(there, TOP)], env)
+            prefix = re.match("prefix=(.*)\n", read(os.path.join(there, "lib", "pkgconfig", "alderflute.pc")))[1] if status == 0 else ""
+            expect("a relative PREFIX is made absolute", prefix[:1] == "/" and os.path.samefile(prefix, there), (prefix, error))
+
+
+def called(env):
+    """Help of the measurements of the interface, and words that tests/run does not take."""
+    for name in ("bench/record", "bench/worst"):
+        status, out, _ = ran([os.path.join(TOP, name), "--help"], env)
+        expect(name + " --help", status == 0 and out.startswith(b"Counts the x86-64 instructions of single calls"), (status, out[-300:]))
+    said = ran([os.path.join(TOP, "tests", "run"), "x"], env)
+    expect("tests/run, called wrongly", said == (2, b"", b"usage: tests/run\n"), said)
 
 
 def flags_of(env, folder):
@@ -414,6 +459,8 @@ def main():
         archive(env)
         example(env)
         installed(env)
+        not_installed(env)
+        called(env)
         odd(env)
         stack(env)
         scripts(env)

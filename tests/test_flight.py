@@ -1,11 +1,14 @@
 #!/usr/bin/env python3
-"""The replay program on scripts written by hand: the flight line of samples/, each kind of bad line, size, put and poke.
+"""The replay program on scripts written by hand: the flight line of samples/, each kind of bad line, size, put and poke; and on
+those that tools/script writes of recordings.
 
 What is expected is written down here, with the CRCs of the buffers from binascii.crc_hqx(data, 0).
 Needs target/bin/replay, which `rt check` makes. The last line is 'N passed, M failed'.
 """
 import binascii
+import glob
 import os
+import re
 import subprocess
 import sys
 import tempfile
@@ -180,6 +183,33 @@ def failures(env):
         yield "a full device as standard output", "replay: cannot write to standard output\n", told(script, full)
 
 
+def recordings(env):
+    """(name, the lister's lines, what replay reports of the script of tools/script): streams with their lists beside them, and a
+    false header whose last byte stands within a block, with blocks on either side."""
+    table = os.path.join(TOP, "samples", "shipped-v1.table")
+
+    def told(*words, data=b""):
+        """Blocks and end in the answers, and every answer that is neither such nor usual."""
+        script = subprocess.run([os.path.join(TOP, "tools", "script"), table, *words], input=data, env=env, stdout=subprocess.PIPE,
+                                stderr=subprocess.STDOUT, timeout=60).stdout.decode("ascii")
+        said, wrong = played(script, env)
+        answers = re.sub(r"(?m)^(fed \d+ (?=block)|(staged|opened) 1$|fed \d+ more$)\n?", "", re.sub(r"(?m) \|.*$", "", said))
+        return answers + wrong
+    for path in sorted(glob.glob(os.path.join(TOP, "tests", "streams", "*.sbf"))) + [os.path.join(TOP, "samples", "flight.sbf")]:
+        with open(path[:-4] + ".list", encoding="ascii") as f:
+            yield f"the script of {os.path.relpath(path, TOP)}", f.read(), told(path)
+    held_back = bytes.fromhex("2440000037173c00" + BLOCK * 20)  # 60 bytes by its header: up to the middle of the seventh block
+    want = "".join(f"block {8 + 8 * n} 0 0 8\n" for n in range(20)) + "end 168 20 8\n"
+    yield "the script of blocks in a false header and behind it", want, told(data=held_back)
+    yield "the script of nothing", "end 0 0 0\n", told("-")
+    with open(os.path.join(TOP, "samples", "flight.sbf"), "rb") as sbf, open(table, "rb") as rows:
+        pieces = [f"feed {piece.hex()}\n" for piece in iter(lambda: sbf.read(512), b"")]
+        said, _ = played(f"stage {rows.read().hex()}\nopen\n{''.join(pieces)}finish\n", env)
+    with open(os.path.join(TOP, "docs", "REPLAY.md"), encoding="utf-8") as page:
+        yield "what docs/REPLAY.md says of pieces of one length", said.splitlines()[-1].split(" |")[0], \
+            "".join(re.findall("pieces of 512 bytes ends with `(.*?)`", page.read()))
+
+
 def cases():
     for group in (flight, bad_lines, numbers, passed_over, size_put_poke, longest, many):
         yield from group()
@@ -202,7 +232,7 @@ def main():
     for name, script, want, told in cases():
         said, wanted = (told, want) if script is None else (played(script, env), (want, told))
         counted.expect(name, said == wanted, f"{str(said)[:500]}, not {str(wanted)[:500]}")
-    for name, want, told in failures(env):
+    for name, want, told in (*failures(env), *recordings(env)):
         counted.expect(name, told == want, f"{told[:300]!r}, not {want[:300]!r}")
     return counted.tally()
 

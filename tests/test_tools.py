@@ -116,7 +116,7 @@ def helps(stand):
     """Help on standard output and status 0, wrong words with the usage and status 2."""
     names = sorted(n for n in os.listdir(os.path.join(TOP, "tools")) if os.stat(os.path.join(TOP, "tools", n)).st_mode & stat.S_IXUSR)
     names = [n for n in names if os.path.isfile(os.path.join(TOP, "tools", n))]
-    expect("the tools are there", len(names) == 11, names)
+    expect("the tools are there", len(names) == 12, names)
     for name in names:
         status, out, err = stand.run(name, "--help", top=TOP)
         expect(f"tools/{name} --help", (status, err) == (0, "") and f"Usage: tools/{name}" in out.decode(), (status, out[-300:], err))
