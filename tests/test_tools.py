@@ -125,7 +125,7 @@ def helps(stand):
         expect(f"tools/{name}, called wrongly", (status, out) == (2, b"") and err.startswith(f"usage: tools/{name}"), (status, out, err))
     out = stand.run("list", "--help", top=TOP)[1].decode()
     expect("list --help says what each column is", all(out.count(column) > 1 for column in ("PLACE", "NUMBER", "REVISION", "LENGTH", "BYTES", "BLOCKS", "SKIPPED")), out)
-    for name in ("tests/run", "tests/wrong", ".ci/run", "bench/crc", "bench/framer", "bench/lister"):
+    for name in ("tests/run", "tests/wrong", ".ci/run", "bench/crc", "bench/framer", "bench/lister", "bench/record", "bench/worst"):
         with subprocess.Popen([os.path.join(TOP, name), "--help"], stdout=subprocess.PIPE, env=stand.env, cwd="/") as ran:
             said = ended(ran)
         expect(f"{name} --help", said[0] == 0 and said[1], said)
