@@ -29,12 +29,12 @@ use Rattle.cform.specs.Theorems.{answerBack, fieldBack}
 use Rattle.cform.proofs.Phases.{closed-of, feeding-of, finishing-of, none-over}
 use Rattle.cform.proofs.Back.{nothing-lost}
 use Rattle.capi.specs.Calls.{Left, Handing, goesOn, openC, feedC, finishC, stageC, withdrawC, tellsField, bodyC, subC, towC, wncC, hands, cut, bytesC, subBytesC}
-use Rattle.demands.specs.World.{World, stage, withdraw, Look, bytes, body, sub, subBytes, tow, wnc, Call, openRun, feed, finish, table, look, Reply, said, part, value, told, partOf, looked, step, end, Line, _⇒_, trace}
+use Rattle.demands.specs.World.{World, stage, withdraw, Look, bytes, body, sub, subBytes, tow, wnc, Call, openRun, feed, finish, table, look, Reply, said, part, value, told, partOf, looked, Step, step, end, Line, _⇒_, trace}
 use Rattle.demands.specs.Refusals.{Order, Given, order}
 use Rattle.demands.specs.Demand1.{Demand1}
 use Rattle.demands.proofs.Listed.{nothing-there}
 use Rattle.demands.proofs.Refusing.{demand-1}
-use Rattle.ccalls.specs.ThroughC.{CWorld, worldC, CStep, lookedC, stepC, refusalBack, replyBack, endC, traceC, ThroughC}
+use Rattle.ccalls.specs.ThroughC.{CWorld, worldC, CStep, lookedC, stepC, refusalBack, replyBack, worldBack, stepByC, endC, traceC, ThroughC}
 use Rattle.ccalls.proofs.Answers.{open-back, feed-back, end-back, stage-back, withdraw-back}
 
 -- what the state of C's stands for
@@ -177,6 +177,19 @@ answers [] w = refl
 answers (c ∷ cs) w =
     ap₂ (λ (a : Reply) (ls : List Line). c ⇒ a ∷ ls) (means c w) (ap (traceC cs) (leaves c w) ∙ answers cs (step c w .world))
 
+-- ---- as one equation
+
+back-again : (before : State) (w : World) → worldBack before (worldC w) ≡ w
+back-again before w = ap (λ (o : Option State). record { state = Option·getD o before; hold = w .hold; force = w .force; wait = w .wait }) (back (w .state))
+
+same-step : (c : Call) (w : World) → stepByC c w ≡ step c w
+unfolding stepByC
+same-step c w =
+    ap₂ (λ (a : Reply) (x : World). record { answer = a; world = x }) (means c w) (ap (worldBack (w .state)) (leaves c w) ∙ back-again (w .state) (step c w .world))
+
+same : stepByC ≡ step
+same i c w = same-step c w i
+
 -- ---- a state that is made up
 
 unknown-look : (l : Look) (w : CWorld) → stateOf (w .state) ≡ none → told (replyBack (look l) w (lookedC l w)) .refusal ≡ some 1
@@ -291,6 +304,7 @@ through-c =
       leaves = leaves;
       answers = answers;
       ends = ends;
+      same = same;
       known = λ s t. known-by s t (s .phase) refl;
       unknown = unknown;
       empty = empty;

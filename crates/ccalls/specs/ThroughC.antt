@@ -5,7 +5,7 @@ use Prim.Native.Nat.{ℕ}
 use mathlib.Core.Path.{_≡_}
 use mathlib.Core.Bool.{Bool, true, false, cond}
 use mathlib.Core.List.{List, [], _∷_}
-use mathlib.Core.Option.{Option, none, some}
+use mathlib.Core.Option.{Option, none, some, Option·getD}
 use lib.ListN.{length}
 use lib.Dec.{eqb}
 use Rattle.reader.specs.declared.State.{State}
@@ -17,7 +17,7 @@ use Rattle.cform.specs.declared.CState.{CState}
 use Rattle.cform.specs.State.{stateOf, stateC}
 use Rattle.cform.specs.Theorems.{answerBack, fieldBack}
 use Rattle.capi.specs.Calls.{Left, openC, feedC, finishC, stageC, withdrawC, bodyC, subC, towC, wncC, cut, bytesC, subBytesC}
-use Rattle.demands.specs.World.{World, TableCall, stage, withdraw, Look, bytes, body, sub, subBytes, tow, wnc, Call, openRun, feed, finish, table, look, Reply, said, part, value, told, partOf, step, end, Line, _⇒_, trace}
+use Rattle.demands.specs.World.{World, TableCall, stage, withdraw, Look, bytes, body, sub, subBytes, tow, wnc, Call, openRun, feed, finish, table, look, Reply, said, part, value, told, partOf, Step, step, end, Line, _⇒_, trace}
 
 -- the state as C has it, and the three buffers
 pub record CWorld : Type 0 where
@@ -99,6 +99,18 @@ replyBack c w (cAnswer a) = said (answerBack (isFinish c) a)
 replyBack c w (cField f) = value (fieldBack f)
 replyBack c w (cPart p) = part (refusalBack (p .refusal)) (cut p (countedIn c w))
 
+-- ---- the reader's step, made by C
+
+-- a world of C's read back; the state before stands in where C's stands for none
+abbrev pub worldBack : State → CWorld → World
+worldBack before w = record { state = Option·getD (stateOf (w .state)) before; hold = w .hold; force = w .force; wait = w .wait }
+
+-- the call made through C, its answer and what it leaves read back
+unfoldable pub stepByC : Call → World → Step
+stepByC c w =
+    let done = stepC c (worldC w) in
+    record { answer = replyBack c (worldC w) (done .answer); world = worldBack (w .state) (done .world) }
+
 -- ---- sequences
 
 unfoldable pub endC : List Call → CWorld → CWorld
@@ -116,6 +128,9 @@ pub record ThroughC : Type 0 where
   -- any calls, one after the other: what the demands say of the reader's answers and worlds, they say of C's
   pub answers : (cs : List Call) (w : World) → traceC cs (worldC w) ≡ trace cs w
   pub ends : (cs : List Call) (w : World) → endC cs (worldC w) ≡ worldC (end cs w)
+  -- and as one equation of functions: all that is proved of `step` and of what is made of it, D1 to D3 among it, holds with calls through C
+  -- in its place
+  pub same : stepByC ≡ step
   -- R23: every state of C's is one of the reader's, or its phase is none: then every call refuses it with 1, hands back no byte, and
   -- changes nothing
   pub known : (s : CState) (t : State) → stateOf s ≡ some t → s ≡ stateC t
