@@ -2,6 +2,9 @@
  * Alderflute for C and C++: reads Septentrio's SBF stream. It finds the blocks in a run of bytes and reads their fields by
  * number through a block table. Every call is proved against its definition; crates/capi of the repository has both.
  *
+ * RULES. What stands here in short stands in docs/RULES.md of the repository in full, by number: how a run is read F11 to F15,
+ * calls and buffers C1 to C15, refusal n as Rn, tables T1 to T18, values V1 to V9. The numbers are named below.
+ *
  * WORDS. A run is the bytes from an open to END; a piece is what one feed is given of it, cut anywhere. A block has a number,
  * which says what it is, and a revision, which grows as fields are added to it. A table has a row for each block number: where
  * its fields stand, their types, from which revision on, and which values mean that there is none. A block of a later revision
@@ -24,24 +27,25 @@
  * save and restore these registers. It uses the red zone, 128 bytes below the stack pointer: an interrupt must not push onto
  * the stack of the call that it interrupts. Give interrupts another stack, by the processor's interrupt stack table.
  *
- * THREADS. Calls of one reader come one after the other, also where they are lent different buffers. Feed and stage, say, both
- * return the next state: of two that begin with the same state, what the one did is lost. Where threads share a reader, one
- * lock goes around each call and the keeping of its state. From BLOCK on it is held until the last use of that block's bytes,
- * or until they are copied: they stand in the hold, where another thread's feed writes. An interrupt handler counts as a
- * thread, and cannot wait for a lock: keep its interrupt off meanwhile, or let it queue bytes and make no calls. Calls of
+ * THREADS (C1). Calls of one reader come one after the other, also where they are lent different buffers. Feed and stage, say,
+ * both return the next state: of two that begin with the same state, what the one did is lost. Where threads share a reader,
+ * one lock goes around each call and the keeping of its state. From BLOCK on it is held until the last use of that block's
+ * bytes, or until they are copied: they stand in the hold, where another thread's feed writes. An interrupt handler counts as
+ * a thread, and cannot wait for a lock: keep its interrupt off meanwhile, or let it queue bytes and make no calls. Calls of
  * different readers may run at the same time.
  *
- * STATE. A reader is an alderflute_state and its three buffers. alderflute_new() is the only start. Never start with a struct
- * of zeros: today it happens to be the same, but a later version will refuse it (there the state has a ceiling for block
- * lengths, request M-103, and 0 is a bad one). The state goes into every call by value. A call that returns an alderflute_reply
- * returns the next state in it: go on with that one, and with no older one. The others (bytes, body, sub, subbytes, tow, wnc)
- * change nothing. The struct has no pointers: keep it where you like, move or save it with the buffers, but write nothing into
- * it. Of made-up states refusal 1 finds those that its line below names, and no others. Any other is taken at its word: five
- * held bytes are a standing block where the state says so, places and the counts of END come from the state, and a count that
- * was close to its bound may pass it, which the next call refuses. But no call reads or writes past the buffers given.
+ * STATE (C1, C15, R1, R23). A reader is an alderflute_state and its three buffers. alderflute_new() is the only start. Never
+ * start with a struct of zeros: today it happens to be the same, but a later version will refuse it (there the state has a
+ * ceiling for block lengths, request M-103, and 0 is a bad one). The state goes into every call by value. A call that returns
+ * an alderflute_reply returns the next state in it: go on with that one, and with no older one. The others (bytes, body, sub,
+ * subbytes, tow, wnc) change nothing. The struct has no pointers: keep it where you like, move or save it with the buffers,
+ * but write nothing into it. Of made-up states refusal 1 finds those that its line below names, and no others. Any other is
+ * taken at its word: five held bytes are a standing block where the state says so, places and the counts of END come from the
+ * state, and a count that was close to its bound may pass it, which the next call refuses. But no call reads or writes past
+ * the buffers given.
  *
- * BUFFERS. You own every buffer; a call borrows it until it returns, and no pointer is kept after that. Three buffers belong
- * to one reader from alderflute_new on, and between calls nobody else may write to them:
+ * BUFFERS (C2 to C4). You own every buffer; a call borrows it until it returns, and no pointer is kept after that. Three
+ * buffers belong to one reader from alderflute_new on, and between calls nobody else may write to them:
  *   the hold      ALDERFLUTE_HOLD bytes or more. The bytes that are not decided yet, a reported block first.
  *                 Lent to feed, finish (they write it) and bytes.
  *   in force      ALDERFLUTE_STORE bytes or more. The table that blocks are read by.
@@ -56,13 +60,14 @@
  *   - A part that is handed back is an offset and a length in the buffer that you gave. It is no copy: a part of the hold is
  *     good until the next feed or finish with that hold, a part of a block as long as the block's bytes.
  *
- * ANSWERS. refusal is 0 where the call was done, else the number of the refusal; kind says which values are set. All other
- * values are 0. A refused call returns the state that it was given and has written nothing: go on as if it had not been made. A
- * block that stood before a refused feed stands after it. The same arguments and bytes give the same answer, member by member:
- * alderflute_answer, alderflute_block and alderflute_part have padding, of which nothing is promised, so compare members and
- * not memory.
+ * ANSWERS (R21, R22). refusal is 0 where the call was done, else the number of the refusal; kind says which values are set.
+ * All other values are 0. A refused call returns the state that it was given and has written nothing: go on as if it had not
+ * been made. A block that stood before a refused feed stands after it. The same arguments and bytes give the same answer,
+ * member by member: alderflute_answer, alderflute_block and alderflute_part have padding, of which nothing is promised, so
+ * compare members and not memory.
  *
- * REFUSALS. The numbers have names, ALDERFLUTE_REFUSAL_.., and alderflute_refusal_text gives a line for a log.
+ * REFUSALS (R1 to R10, their order R20). The numbers have names, ALDERFLUTE_REFUSAL_.., and alderflute_refusal_text gives a
+ * line for a log.
  *    1  BAD_BUFFER. A buffer of the reader is shorter than above, or a number in the state is out of bounds: phase is above
  *       2; held above 65,532, above taken or below standing; in_force or waiting above 8,192; taken above 4,294,967,295;
  *       blocks or skipped above taken.
@@ -304,57 +309,58 @@ typedef struct alderflute_part {
 /* ALDERFLUTE_ABI of the header that the archive was made for. */
 uint32_t alderflute_abi(void);
 
-/* A new reader: no run, no table. Not refused. */
+/* C15. A new reader: no run, no table. Not refused. */
 alderflute_state alderflute_new(void);
 
-/* Opens a run. A table that waits is copied to the in-force store first, and waits no more. The counts begin at 0, and the
+/* C5. Opens a run. A table that waits is copied to the in-force store first, and waits no more. The counts begin at 0, and the
    hold counts as empty. TABLE_VERSION: of the table in force from now on. Field numbers belong to a version: where it is not
    the one that yours were taken from (ALDERFLUTE_NAMES_VERSION of a header by `tools/table c`), ask for no fields by them.
    That tells tables apart only where you number them all yourself, and give each one that you release a number of its own. */
 alderflute_reply alderflute_open(alderflute_state state, uint8_t *in_force, size_t in_force_length, const uint8_t *waiting,
                                  size_t waiting_length);
 
-/* Drops the block last reported and takes bytes of the piece, up to a block that they end, up to the end of the piece, or up
-   to 4,294,967,295 bytes in the run. BLOCK or MORE, each with taken. BLOCK with taken 0 is usual: that block was held
+/* C6, C7. Drops the block last reported and takes bytes of the piece, up to a block that they end, up to the end of the piece,
+   or up to 4,294,967,295 bytes in the run. BLOCK or MORE, each with taken. BLOCK with taken 0 is usual: that block was held
    already. After BLOCK call again with the rest of the piece, which may be empty, until MORE or a refusal. MORE with less than
-   the piece taken: the run is full, and the next feed that is not empty is refused with 3. Finish it then: it may hold
-   blocks. */
+   the piece taken: the run is full, and the next feed that is not empty is refused with 3. Finish it then: it may hold blocks.
+   */
 alderflute_reply alderflute_feed(alderflute_state state, uint8_t *hold, size_t hold_length, const uint8_t *piece,
                                  size_t piece_length);
 
-/* No more bytes come. Drops the block last reported. BLOCK, or END, which closes the run. Call it until END or a refusal. */
+/* C8. No more bytes come. Drops the block last reported. BLOCK, or END, which closes the run. Call it until END or a refusal.
+   */
 alderflute_reply alderflute_finish(alderflute_state state, uint8_t *hold, size_t hold_length);
 
-/* The block last reported, as a part of the hold; a part of length 0 where none stands. */
+/* C9. The block last reported, as a part of the hold; a part of length 0 where none stands. */
 alderflute_part alderflute_bytes(alderflute_state state, const uint8_t *hold, size_t hold_length);
 
-/* Checks a table and copies it to the waiting store, in place of any that waits. TABLE_VERSION: of that table. At any time: an
-   open run goes on with its own table. `tools/table make` writes a table's file, `tools/table c` a C header with its bytes
-   and with names for its numbers. */
+/* C10. Checks a table and copies it to the waiting store, in place of any that waits. TABLE_VERSION: of that table. At any
+   time: an open run goes on with its own table. `tools/table make` writes a table's file, `tools/table c` a C header with its
+   bytes and with names for its numbers. */
 alderflute_reply alderflute_stage(alderflute_state state, uint8_t *waiting, size_t waiting_length, const uint8_t *table,
                                   size_t table_length);
 
-/* No table waits any more. WITHDRAWN, with whether one did. At any time. */
+/* C11. No table waits any more. WITHDRAWN, with whether one did. At any time. */
 alderflute_reply alderflute_withdraw(alderflute_state state);
 
-/* A body field of a block, by its number in the row: 0 is the first. The block is what alderflute_bytes handed back, or a copy
-   of it. */
+/* C13, V7. A body field of a block, by its number in the row: 0 is the first. The block is what alderflute_bytes handed back,
+   or a copy of it. */
 alderflute_field alderflute_body(alderflute_state state, const uint8_t *in_force, size_t in_force_length, const uint8_t *block,
                                  size_t block_length, size_t field);
 
-/* A field of a sub-block, by two numbers from 0. Body fields 0 and 1 of such a block are N and SBLength: how many sub-blocks
-   it has, and how many bytes each. */
+/* C13, V7. A field of a sub-block, by two numbers from 0. Body fields 0 and 1 of such a block are N and SBLength: how many
+   sub-blocks it has, and how many bytes each. */
 alderflute_field alderflute_sub(alderflute_state state, const uint8_t *in_force, size_t in_force_length, const uint8_t *block,
                                 size_t block_length, size_t sub_block, size_t field);
 
-/* The bytes of a sub-block, as a part of the block. */
+/* C13, T18. The bytes of a sub-block, as a part of the block. */
 alderflute_part alderflute_subbytes(alderflute_state state, const uint8_t *in_force, size_t in_force_length,
                                     const uint8_t *block, size_t block_length, size_t sub_block);
 
-/* The time of week of a block (TOW), UNSIGNED or DO_NOT_USE; by no table. */
+/* V8. The time of week of a block (TOW), UNSIGNED or DO_NOT_USE; by no table. */
 alderflute_field alderflute_tow(alderflute_state state, const uint8_t *block, size_t block_length);
 
-/* The week number of a block (WNc), UNSIGNED or DO_NOT_USE; by no table. */
+/* V8. The week number of a block (WNc), UNSIGNED or DO_NOT_USE; by no table. */
 alderflute_field alderflute_wnc(alderflute_state state, const uint8_t *block, size_t block_length);
 
 /* What to do about a refusal, in a line for people; a text is there for every number. */
