@@ -1,6 +1,6 @@
 # The C interface for those who use it as a library.
 #   make             proves the calls and builds the archive (tools/capi)
-#   make install     copies header, archive, a pkg-config file, and the example with its table, to PREFIX; it builds nothing, and stops
+#   make install     copies header, archive, a pkg-config file, and the examples with their table, to PREFIX; it builds nothing, and stops
 #                    where the archive is older than what it is made of
 #   make uninstall   removes what make install has copied; give it the same PREFIX
 #   make clean       removes the archive; what is proved, and the programs, stay in target/
@@ -10,7 +10,7 @@ INCLUDEDIR = $(PREFIX)/include
 LIBDIR = $(PREFIX)/lib
 DATADIR = $(PREFIX)/share
 ARCHIVE = target/staticlib/libalderflute.a
-DATA = example.c shipped-v1.table shipped-v1.table.h shipped-v1.table.txt
+DATA = example.c write.c shipped-v1.table shipped-v1.table.h shipped-v1.table.txt
 
 absolute = $(if $(filter /%,$(1)),$(1),$(CURDIR)/$(1))
 override PREFIX := $(call absolute,$(PREFIX))
@@ -34,7 +34,7 @@ install: fit
 	install -m 644 $(addprefix samples/,$(DATA)) "$(DESTDIR)$(DATADIR)/alderflute"
 	@abi=$$(sed -n 's/^#define ALDERFLUTE_ABI //p' include/alderflute.h) && \
 	printf '%s\n' 'prefix=$(PREFIX)' 'includedir=$(call in_prefix,$(INCLUDEDIR))' 'libdir=$(call in_prefix,$(LIBDIR))' '' \
-	    'Name: alderflute' 'Description: a reader of the SBF stream, with proved calls' "Version: $$abi" \
+	    'Name: alderflute' 'Description: a reader and writer of SBF blocks, with proved calls' "Version: $$abi" \
 	    'Cflags: -I$${includedir}' 'Libs: -L$${libdir} -lalderflute' >"$(DESTDIR)$(LIBDIR)/pkgconfig/alderflute.pc"
 
 # whether the paths can stand in a pkg-config file, and the archive belongs to its sources and to the header

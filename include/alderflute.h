@@ -1,9 +1,11 @@
 /*
- * Alderflute for C and C++: reads Septentrio's SBF stream. It finds the blocks in a run of bytes and reads their fields by
- * number through a block table. Every call is proved against its definition; crates/capi of the repository has both.
+ * Alderflute for C and C++: reads Septentrio's SBF stream, and writes blocks of it. It finds the blocks in a run of bytes and
+ * reads their fields by number through a block table; through the same table it makes a block from values. Every call is
+ * proved against its definition; crates/capi of the repository has both.
  *
  * RULES. What stands here in short stands in docs/RULES.md of the repository in full, by number: how a run is read F11 to F15,
- * calls and buffers C1 to C15, refusal n as Rn, tables T1 to T18, values V1 to V9. The numbers are named below.
+ * calls and buffers C1 to C15, refusal n as Rn, tables T1 to T18, values V1 to V9, writing W1 to W9. The numbers are named
+ * below.
  *
  * WORDS. A run is the bytes from an open to END; a piece is what one feed is given of it, cut anywhere. A block has a number,
  * which says what it is, and a revision, which grows as fields are added to it. A table has a row for each block number: where
@@ -14,14 +16,15 @@
  *
  * CALLS IN ORDER. alderflute_new once; stage a table; open a run; feed it, and after each BLOCK ask for its bytes and fields;
  * finish until END. Then open the next run. Stage and withdraw may come at any time: a staged table waits for the next open.
+ * Write may come as soon as a table is in force, that is from the first open on, also while no run is open.
  *
  * LINKING. tools/capi, or make, builds target/staticlib/libalderflute.a; `make install PREFIX=..` puts header, archive and
  * alderflute.pc in place, and then `cc .. $(pkg-config --cflags --libs alderflute)` links; PREFIX/share/alderflute has the
- * example, with the table that it includes as a C header. The archive is position-independent code for x86-64 Linux and the
- * System V ABI, about 14 kB with its constants. Of a C library it wants memmove and nothing else, so it links into a
- * freestanding program that has one. It allocates nothing, keeps no variables, calls nothing back and starts no threads. This
- * header includes stddef.h and stdint.h only. At the start compare alderflute_abi() with ALDERFLUTE_ABI, as the example does:
- * where they differ, header and archive do not belong together.
+ * examples, with the table that they include as a C header. The archive is position-independent code for x86-64 Linux and the
+ * System V ABI, about 17 kB with its constants. Of a C library it wants memmove and memset and nothing else, so it links into
+ * a freestanding program that has both. It allocates nothing, keeps no variables, calls nothing back and starts no threads.
+ * This header includes stddef.h and stdint.h only. At the start compare alderflute_abi() with ALDERFLUTE_ABI, as the example
+ * does: where they differ, header and archive do not belong together.
  *
  * BARE METAL. The archive uses the SSE registers: switch SSE on before the first call, and let interrupt handlers that use it
  * save and restore these registers. It uses the red zone, 128 bytes below the stack pointer: an interrupt must not push onto
@@ -38,35 +41,38 @@
  * start with a struct of zeros: today it happens to be the same, but a later version will refuse it (there the state has a
  * ceiling for block lengths, request M-103, and 0 is a bad one). The state goes into every call by value. A call that returns
  * an alderflute_reply returns the next state in it: go on with that one, and with no older one. The others (bytes, body, sub,
- * subbytes, tow, wnc) change nothing. The struct has no pointers: keep it where you like, move or save it with the buffers,
- * but write nothing into it. Of made-up states refusal 1 finds those that its line below names, and no others. Any other is
- * taken at its word: five held bytes are a standing block where the state says so, places and the counts of END come from the
- * state, and a count that was close to its bound may pass it, which the next call refuses. But no call reads or writes past
- * the buffers given.
+ * subbytes, tow, wnc, write) do not change it. The struct has no pointers: keep it where you like, move or save it with the
+ * buffers, but write nothing into it. Of made-up states refusal 1 finds those that its line below names, and no others. Any
+ * other is taken at its word: five held bytes are a standing block where the state says so, places and the counts of END come
+ * from the state, and a count that was close to its bound may pass it, which the next call refuses. But no call reads or
+ * writes past the buffers given.
  *
  * BUFFERS (C2 to C4). You own every buffer; a call borrows it until it returns, and no pointer is kept after that. Three
  * buffers belong to one reader from alderflute_new on, and between calls nobody else may write to them:
  *   the hold      ALDERFLUTE_HOLD bytes or more. The bytes that are not decided yet, a reported block first.
  *                 Lent to feed, finish (they write it) and bytes.
  *   in force      ALDERFLUTE_STORE bytes or more. The table that blocks are read by.
- *                 Lent to open (writes it), body, sub and subbytes.
+ *                 Lent to open (writes it), body, sub, subbytes and write.
  *   waiting       ALDERFLUTE_STORE bytes or more. A table that waits for the next open.
  *                 Lent to stage (writes it) and open.
- * Their contents before the first call do not matter. Pieces, tables and blocks are given for one call only, and only read.
+ * Their contents before the first call do not matter. Pieces, tables, blocks and the lists of write are given for one call
+ * only, and only read. Write writes to a fourth buffer, none of these three: see WRITING.
  *   - No buffer that a call writes may overlap another argument of that call: not the hold and the piece, not the in-force
- *     and the waiting store, not the waiting store and the table to be staged. Nothing checks this.
+ *     and the waiting store, not the waiting store and the table to be staged, not the buffer that write writes and its lists
+ *     or the in-force store. Nothing checks this.
  *   - A buffer is a pointer and a length in bytes; all of these bytes must be there. With length 0 any pointer will do, NULL
- *     too. No alignment is asked for.
+ *     too. No alignment is asked for. The bits of write are the one exception: an array of uint64_t, aligned as C has it, and
+ *     its length counts elements.
  *   - A part that is handed back is an offset and a length in the buffer that you gave. It is no copy: a part of the hold is
  *     good until the next feed or finish with that hold, a part of a block as long as the block's bytes.
  *
  * ANSWERS (R21, R22). refusal is 0 where the call was done, else the number of the refusal; kind says which values are set.
  * All other values are 0. A refused call returns the state that it was given and has written nothing: go on as if it had not
  * been made. A block that stood before a refused feed stands after it. The same arguments and bytes give the same answer,
- * member by member: alderflute_answer, alderflute_block and alderflute_part have padding, of which nothing is promised, so
- * compare members and not memory.
+ * member by member: alderflute_answer, alderflute_block, alderflute_part and alderflute_written have padding, of which nothing
+ * is promised, so compare members and not memory.
  *
- * REFUSALS (R1 to R10, their order R20). The numbers have names, ALDERFLUTE_REFUSAL_.., and alderflute_refusal_text gives a
+ * REFUSALS (R1 to R12, their order R20). The numbers have names, ALDERFLUTE_REFUSAL_.., and alderflute_refusal_text gives a
  * line for a log.
  *    1  BAD_BUFFER. A buffer of the reader is shorter than above, or a number in the state is out of bounds: phase is above
  *       2; held above 65,532, above taken or below standing; in_force or waiting above 8,192; taken above 4,294,967,295;
@@ -75,15 +81,39 @@
  *    3  RUN_FULL. feed: the run has had its 4,294,967,295 bytes, and no block is left among those held. Only an empty piece
  *       is taken then.
  *    4  BAD_TABLE. The table breaks a rule: the one to be staged, the one to be opened or the one in force.
- *    5  NO_TABLE. open with none waiting and none in force; body, sub and subbytes with none in force.
- *    6  NO_ROW. The table has no row for the block's number.
+ *    5  NO_TABLE. open with none waiting and none in force; body, sub, subbytes and write with none in force.
+ *    6  NO_ROW. The table has no row for the block's number; of write, for the number that was given.
  *    7  TOO_SHORT. The block ends before the body that its revision has by the row, or has fewer than 14 bytes.
  *    8  BAD_SUB_BLOCKS. The block's sub-blocks are shorter than the fields that its revision has by the row, or end past
  *       the block's end.
  *    9  NO_SUCH_FIELD. The row has no field of that number, or the block no such sub-block.
  *   10  NOT_ONE_FRAME. What was given as a block is not exactly one: sync bytes, length and CRC do not all fit it.
+ *   11  BAD_VALUES. write: the revision is above 7; there are more than 255 sub-blocks, or any where the row has no
+ *       sub-fields; or TOW, WNc or some value is not allowed, as WRITING has it.
+ *   12  NO_ROOM. write: the block is longer than the buffer, or than 65,532 bytes, or its sub-blocks than 255 bytes each.
  * Where several hold, open gives the first of 1, 2, 5, 4; feed of 1, 2, 3; finish of 1, 2; bytes and withdraw 1; stage of
- * 1, 4; body, sub and subbytes of 1, 5, 4, 10, 6, 7, 8, 9; tow and wnc of 1, 10, 7.
+ * 1, 4; body, sub and subbytes of 1, 5, 4, 10, 6, 7, 8, 9; tow and wnc of 1, 10, 7; write of 1, 5, 4, 6, 11, 12, where 1
+ * does not look at the buffer that is written.
+ *
+ * WRITING (W1 to W9). alderflute_write makes one block from values, through the table in force. It is given the block's number
+ * and revision, TOW and WNc, and two lists: kinds, a byte a value, and beside it bits, 64 a value. Value i of the body is for
+ * row i of the body, the number that alderflute_body reads it by; the values of each sub-block follow, in the same way.
+ *   - A value is unset, or an unsigned number, a signed one (an int64_t cast to uint64_t), a single float (32 bits, the upper
+ *     ones 0) or a double float. Its kind is one of ALDERFLUTE_GIVE_UNSET and so on, which are not the kinds of an
+ *     alderflute_field, though 1 to 4 mean the same: what was read as DO_NOT_USE or NOT_IN_REVISION is given as unset.
+ *   - The kind ALDERFLUTE_GIVE_SUB_BLOCK is no value: it says that a sub-block begins, and stands there once for each. N and
+ *     SBLength are not given: what stands before the first sub-block is all unset, or left out.
+ *   - Values that are left out at the end of the body, or of a sub-block, are unset. The bits of what is unset, and of the
+ *     beginning of a sub-block, are not looked at. Where the lists differ in length the kinds count: bits that are missing are
+ *     0, and those too many are not looked at.
+ *   - Which values are allowed. For a field that the revision carries: unset, where the row has a Do-Not-Use value for it,
+ *     which is written then; or a value of the kind that the field reads as, in the range of its type, and not the Do-Not-Use
+ *     value itself. A field without a Do-Not-Use value has to be given, a reserved one too. For a field that the revision does
+ *     not carry, and past the last row: unset. TOW is a u4 and WNc a u2, of any revision, with all ones for Do-Not-Use.
+ *   - The buffer is yours, of any length, and none of the reader's three. The block stands at its start, and what follows the
+ *     block is as it was; a refused write leaves every byte. Gaps and padding in the block are 0. Nothing is kept of a write:
+ *     the next one needs no other state, and the block may be fed or read at once, like any other.
+ * What is written reads back: by the same table body, sub, tow and wnc answer what was given, DO_NOT_USE where it was unset.
  *
  * TIME. No call waits, and every call ends. How long it takes is measured and not promised: x86-64 instructions, counted by
  * bench/worst and bench/record of the repository with the kit that its README names.
@@ -95,6 +125,8 @@
  *   body, sub, subbytes   8,000 to 10,000 by the table shipped and blocks of 44 and 272 bytes, 685,000 by a table of 8,192
  *                   bytes and a block of 65,532: each checks the table in force, and the block's CRC.
  *   tow, wnc        850 for a block of 44 bytes, 525,000 for one of 65,532.
+ *   write           8,300 for an AttEuler of 44 bytes and 17,000 for a BaseVectorCart of 224 by the table shipped, of which
+ *                   the check of the table in force takes 6,300 (bench/writer).
  *   stage, open     7,100 for the table shipped, 156,000 for one of 8,192 bytes.
  * The others look at no bytes.
  *
@@ -193,6 +225,71 @@
  *         }
  *         return 0;
  *     }
+ *
+ * EXAMPLE OF WRITING (samples/write.c)
+ *
+ *     // Writes an AttEuler block, prints its bytes in hex, and reads the roll back from them: write
+ *     #include <stdio.h>
+ *     #include <string.h>
+ *     #include "alderflute.h"
+ *     #include "shipped-v1.table.h" // a table and its names, as `tools/table c` writes them
+ *
+ *     static uint8_t in_force[ALDERFLUTE_STORE], waiting[ALDERFLUTE_STORE], out[64];
+ *
+ *     // Values of the body, by the fields' numbers, all unset at first. What stays unset, or lies past the end of the lists,
+ *     // is written as the field's Do-Not-Use value.
+ *     static uint8_t kinds[ALDERFLUTE_ATTEULER_ROLL + 1];
+ *     static uint64_t bits[ALDERFLUTE_ATTEULER_ROLL + 1];
+ *
+ *     static void give_number(size_t field, uint64_t n)
+ *     {
+ *         kinds[field] = ALDERFLUTE_GIVE_UNSIGNED;
+ *         bits[field] = n;
+ *     }
+ *
+ *     // A float is given as its bits.
+ *     static void give_single(size_t field, float f)
+ *     {
+ *         uint32_t low;
+ *         memcpy(&low, &f, sizeof low);
+ *         kinds[field] = ALDERFLUTE_GIVE_SINGLE;
+ *         bits[field] = low;
+ *     }
+ *
+ *     static int refused(uint32_t refusal)
+ *     {
+ *         fprintf(stderr, "write: refused: %s\n", alderflute_refusal_text(refusal));
+ *         return 1;
+ *     }
+ *
+ *     int main(void)
+ *     {
+ *         if (alderflute_abi() != ALDERFLUTE_ABI) {
+ *             fprintf(stderr, "write: alderflute.h and libalderflute.a do not belong together\n");
+ *             return 2;
+ *         }
+ *         alderflute_state new_one = alderflute_new();
+ *         alderflute_reply r = alderflute_stage(new_one, waiting, sizeof waiting, alderflute_table, sizeof alderflute_table);
+ *         if (r.answer.refusal == 0) r = alderflute_open(r.state, in_force, sizeof in_force, waiting, sizeof waiting);
+ *         if (r.answer.refusal != 0) return refused(r.answer.refusal);
+ *         give_number(ALDERFLUTE_ATTEULER_ERROR, 0); // three without a Do-Not-Use value: they have to be given
+ *         give_number(ALDERFLUTE_ATTEULER_MODE, 2);
+ *         give_number(ALDERFLUTE_ATTEULER_RESERVED, 0);
+ *         give_single(ALDERFLUTE_ATTEULER_HEADING, 87.5f);
+ *         give_single(ALDERFLUTE_ATTEULER_ROLL, -2.25f);
+ *         alderflute_value tow = {ALDERFLUTE_GIVE_UNSIGNED, 345600000}, wnc = {ALDERFLUTE_GIVE_UNSIGNED, 2100};
+ *         alderflute_written w = alderflute_write(r.state, in_force, sizeof in_force, ALDERFLUTE_ATTEULER, 0, tow, wnc, kinds,
+ *                                                 sizeof kinds, bits, sizeof bits / sizeof *bits, out, sizeof out);
+ *         if (w.refusal != 0) return refused(w.refusal);
+ *         alderflute_field f = alderflute_body(r.state, in_force, sizeof in_force, out, w.length, ALDERFLUTE_ATTEULER_ROLL);
+ *         if (f.refusal != 0) return refused(f.refusal);
+ *         uint32_t low = (uint32_t)f.bits;
+ *         float roll;
+ *         memcpy(&roll, &low, sizeof roll);
+ *         for (size_t i = 0; i < w.length; i++) printf("%02x", out[i]);
+ *         printf(" roll %.3f\n", (double)roll);
+ *         return 0;
+ *     }
  */
 #ifndef ALDERFLUTE_H
 #define ALDERFLUTE_H
@@ -232,6 +329,15 @@ extern "C" {
 #define ALDERFLUTE_DO_NOT_USE 5 /* the block says that the field has no value */
 #define ALDERFLUTE_NOT_IN_REVISION 6 /* the block's revision does not carry the field */
 
+/* Kinds of what write is given. They are not those of an alderflute_field: 0 means something else there, and 5 and 6, which
+   stand there for Do-Not-Use and not in this revision, are refused here with 11: give such a field as unset. */
+#define ALDERFLUTE_GIVE_UNSET 0     /* written as the field's Do-Not-Use value */
+#define ALDERFLUTE_GIVE_UNSIGNED 1  /* bits: the number */
+#define ALDERFLUTE_GIVE_SIGNED 2    /* bits: the int64_t, cast to uint64_t */
+#define ALDERFLUTE_GIVE_SINGLE 3    /* bits: 32 of them, of a float */
+#define ALDERFLUTE_GIVE_DOUBLE 4    /* bits: 64 of them, of a double */
+#define ALDERFLUTE_GIVE_SUB_BLOCK 255 /* no value: a sub-block begins */
+
 /* Refusals. Later versions may have more. */
 enum alderflute_refusal {
     ALDERFLUTE_REFUSAL_BAD_BUFFER = 1,
@@ -243,7 +349,9 @@ enum alderflute_refusal {
     ALDERFLUTE_REFUSAL_TOO_SHORT = 7,
     ALDERFLUTE_REFUSAL_BAD_SUB_BLOCKS = 8,
     ALDERFLUTE_REFUSAL_NO_SUCH_FIELD = 9,
-    ALDERFLUTE_REFUSAL_NOT_ONE_FRAME = 10
+    ALDERFLUTE_REFUSAL_NOT_ONE_FRAME = 10,
+    ALDERFLUTE_REFUSAL_BAD_VALUES = 11,
+    ALDERFLUTE_REFUSAL_NO_ROOM = 12
 };
 
 /* A reader's state, 64 bytes. Its table lengths are 0 where no table is in force, or none waits. */
@@ -306,6 +414,18 @@ typedef struct alderflute_part {
     uint64_t length;
 } alderflute_part;
 
+/* A value that is given to write: TOW or WNc. */
+typedef struct alderflute_value {
+    uint8_t kind;
+    uint64_t bits;
+} alderflute_value;
+
+/* What write answers: the length of the block, 0 where the call is refused. */
+typedef struct alderflute_written {
+    uint32_t refusal;
+    uint64_t length;
+} alderflute_written;
+
 /* ALDERFLUTE_ABI of the header that the archive was made for. */
 uint32_t alderflute_abi(void);
 
@@ -363,6 +483,13 @@ alderflute_field alderflute_tow(alderflute_state state, const uint8_t *block, si
 /* V8. The week number of a block (WNc), UNSIGNED or DO_NOT_USE; by no table. */
 alderflute_field alderflute_wnc(alderflute_state state, const uint8_t *block, size_t block_length);
 
+/* W1. Makes a block from values, at the start of the buffer `out`. WRITING has what the lists say, kinds and bits; each length
+   counts what is in its list, the beginnings of sub-blocks too. */
+alderflute_written alderflute_write(alderflute_state state, const uint8_t *in_force, size_t in_force_length, uint64_t number,
+                                    uint64_t revision, alderflute_value tow, alderflute_value wnc, const uint8_t *kinds,
+                                    size_t kinds_length, const uint64_t *bits, size_t bits_length, uint8_t *out,
+                                    size_t out_length);
+
 /* What to do about a refusal, in a line for people; a text is there for every number. */
 static inline const char *alderflute_refusal_text(uint32_t refusal)
 {
@@ -378,6 +505,8 @@ static inline const char *alderflute_refusal_text(uint32_t refusal)
     case ALDERFLUTE_REFUSAL_BAD_SUB_BLOCKS: return "the sub-blocks do not fit their row or their block: pass it by";
     case ALDERFLUTE_REFUSAL_NO_SUCH_FIELD: return "no such field or sub-block: see the table, and the block's N";
     case ALDERFLUTE_REFUSAL_NOT_ONE_FRAME: return "no whole block: give the part that alderflute_bytes hands back";
+    case ALDERFLUTE_REFUSAL_BAD_VALUES: return "what was given does not fit the row: see its types, marks and revisions";
+    case ALDERFLUTE_REFUSAL_NO_ROOM: return "the block does not fit: lend a longer buffer; above 65,532 bytes none will do";
     default: return "a refusal that this header does not know: the archive is newer";
     }
 }

@@ -1,5 +1,5 @@
 #!/usr/bin/env python3
-"""The C interface: the header as C and as C++, what is in the archive, the example, also from an installed copy, odd states, the
+"""The C interface: the header as C and as C++, what is in the archive, the examples, also from an installed copy, odd states, the
 depth of the stack, and scripts played by tests/capi/play.c and by the program replay, whose output is to be the same byte for
 byte. All C is built with the kit's own clang and ld.lld.
 
@@ -26,6 +26,7 @@ ARCHIVE = os.path.join(TOP, "target", "staticlib", "libalderflute.a")
 REPLAY = os.path.join(TOP, "target", "bin", "replay")
 HEADER = os.path.join(TOP, "include", "alderflute.h")
 EXAMPLE = os.path.join(TOP, "samples", "example.c")
+WRITE = os.path.join(TOP, "samples", "write.c")
 TABLE = os.path.join(TOP, "samples", "shipped-v1.table")
 # relative to TOP, where every command is run: the flags pass through a shell variable, and a path may have spaces
 CFLAGS = ["-Wall", "-Wextra", "-Werror", "-pedantic", "-nostdinc", "-isystem", os.path.join("tests", "capi", "include"),
@@ -62,10 +63,12 @@ def block(rng, number, revision, payload):
     return b"\x24\x40" + struct.pack("<H", crc(tail)) + tail
 
 
+SIZES = [0, 1, 2, 4, 8, 1, 2, 4, 8, 4, 8]  # by type
+
+
 def table(rng, spoiled=0.2):
     """A small table: fields of any of the ten types, some blocks with sub-blocks; now and then a bit of it is wrong."""
     fields, rows, start = b"", b"", 0
-    sizes = [0, 1, 2, 4, 8, 1, 2, 4, 8, 4, 8]
     marks = {1: [0, 1, 2], 2: [0, 1, 2], 3: [0, 1, 2], 4: [0, 1, 2], 9: [0, 3], 10: [0, 3]}
     for number in sorted(rng.sample(range(8), rng.randrange(4, 9))):
         highest, bodies, subs = rng.randrange(3), 0, 0
@@ -79,7 +82,7 @@ def table(rng, spoiled=0.2):
             kind = rng.randrange(1, 11)
             first = min(highest, first + rng.choice([0, 0, 0, 1]))
             fields += bytes([at, kind, first, rng.choice(marks.get(kind, [0, 4]))])
-            at += sizes[kind] + rng.choice([0, 0, 1])
+            at += SIZES[kind] + rng.choice([0, 0, 1])
         rows += struct.pack("<HBBHBB", number, highest, bodies, start, subs, 0)
         start += bodies + subs
     count = len(rows) // 8
@@ -89,6 +92,17 @@ def table(rng, spoiled=0.2):
         out = bytearray(out)
         out[rng.randrange(len(out))] ^= 1 << rng.randrange(8)
     return bytes(out)
+
+
+def rows_of(data):
+    """The rows of a table that keeps the rules: by number, those of the body and those of the sub-fields."""
+    count, = struct.unpack_from("<H", data, len(data) - 10)
+    out = {}
+    for at in range(len(data) - 12 - 8 * count, len(data) - 12, 8):
+        number, _, bodies, start, subs, _ = struct.unpack_from("<HBBHBB", data, at)
+        fields = [data[4 * k:4 * k + 4] for k in range(start, start + bodies + subs)]
+        out[number] = fields[:bodies], fields[bodies:]
+    return out
 
 
 EDGES = [b"\xff" * 8, bytes(8), bytes.fromhex("f90295d0"), bytes.fromhex("000000205fa012c2"), bytes.fromhex("0000c07f0100807f"),
@@ -114,11 +128,54 @@ def some_block(rng, numbers):
     return bytes(out)
 
 
+ODD_VALUES = ["-", "u0", "u255", "u65535", "u4294967295", "u18446744073709551615", "i0", "i-0", "i-128", "i-32768", "i-2147483648",
+              "i-9223372036854775808", "i9223372036854775807", "f0", "f3499426553", "f4294967295", "f4294967296", "d0",
+              "d13984416123358019584", "d18446744073709551615"]
+
+
+def value(rng, field, revision, odd):
+    """What a script gives a field: something that may stand there, or, at the rate `odd`, anything."""
+    _, kind, first, mark = field
+    if rng.random() < odd:
+        return rng.choice(ODD_VALUES)
+    if first > revision or (mark and rng.random() < 0.3):
+        return "-"
+    half = 2 ** (8 * SIZES[kind] - 1)
+    n = rng.choice([rng.randrange(2 * half), rng.randrange(2 * half), 1, half - 1, half + 1])
+    return "uuuuiiiifd"[kind - 1] + str(n - half if 5 <= kind <= 8 else n)
+
+
+def values(rng, fields, revision, odd):
+    """What a script gives the fields of a body or of a sub-block; what is unset at the end may be left out."""
+    words = [value(rng, field, revision, odd) for field in fields]
+    while words and words[-1] == "-" and rng.random() < 0.7:
+        words.pop()
+    return words + ["-"] * rng.choice([0, 0, 0, 2])
+
+
+def spoil(rng, words):
+    """The words of a write with one of them changed, or one more: mostly it is refused then."""
+    at = rng.randrange(len(words) + 1)
+    if at < 4:
+        words[at] = rng.choice([["8191", "8192", "65536", "18446744073709551615"], ["7", "8", "256", "4294967296"],
+                                ["4294967294", "4294967295", "4294967296"], ["65534", "65535", "65536", "65537"]][at])
+    elif rng.random() < 0.5:
+        words[at:at] = [rng.choice(ODD_VALUES + ["/"] * 9)]
+    else:
+        words[at:at + 1] = [rng.choice(ODD_VALUES)]
+    return words
+
+
 NAMES = ["phase", "force", "waits", "held", "stands", "taken", "blocks", "skipped"]
 NUMBERS = [0, 1, 2, 7, 8, 9, 380, 8191, 8192, 8193, 65531, 65532, 65533, 4294967294, 4294967295, 4294967296, 2 ** 63, 2 ** 64 - 1]
 BAD = ["opens", "open ", " open", "feed", "feed 0", "feed 0g", "feed 24 40", "body 0", "body x 24", "poke phase 3", "poke held -1",
        "poke held 18446744073709551616", "poke nothing 1", "put hold 65535 0000", "put hold 65537 -", "put nowhere 0 00", "size hold",
-       "size nowhere 1", "sub 0 24", "subbytes 24", "open\r", "bytes 1", "withdraw -", "tow", "wnc 2", "feed  24"]
+       "size nowhere 1", "sub 0 24", "subbytes 24", "open\r", "bytes 1", "withdraw -", "tow", "wnc 2", "feed  24",
+       "write", "write 5943 0 1", "write 5943 0 1 2 ", "write 5943 0 1 2  -", "write -1 0 1 2", "write 5943 - 1 2",
+       "write 5943 0 u1 2", "write 5943 0 1 2 u", "write 5943 0 1 2 u-1", "write 5943 0 1 2 u18446744073709551616", "write 5943 0 1 2 i",
+       "write 5943 0 1 2 i-", "write 5943 0 1 2 i9223372036854775808", "write 5943 0 1 2 i-9223372036854775809", "write 5943 0 1 2 f1.5",
+       "write 5943 0 1 2 d-", "write 5943 0 1 2 7", "write 5943 0 1 2 U1", "write 5943 0 1 2 //", "write 5943 0 1 2 -/", "writes 1 0 1 2",
+       "put out 0 00", "size out"]
 
 
 def script(seed):
@@ -127,6 +184,7 @@ def script(seed):
     shipped = read(TABLE, "rb")
     numbers = [4006, 4006, 4043, 4043, 4043, 4043, 5906, 5924, 5938, 5939, 5943, 77] if seed % 2 else list(range(8))
     new = shipped if seed % 2 else table(rng, 0)
+    rows = rows_of(new)
     lines = ["# seed %d" % seed, "", "stage " + new.hex(), "open"]
     last = some_block(rng, numbers)
 
@@ -150,12 +208,25 @@ def script(seed):
                                [f"sub {i} {j} {hexed(data)}"], [f"subbytes {i} {hexed(data)}"], ["tow " + hexed(data)], ["wnc " + hexed(data)]])
         return out
 
+    def write(number, revision, count, odd):
+        body, subs = rows.get(number, ([], []))
+        stamps = [rng.choice(["-", "0", str(rng.randrange(2 ** wide - 1)), str(rng.randrange(2 ** wide - 1))]) for wide in (32, 16)]
+        words = [str(number), str(revision)] + stamps + (["-"] * rng.randrange(3) if subs else values(rng, body, revision, odd))
+        for _ in range(count if subs else 0):
+            words += ["/"] + values(rng, subs, revision, odd)
+        return words
+
+    def writing():
+        room = [f"size out {rng.choice([0, 15, 16, 43, 44, 67, 68, 119, 120, 65536])}"] if rng.random() < 0.1 else []
+        words = write(rng.choice(numbers), rng.choice([0, 0, 1, 2, 7]), rng.choice([0, 1, 1, 2, 3]), 0.02)
+        return room + ["write " + " ".join(spoil(rng, words) if rng.random() < 0.2 else words)]
+
     def afresh():
         return [f"poke {name} 0" for name in NAMES] + ["stage " + rng.choice([new] * 9 + [table(rng)]).hex(), "open"]
 
     def spoiled():
         name, n = rng.choice(NAMES), rng.choice(NUMBERS + [rng.randrange(70000)])
-        calls = rng.choice([feeding, record, lambda: ["finish"], lambda: ["open"], lambda: ["withdraw"], lambda: ["bytes"]])()
+        calls = rng.choice([feeding, record, writing, lambda: ["finish"], lambda: ["open"], lambda: ["withdraw"], lambda: ["bytes"]])()
         return [f"poke {name} {n % 3 if name == 'phase' else n}"] + calls + ["stage " + new.hex()] + afresh()
 
     def written():
@@ -165,18 +236,20 @@ def script(seed):
 
     def short():
         return [f"size {name} {rng.choice([0, 1, 379, 8191, 8192, 65535, 65536, 2 ** 64 - 1])}"
-                for name in rng.sample(["hold", "force", "waiting"], rng.randrange(1, 3))]
+                for name in rng.sample(["hold", "force", "waiting", "out"], rng.randrange(1, 3))]
 
-    kinds = [feeding] * 6 + [record] * 6 + [afresh, spoiled, written, short, lambda: ["finish", "finish", "bytes"] + afresh(),
+    kinds = [feeding] * 6 + [record] * 6 + [writing] * 6 + [afresh, spoiled, written, short, lambda: ["finish", "finish", "bytes"] + afresh(),
                                             lambda: ["finish", "bytes", "finish", "finish", "open"], lambda: ["open"],
                                             lambda: ["bytes"], lambda: ["withdraw"], lambda: [rng.choice(BAD)],
                                             lambda: ["stage " + hexed(rng.choice([new, new, new, shipped, table(rng), b"", new[:-1]]))]]
-    while len(lines) < 260:
+    while len(lines) < 300:
         if rng.random() < 0.4:
             last = some_block(rng, numbers)
         lines += rng.choice(kinds)()
     if seed % 8 == 3:
         lines += afresh() + ["feed " + block(rng, 5, 0, bytes(65524)).hex(), "bytes", "feed -", "finish"]
+    if seed % 8 == 7:
+        lines += afresh()[:-2] + ["stage " + new.hex(), "open"] + ["write " + " ".join(write(4043, 0, n, 0)) for n in (254, 255, 256)]
     if seed % 8 == 5:
         lines += ["poke phase 1"] + [f"poke {name} 4294967290" for name in ("taken", "skipped")] + ["feed " + last.hex(), "feed 00", "finish"]
     return ("\n".join(lines) + ("\n" if seed % 4 else "")).encode()
@@ -190,7 +263,7 @@ def build(env):
     if not expect("tools/capi builds the archive", status == 0 and os.path.exists(ARCHIVE), error.decode(errors="replace")[-2000:]):
         return False
     os.makedirs(BUILT, exist_ok=True)
-    for source in [EXAMPLE] + [os.path.join(TOP, "tests", "capi", name + ".c") for name in ("play", "odd", "stack", "full")]:
+    for source in [EXAMPLE, WRITE] + [os.path.join(TOP, "tests", "capi", name + ".c") for name in ("play", "odd", "stack", "full")]:
         if not compiled(env, source, os.path.join(BUILT, os.path.basename(source)[:-2]), CFLAGS, [ARCHIVE]):
             return False
     return True
@@ -212,7 +285,7 @@ def syntax(env, name, language, standard):
 
 
 def header(env):
-    """It is C and C++, its example is samples/example.c, and it names every refusal."""
+    """It is C and C++, its examples are those of samples/, and it names every refusal."""
     one = os.path.join(BUILT, "header.c")
     with open(one, "w", encoding="ascii") as f:
         f.write('#include "alderflute.h"\n')
@@ -222,25 +295,28 @@ def header(env):
     for language, standard in [("c", "c11"), ("c++", "c++11")]:
         said = syntax(env, os.path.join(TOP, "tests", "capi", "sizes.c"), language, standard)
         expect(f"the structs' sizes in {standard}", said == "", said)
-        said = syntax(env, EXAMPLE, language, standard)
-        expect(f"the example is {standard}", said == "", said)
+        for source in (EXAMPLE, WRITE):
+            said = syntax(env, source, language, standard)
+            expect(f"{os.path.basename(source)} is {standard}", said == "", said)
     text = read(HEADER)
-    shown = "".join(line[7:] + "\n" for line in text.split("EXAMPLE")[1].split("\n */")[0].split("\n")[2:])
-    expect("the header's example is samples/example.c", shown == read(EXAMPLE))
+    shown = {name: re.sub(r"^ \*(     )?", "", lines, flags=re.M)
+             for name, lines in re.findall(r"^ \* EXAMPLE.* \((.*)\)\n \*\n((?: \*     .*\n| \*\n(?! \* \w))+)", text, re.M)}
+    expect("the header's examples are those of samples/", shown == {f"samples/{name}": read(os.path.join(TOP, "samples", name))
+                                                                    for name in ("example.c", "write.c")}, sorted(shown))
     shipped, other = ([line.strip() for line in read(os.path.join(TOP, "samples", name + "-v1.table.txt")).splitlines()
                        if line.split() and line[0] != "#"] for name in ("shipped", "flight-line"))
     expect("two samples say version 1, with other rows", shipped[0] == other[0] == "version 1" and shipped != other, (shipped[0], other[0]))
     listed = re.findall(r"^ \* +(\d+)  \S", text, re.M)
-    expect("the header has a sentence for each refusal", listed == [str(n) for n in range(1, 11)], listed)
+    expect("the header has a sentence for each refusal", listed == [str(n) for n in range(1, 13)], listed)
     names = re.findall(r"^    ALDERFLUTE_REFUSAL_(\w+) = (\d+),?$", text, re.M)
     numbers = re.findall(r"Refusal::(\w+) => (\d+),", read(os.path.join(TOP, "crates", "refusal", "src", "lib.rt")))
     wanted = [(re.sub(r"(?<!^)([A-Z])", r"_\1", name).upper(), n) for name, n in numbers]
-    expect("the header's refusals are those of the crate refusal", names == wanted and len(names) == 10, names)
+    expect("the header's refusals are those of the crate refusal", names == wanted and len(names) == 12, names)
     told = re.findall(r"^ \* +(\d+)  ([A-Z_]+)\. ", text, re.M)
     expect("the header's sentences name them", [(name, n) for n, name in told] == wanted, told)
     exported = exports()
     declared = set(re.findall(r"^\w+ (alderflute_\w+)\(", text, re.M))
-    expect("the header declares what the crate exports", exported == declared and len(exported) == 13, exported ^ declared)
+    expect("the header declares what the crate exports", exported == declared and len(exported) == 14, exported ^ declared)
 
 
 def exports():
@@ -277,7 +353,7 @@ def symbols(elf):
 
 
 def archive(env):
-    """What is in it: the calls, no variables, and memmove asked for."""
+    """What is in it: the calls, no variables, and memmove and memset asked for."""
     data = read(ARCHIVE, "rb")
     expect("the archive is one", data.startswith(b"!<arch>\n"))
     objects = [symbols(elf) for elf in members(data)]
@@ -285,7 +361,7 @@ def archive(env):
     given = {name for name, binding, section in found if binding != 0 and section != 0}
     expect("the archive gives the calls and nothing else", given == exports(), given ^ exports())
     asked = {name for name, _, section in found if section == 0 and name} - given
-    expect("the archive asks for memmove and nothing else", asked == {"memmove"}, asked)
+    expect("the archive asks for memmove and memset and nothing else", asked == {"memmove", "memset"}, asked)
     written = [s for sections, _ in objects for s in sections if s[1] & 3 == 3 and s[2]]
     expect("the archive has no variables", objects and not written, len(written))
 
@@ -308,6 +384,10 @@ def installed(env):
         if compiled(env, source, program, CFLAGS[:-1] + cflags, libs):
             status, out, error = ran([os.path.join(TOP, "tools", "x86run"), program], env, flight())
             expect("the installed copy lists the flight line", (status, out, error) == (0, listed(), b""), out[-300:])
+        other = os.path.join(folder, "share", "alderflute", "write.c")
+        if compiled(env, other, program, CFLAGS[:-1] + cflags, libs):
+            said = ran([os.path.join(TOP, "tools", "x86run"), program], env)
+            expect("the installed copy writes a block", said == (0, WRITTEN, b""), said)
         # a header of another interface
         name = os.path.join(folder, "include", "alderflute.h")
         text = re.sub(r"#define ALDERFLUTE_ABI (\d+)", lambda m: m[0] + "1", read(name))
@@ -373,13 +453,14 @@ def flags_of(env, folder):
 
 def stack(env):
     """No call uses more of the stack than the header says."""
-    said = re.search(r"deepest measured is feed's, ([\d,]+) bytes", read(HEADER))
+    said = re.search(r"deepest measured is (\w+)'s, ([\d,]+) bytes", read(HEADER))
     if not expect("the header says how deep the stack is", said):
         return
     status, out, error = ran([os.path.join(TOP, "tools", "x86run"), os.path.join(BUILT, "stack")], env)
     deep = [(int(n), name) for name, n in re.findall(r"^(\w+) (\d+)$", out.decode(errors="replace"), re.M)]
     expect("the depth of every call is measured", status == 0 and {"alderflute_" + name for _, name in deep} | {"alderflute_abi"} == exports(), out)
-    expect("no call is deeper than the header says", deep and max(deep)[0] <= int(said[1].replace(",", "")), deep)
+    expect("no call is deeper than the header says", deep and max(deep)[0] <= int(said[2].replace(",", "")), deep)
+    expect("the header names the deepest call", deep and max(deep)[1] == said[1], deep)
 
 
 def flight():
@@ -401,6 +482,16 @@ def listed():
     return ("\n".join(want) + "\n").encode()
 
 
+def att_euler():
+    """The block that samples/write.c writes, by rule T31: number of satellites, pitch and the rates are unset."""
+    unset = struct.unpack("<f", bytes.fromhex("f90295d0"))[0]
+    fields = struct.pack("<IHBBHH6f", 345600000, 2100, 255, 0, 2, 0, 87.5, unset, -2.25, unset, unset, unset)
+    return block(None, 5938, 0, fields)
+
+
+WRITTEN = att_euler().hex().encode() + b" roll -2.250\n"
+
+
 def example(env):
     status, out, error = ran([os.path.join(TOP, "tools", "x86run"), os.path.join(BUILT, "example")], env, flight())
     expect("the example lists the flight line", (status, out, error) == (0, listed(), b""), out[-300:])
@@ -415,6 +506,14 @@ def example(env):
         run = subprocess.run([os.path.join(TOP, "tools", "x86run"), os.path.join(BUILT, "example")], input=flight(), env=env,
                              stdout=nowhere, stderr=subprocess.PIPE, timeout=600)
     expect("the example tells that it cannot write", run.returncode == 2 and b"cannot write" in run.stderr, run.stderr)
+
+
+def write_example(env):
+    said = ran([os.path.join(TOP, "tools", "x86run"), os.path.join(BUILT, "write")], env)
+    expect("the example of writing", said == (0, WRITTEN, b""), said)
+    status, out, error = ran([os.path.join(TOP, "tools", "x86run"), os.path.join(BUILT, "example")], env, att_euler())
+    want = b"block 0 5938 0 44 tow 345600000 heading 87.500\nend 44 1 0\n"
+    expect("the example lists the block that was written", (status, out, error) == (0, want, b""), out)
 
 
 def odd(env):
@@ -458,6 +557,7 @@ def main():
         header(env)
         archive(env)
         example(env)
+        write_example(env)
         installed(env)
         not_installed(env)
         called(env)

@@ -64,11 +64,12 @@ def links(document, text):
 
 
 def listing():
-    """The lines of a listing that README explains are lines of samples/flight.list."""
+    """The lines of a listing that README explains are lines of samples/flight.list or samples/weekend.list."""
     shown = re.findall(r"^    ((?:block|end) [\d ]+)$", read("README.md"), re.M)
     CASES.expect("README.md: the lines of a listing", shown, "there are none")
+    lists = read("samples/flight.list").splitlines() + read("samples/weekend.list").splitlines()
     for line in shown:
-        CASES.expect(f"README.md: {line}", line in read("samples/flight.list").splitlines(), "samples/flight.list has no such line")
+        CASES.expect(f"README.md: {line}", line in lists, "samples/flight.list and samples/weekend.list have no such line")
 
 
 def bare_names(document, text):

@@ -1,6 +1,6 @@
 #!/usr/bin/env python3
-"""The replay program on scripts written by hand: the flight line of samples/, each kind of bad line, size, put and poke; and on
-those that tools/script writes of recordings.
+"""The replay program on scripts written by hand: the flight line of samples/, each kind of bad line, size, put and poke, blocks
+that are written; and on those that tools/script writes of recordings.
 
 What is expected is written down here, with the CRCs of the buffers from binascii.crc_hqx(data, 0).
 Needs target/bin/replay, which `rt check` makes. The last line is 'N passed, M failed'.
@@ -9,6 +9,7 @@ import binascii
 import glob
 import os
 import re
+import struct
 import subprocess
 import sys
 import tempfile
@@ -20,7 +21,7 @@ PROGRAM = os.path.join(TOP, "target", "bin", "replay")
 BLOCK = "2440a98900000800"  # S2: number 0, revision 0, length 8
 LONGEST = 270_000
 
-HOLD, FORCE, WAITING = b"\xa5" * 65536, b"\x5a" * 8192, b"\x3c" * 8192
+HOLD, FORCE, WAITING, OUT = b"\xa5" * 65536, b"\x5a" * 8192, b"\x3c" * 8192, b"\xc3" * 65536
 
 
 def crc(data):
@@ -91,9 +92,35 @@ BAD = [
     ("size without a number", "size hold"), ("size of the state's name", "size waits 5"), ("put past the hold", "put hold 65536 00"),
     ("put past the store in force", "put force 8191 0000"), ("put past the waiting store", "put waiting 8193 -"),
     ("put far past the hold", "put hold 18446744073709551615 00"), ("put without an offset", "put hold 00"),
-    ("put without bytes", "put hold 0"), ("put into an unknown buffer", "put out 0 00"), ("a comment behind a call", "open # now"),
+    ("put without bytes", "put hold 0"), ("put into an unknown buffer", "put outs 0 00"),
+    ("put into the buffer that write writes", "put out 0 00"), ("size of that buffer without a number", "size out"), ("a comment behind a call", "open # now"),
     ("bytes with a word", "bytes -"), ("withdraw with a word", "withdraw 1"), ("a zero byte", "open\0"),
 ]
+
+
+# The same of lines that begin with `write`.
+BAD_WRITES = [
+    ("write alone", ""), ("write and a space", " "), ("a number", " 5943"), ("two numbers", " 5943 0"), ("three numbers", " 5943 0 1000"),
+    ("three numbers and a space", " 5943 0 1000 "), ("no number for NUMBER", " - 0 1000 2100"), ("no number for REVISION", " 5943 - 1000 2100"),
+    ("a value for NUMBER", " u5943 0 1000 2100"), ("a value for TOW", " 5943 0 u1000 2100"), ("a value for WNC", " 5943 0 1000 u2100"),
+    ("a slash for WNC", " 5943 0 1000 /"), ("two dashes for TOW", " 5943 0 -- 2100"), ("a negative TOW", " 5943 0 -1 2100"),
+    ("NUMBER over 2^64 - 1", " 18446744073709551616 0 1000 2100"), ("REVISION over 2^64 - 1", " 5943 18446744073709551616 1000 2100"),
+    ("TOW over 2^64 - 1", " 5943 0 18446744073709551616 2100"), ("WNC over 2^64 - 1", " 5943 0 1000 99999999999999999999999999"),
+    ("two spaces before NUMBER", "  5943 0 1000 2100"), ("two spaces in the head", " 5943 0  1000 2100"), ("a tab", " 5943 0 1000\t2100"),
+]
+BAD_VALUES = [
+    ("a space at the end", ""), ("two spaces", " u1"), ("a number without its kind", "7"), ("u without a number", "u"), ("i without one", "i"),
+    ("i and a minus", "i-"), ("f without one", "f"), ("d without one", "d"), ("a kind in capitals", "U7"), ("an unknown kind", "s7"),
+    ("a kind behind its number", "7u"), ("a negative unsigned number", "u-1"), ("a plus", "u+1"), ("a plus before a signed number", "i+1"),
+    ("two minuses", "i--1"), ("a negative float by its bits", "f-1"), ("a float by its value", "f1.5"), ("a number in hex", "u0x1"),
+    ("two dashes", "--"), ("two slashes", "//"), ("a value behind a slash without a space", "/u1"), ("a slash behind a value without one", "u1/"),
+    ("a space at the end behind a slash", "/ "), ("a comment", "# so"), ("a carriage return", "u1\r"), ("a zero byte", "u1\0"),
+    ("u over 2^64 - 1", "u18446744073709551616"), ("f over 2^64 - 1", "f18446744073709551616"), ("d over 2^64 - 1", "d18446744073709551616"),
+    ("i over 2^63 - 1", "i9223372036854775808"), ("i far over", "i99999999999999999999999999"), ("i below -2^63", "i-9223372036854775809"),
+    ("i far below", "i-99999999999999999999999999"), ("a bad value between good ones", "u1 / x - /"),
+]
+BAD += [(f"write: {why}", f"write{words}") for why, words in BAD_WRITES]
+BAD += [(f"write: {why}", f"write 5943 0 1000 2100 {words}") for why, words in BAD_VALUES]
 
 
 def bad_lines():
@@ -147,6 +174,116 @@ def size_put_poke():
     yield "a poked waiting table", "poke waits 20\nwithdraw\nwithdraw\n", line("withdrawn 1", ZERO, crcs()) + NONE, ""
     yield "phase 2", "poke phase 2\nfeed -\nfinish\n", \
         line("refused 2", "2 0 0 0 0 0 0 0", crcs()) + line("end 0 0 0", ZERO, crcs()), ""
+
+
+def block(number, revision, tow, wnc, *fields):
+    """A block of these fields, packed one after the other from byte 14 on, with zeros at its end."""
+    packed = struct.pack("<IH", tow, wnc) + b"".join(struct.pack("<" + kind, value) for kind, value in fields)
+    packed += bytes(-len(packed) % 4)
+    sealed = struct.pack("<HH", number + 8192 * revision, 8 + len(packed)) + packed
+    return b"\x24\x40" + struct.pack("<H", binascii.crc_hqx(sealed, 0)) + sealed
+
+
+def bits(kind, value):
+    """A float of a `write`: its letter and its bits in decimal."""
+    return kind + str(int.from_bytes(struct.pack("<" + kind, value), "little"))
+
+
+NONE4, NONE8 = struct.unpack("<f", bytes.fromhex("f90295d0"))[0], struct.unpack("<d", bytes.fromhex("000000205fa012c2"))[0]  # -2e10
+UNSET4, UNSET8 = ("f", NONE4), ("d", NONE8)
+END = block(5943, 0, 1000, 2100)  # EndOfAtt: 16 bytes
+with open(os.path.join(TOP, "samples", "shipped-v1.table"), "rb") as rows:
+    TABLE = rows.read()
+OPENED = f"stage {TABLE.hex()}\nopen\n"
+IN_RUN = f"1 {len(TABLE)} 0 0 0 0 0 0"
+STORED = crcs(force=over(TABLE, FORCE), waiting=over(TABLE, WAITING))
+OPENING = line("staged 1", f"0 0 {len(TABLE)} 0 0 0 0 0", crcs(waiting=over(TABLE, WAITING))) + line("opened 1", IN_RUN, STORED)
+
+
+def wrote(*blocks, out=OUT):
+    """The answers to writes, one after the other, over what the buffer has."""
+    lines = ""
+    for made in blocks:
+        out = over(made, out)
+        lines += line(f"written {len(made)} {crc(out)}", IN_RUN)
+    return lines
+
+
+def refused(number):
+    return line(f"refused {number}", IN_RUN)
+
+
+# Blocks that the rows shipped allow, with their bytes.
+WRITTEN = [
+    ("a block without fields", "5943 0 1000 2100", END), ("the largest TOW and WNc", "5943 0 4294967294 65534", block(5943, 0, 4294967294, 65534)),
+    ("TOW and WNc unset", "5943 0 - -", block(5943, 0, 4294967295, 65535)), ("zeros in front", "05943 00 00001000 02100", END),
+    ("revision 7", "5943 7 1000 2100", block(5943, 7, 1000, 2100)), ("unset values past the last row", "5943 0 1000 2100 - - -", END),
+    ("ExtEvent, revision 0", f"5924 0 5 6 u1 u2 {bits('f', 0.25)} {bits('d', -0.5)}", block(5924, 0, 5, 6, ("B", 1), ("B", 2), ("f", 0.25), ("d", -0.5))),
+    ("ExtEvent, revision 0, with the field of revision 1 unset", "5924 0 5 6 u1 u2 f0 - -", block(5924, 0, 5, 6, ("B", 1), ("B", 2), ("f", 0), UNSET8)),
+    ("ExtEvent, revision 1", "5924 1 5 6 u1 u2 f0 - u65535", block(5924, 1, 5, 6, ("B", 1), ("B", 2), ("f", 0), UNSET8, ("H", 65535))),
+    ("a NaN, bit for bit", "5924 0 5 6 u1 u2 f2143289345 d9221120237041090561",
+     block(5924, 0, 5, 6, ("B", 1), ("B", 2), ("I", 0x7fc00001), ("Q", 0x7ff8000000000001))),
+    ("AttEuler, a list that is shorter than the rows", f"5938 0 5 6 - u0 u2 u0 {bits('f', 182.5)}",
+     block(5938, 0, 5, 6, ("B", 255), ("B", 0), ("H", 2), ("H", 0), ("f", 182.5), *[UNSET4] * 5)),
+    ("BaseVectorCart without sub-blocks", "4043 0 5 6", block(4043, 0, 5, 6, ("B", 0), ("B", 0))),
+    ("BaseVectorCart without sub-blocks, a body of unset values", "4043 0 5 6 - - -", block(4043, 0, 5, 6, ("B", 0), ("B", 0))),
+    ("BaseVectorCart with two sub-blocks", f"4043 0 5 6 / u1 u2 u3 u4 {bits('d', 1.5)} - - - - - u7 i-32767 u8 u9 u10 / u1 u2 u3 u4 - - - - - - - i-0 u5",
+     block(4043, 0, 5, 6, ("B", 2), ("B", 52), *[("B", n) for n in (1, 2, 3, 4)], ("d", 1.5), *[UNSET8] * 2, *[UNSET4] * 3, ("H", 7), ("h", -32767),
+           ("H", 8), ("H", 9), ("I", 10), *[("B", n) for n in (1, 2, 3, 4)], *[UNSET8] * 3, *[UNSET4] * 3, ("H", 65535), ("h", 0), ("H", 5),
+           ("H", 65535), ("I", 0))),
+]
+
+# What Write refuses, with its number.
+REFUSED = [
+    ("a number without a row", 6, "1 0 5 6"), ("number 8192 and more", 6, "14135 0 5 6"), ("the largest NUMBER", 6, "18446744073709551615 0 5 6"),
+    ("revision 8", 11, "5943 8 5 6"), ("the largest REVISION", 11, "5943 18446744073709551615 5 6"), ("TOW's mark", 11, "5943 0 4294967295 6"),
+    ("TOW over its range", 11, "5943 0 4294967296 6"), ("the largest TOW", 11, "5943 0 18446744073709551615 6"), ("WNc's mark", 11, "5943 0 5 65535"),
+    ("WNc over its range", 11, "5943 0 5 65536"), ("a value past the last row", 11, "5943 0 5 6 u0"), ("the same behind unset ones", 11, "5943 0 5 6 - u0"),
+    ("a sub-block where the row has none", 11, "5943 0 5 6 /"), ("the largest u", 11, "5924 0 5 6 u18446744073709551615 u2 f0 -"),
+    ("a u over its range", 11, "5924 0 5 6 u256 u2 f0 -"), ("an unset value where there is no mark", 11, "5924 0 5 6 - u2 f0 -"),
+    ("a list that ends where there is no mark", 11, "5924 0 5 6 u1"), ("a value that is not carried", 11, "5924 0 5 6 u1 u2 f0 - u3"),
+    ("an i for a u", 11, "5924 0 5 6 i1 u2 f0 -"), ("a u for an f", 11, "5924 0 5 6 u1 u2 u0 -"), ("a d for an f", 11, "5924 0 5 6 u1 u2 d0 -"),
+    ("an f for a d", 11, "5924 0 5 6 u1 u2 f0 f0"), ("an f over 32 bits", 11, "5924 0 5 6 u1 u2 f4294967296 -"),
+    ("the largest f", 11, "5924 0 5 6 u1 u2 f18446744073709551615 -"), ("the mark of a d", 11, f"5924 0 5 6 u1 u2 f0 d{0xC212A05F20000000}"),
+    ("a value in the body of a row with sub-fields", 11, "4043 0 5 6 u1"), ("the largest i", 11, "5924 0 5 6 i9223372036854775807"),
+    ("the lowest i", 11, "5924 0 5 6 i-9223372036854775808"), ("256 sub-blocks", 11, "4043 0 5 6" + " /" * 256),
+]
+
+
+def writes():
+    for why, words, made in WRITTEN:
+        yield f"write: {why}", f"{OPENED}write {words}\n", OPENING + wrote(made), ""
+    for why, number, words in REFUSED:
+        yield f"write, refused: {why}", f"{OPENED}write {words}\n", OPENING + refused(number), ""
+    assert len(END) == 16
+    long = [made for why, words, made in WRITTEN if why == "BaseVectorCart with two sub-blocks"][0]
+    words = [words for why, words, made in WRITTEN if made is long][0]
+    yield "the buffer is kept from write to write", f"{OPENED}write {words}\nwrite 5943 0 1000 2100\n", OPENING + wrote(long, END), ""
+    yield "a refused write writes nothing", f"{OPENED}write 5943 0 1000 2100\nwrite 5943 8 5 6\nwrite 5943 0 1000 2100\n", \
+        OPENING + wrote(END) + refused(11) + wrote(END, out=over(END, OUT)), ""
+    yield "255 sub-blocks", f"{OPENED}write 4043 0 5 6{' / u1 u2 u3 u4 - - - - - - - - u5' * 255}\n", \
+        OPENING + wrote(block(4043, 0, 5, 6, ("B", 255), ("B", 52), *[*[("B", n) for n in (1, 2, 3, 4)], *[UNSET8] * 3, *[UNSET4] * 3, ("H", 65535),
+                                                                       ("h", -32768), ("H", 5), ("H", 65535), ("I", 0)] * 255)), ""
+    yield "no table", "write 5943 0 1000 2100\n", line("refused 5", ZERO), ""
+    yield "a table in force and no run open", f"{OPENED}finish\nwrite 5943 0 1000 2100\n", \
+        OPENING + line("end 0 0 0", f"0 {len(TABLE)} 0 0 0 0 0 0", STORED) + line(f"written 16 {crc(over(END, OUT))}", f"0 {len(TABLE)} 0 0 0 0 0 0"), ""
+    yield "size of the buffer, one byte too few", f"{OPENED}size out 15\nwrite 5943 0 1000 2100\nwrite 5943 0 1000 2100\n", \
+        OPENING + refused(12) + wrote(END), ""
+    yield "size of the buffer, just enough; the CRC is of the whole", f"{OPENED}size out 16\nwrite 5943 0 1000 2100\n", OPENING + wrote(END), ""
+    yield "size of the buffer, none", f"{OPENED}size out 0\nwrite 5943 0 1000 2100\n", OPENING + refused(12), ""
+    yield "size of the buffer, over its length", f"{OPENED}size out 18446744073709551615\nwrite 5943 0 1000 2100\n", OPENING + wrote(END), ""
+    yield "another call ends a size of the buffer", f"{OPENED}size out 15\nbytes\nwrite 5943 0 1000 2100\n", \
+        OPENING + line("part 0 0000", IN_RUN) + wrote(END), ""
+    yield "write ends a size of another buffer", f"{OPENED}size hold 0\nwrite 5943 0 1000 2100\nbytes\n", OPENING + wrote(END) + line("part 0 0000", IN_RUN), ""
+    yield "a bad write ends no size", f"{OPENED}size out 15\nwrite 5943 0 1000 2100 x\nwrite 5943 0 1000 2100\n", OPENING + refused(12), bad(4)
+    yield "a short store in force", f"{OPENED}size force 8191\nwrite 5943 0 1000 2100\n", OPENING + refused(1), ""
+    yield "a state that is not sound", f"{OPENED}poke stands 1\nwrite 5943 0 1000 2100\n", OPENING + line("refused 1", f"1 {len(TABLE)} 0 0 1 0 0 0"), ""
+    yield "a table that breaks a rule", f"{OPENED}put force 0 ff\nwrite 5943 0 1000 2100\n", OPENING + refused(4), ""
+    head = "write 5943 0 1000 2100"
+    fits = head + " -" * ((LONGEST - len(head)) // 2)
+    yield "as many values as a line holds", f"{OPENED}{fits}\n", OPENING + wrote(END), ""
+    yield "a value more", f"{OPENED}{fits} -\nbytes\n", OPENING + line("part 0 0000", IN_RUN), bad(3)
+    yield "as many sub-blocks as a line holds", f"{OPENED}{fits.replace(' -', ' /')}\n", OPENING + refused(11), ""
 
 
 def longest():
@@ -211,7 +348,7 @@ def recordings(env):
 
 
 def cases():
-    for group in (flight, bad_lines, numbers, passed_over, size_put_poke, longest, many):
+    for group in (flight, bad_lines, numbers, passed_over, size_put_poke, writes, longest, many):
         yield from group()
 
 

@@ -2,11 +2,14 @@
 """Compares the programs `replay` and `lister` with the independent model (model/model.py).
 
     test_replay.py            the gate's amount: 220 scripts of about 100
-                              calls, 110 of about 200 record calls, 20 runs
+                              calls, 110 of about 200 record calls, 60 of
+                              about 100 blocks to be written, 20 runs
     test_replay.py N          N times as many seeds
+    test_replay.py --model    the model's own samples alone; no program is run
     test_replay.py --seed S   writes the script S to standard output: 17 a
-                              script, r17 a script of record calls, l17 the
-                              bytes of a run for the lister
+                              script, r17 a script of record calls, w17 one
+                              of blocks to be written, l17 the bytes of a run
+                              for the lister
 
 Standard output and standard error are compared byte for byte.  At the first
 difference it says where and stops.  The last line is `N passed, M failed`; N
@@ -36,8 +39,9 @@ TOP = programs.TOP
 RUNNER = os.path.join(TOP, "tools", "x86run")
 REPLAY = os.path.join(TOP, "target", "bin", "replay")
 LISTER = os.path.join(TOP, "target", "bin", "lister")
-SCRIPTS, RECORDS, RUNS = 220, 110, 20
+SCRIPTS, RECORDS, WRITES, RUNS = 220, 110, 60, 20
 LEAST_RECORD_ANSWERS = 20000
+LEAST_WRITTEN = 2500    # blocks
 RECORD_WORDS = ("body", "sub", "subbytes", "tow", "wnc")
 SECONDS = 300
 
@@ -218,6 +222,364 @@ def shipped_agree():
         return model.shipped_table(1) == file.read()
 
 
+# ------------------------------------------- samples of blocks that are written
+# Blocks of the rows shipped, byte by byte by hand; the CRC by model.crc_plain.
+
+END_OF_ATT = "2440 7540 3717 1000 E8030000 3408 0000"
+ATT_EULER = ("2440 C1E3 3217 2C00 00709914 9808 0C 00 0400 0000"
+             "0000B442 0000C0BF 00000040 F90295D0 F90295D0 F90295D0")
+NO_VECTOR = "2440 9DCD CB0F 1000 FFFFFFFF FFFF 00 00"
+VECTOR = ("07 00 04 00 000000000000F03F 000000205FA012C2 0000000000000080"
+          "F90295D0 F90295D0 F90295D0 FFFF 9CFF 0100 FFFF 00000000")
+OTHER_VECTOR = ("01 02 03 FF 000000205FA012C2 000000205FA012C2"
+                "000000205FA012C2 F90295D0 F90295D0 FFFFFFFF"
+                "FEFF 0080 FFFF 0000 FFFFFFFF")
+ONE_VECTOR = "2440 0182 CB0F 4400 E8030000 3408 01 34" + VECTOR
+TWO_VECTORS = "2440 7C1D CB0F 7800 E8030000 3408 02 34" + VECTOR + OTHER_VECTOR
+WORDS = b" / u7 u0 u4 u0 d4607182418800017408 - d9223372036854775808"
+WORDS_ONE = WORDS + b" - - - - i-100 u1"
+WORDS_TWO = (WORDS_ONE + b" / u1 u2 u3 u255 - - - - - f4294967295 u65534"
+             b" - u65535 u0 u4294967295")
+
+# (line, the block's bytes in hex, or the answer)
+WRITE_LINES = (
+    (b"write 5943 0 1000 2100", END_OF_ATT),
+    (b"write 5943 0 01000 2100 - - -", END_OF_ATT),
+    (b"write 5938 0 345600000 2200 u12 u0 u4 u0 f1119092736 f3217031168"
+     b" f1073741824", ATT_EULER),
+    (b"write 5938 0 345600000 2200 u12 u0 u4 u0 f1119092736 f3217031168"
+     b" f1073741824 - - - - -", ATT_EULER),
+    (b"write 4043 0 - -", NO_VECTOR),
+    (b"write 4043 0 - - - - -", NO_VECTOR),
+    (b"write 4043 0 1000 2100" + WORDS_ONE, ONE_VECTOR),
+    (b"write 4043 0 1000 2100 - -" + WORDS_TWO, TWO_VECTORS),
+    (b"write 5944 0 1000 2100", "refused 6"),
+    (b"write 8192 8 1000 2100", "refused 6"),
+    (b"write 14135 0 1000 2100", "refused 6"),
+    (b"write 5943 8 1000 2100", "refused 11"),
+    (b"write 5943 0 4294967295 2100", "refused 11"),
+    (b"write 5943 0 1000 65535", "refused 11"),
+    (b"write 5943 0 1000 2100 u0", "refused 11"),
+    (b"write 5943 0 1000 2100 /", "refused 11"),
+    (b"write 5938 0 - - - u0 u4 u0 f3499426553", "refused 11"),
+    (b"write 5938 0 - - u255 u0 u4 u0", "refused 11"),
+    (b"write 5938 0 - - i12 u0 u4 u0", "refused 11"),
+    (b"write 5938 0 - - u12 u256 u4 u0", "refused 11"),
+    (b"write 5938 0 - - - - u4 u0", "refused 11"),
+    (b"write 5938 0 - - - u0 u4", "refused 11"),
+    (b"write 5938 0 - - - u0 u4 u0 d0", "refused 11"),
+    (b"write 5938 0 - - - u0 u4 u0 f4294967296", "refused 11"),
+    (b"write 5924 0 - - u0 u0 f0 - u0", "refused 11"),
+    (b"write 5924 1 - - u0 u0 f0 -", "refused 11"),
+    (b"write 4043 0 - - u0", "refused 11"),
+    (b"write 4043 0 - - - u0", "refused 11"),
+    (b"write 4043 0 - - /", "refused 11"),
+    (b"write 4043 0 - - / u0 u0 u0 u0 - - - - - - - i-32768 u0",
+     "refused 11"))
+
+
+def sample_lines():
+    """The lines above, each with the bytes of the out buffer behind the
+    block, and after a refusal all of them."""
+    player = model.Player()
+    player.line(b"stage " + scripts.hexed(model.shipped_table(1)))
+    player.line(b"open")
+    for line, want in WRITE_LINES:
+        before = bytes(player.buffers["out"])
+        told = player.line(line).split(" | ")
+        after = bytes(player.buffers["out"])
+        answer = want
+        if not want.startswith("refused"):
+            block = bytes.fromhex(want)
+            before = block + before[len(block):]
+            answer = "written %d %04x" % (len(block), model.crc(after))
+        if after != before or told[0] != answer or told[2] != "- - -":
+            print("  %s: %s" % (shown(line), told[0]))
+            return False
+    return True
+
+
+def sample_sizes():
+    """What is lent of the out buffer: 12 where the block is longer, and 11
+    all the same where both hold; the next call is lent it whole."""
+    player = model.Player()
+    player.line(b"stage " + scripts.hexed(model.shipped_table(1)))
+    player.line(b"open")
+    fit, wrong = b"write 4043 0 1000 2100" + WORDS_ONE, b"write 4043 8 1 1"
+    for size, line, want in ((68, fit, "written"), (67, fit, "refused 12"),
+                             (0, fit, "refused 12"), (0, wrong, "refused 11"),
+                             (65537, fit, "written")):
+        player.line(b"size out %d" % size)
+        if not player.line(line).startswith(want):
+            return False
+        if not player.line(fit).startswith("written 68 "):
+            return False
+    return True
+
+
+def sample_no_calls():
+    """Lines that are none."""
+    player = model.Player()
+    good = b"write 5943 0 1000 2100"
+    for end in (b" ", b" u", b" u-1", b" i", b" i-", b" i+1", b" f-1",
+                b" u18446744073709551616", b" d18446744073709551616",
+                b" f18446744073709551616", b" i9223372036854775808",
+                b" i-9223372036854775809", b" x1", b" 1", b" //", b" U1",
+                b" /u1", b" --", b"  u1", b" u1 ", b"\r"):
+        if not is_bad(player, good + end):
+            return False
+    for end in (b" u18446744073709551615", b" d18446744073709551615 /",
+                b" f18446744073709551615", b" i9223372036854775807 / / -",
+                b" i-9223372036854775808", b" i-0", b" -", b" u007"):
+        if is_bad(player, good + end):
+            return False
+    heads = (b"write", b"write 1", b"write 1 1", b"write 1 1 1",
+             b"write - 1 1 1", b"write 1 - 1 1", b"write 1 1 / 1",
+             b"write 1 1 u1 1", b"write 1 1 1 18446744073709551616",
+             b"put out 0 00", b"poke out 0", b"size out", b"size out -")
+    return (all(is_bad(player, line) for line in heads)
+            and not is_bad(player, b"write 18446744073709551615 255 - -")
+            and not is_bad(player, b"size out 18446744073709551615"))
+
+
+def is_bad(player, line):
+    try:
+        player.line(line)
+    except model.BadLine:
+        return True
+    return False
+
+
+def in_force(rows):
+    """The state and the store of a reader with these rows in force."""
+    table = model.make_table(1, rows)
+    state = model.NEW_READER._replace(force=len(table))
+    return state, table + b"\x5A" * (8192 - len(table))
+
+
+def ask(reader, wanted, out):
+    """Write, by the model's own call; TOW and WNc are numbers or None."""
+    stamps = [None if number is None else ("unsigned", number)
+              for number in (wanted.tow, wanted.wnc)]
+    return model.call_write(*reader, out, wanted.number, wanted.revision,
+                            *stamps, wanted.body, wanted.subs)[0]
+
+
+@functools.lru_cache(maxsize=1)
+def made():
+    """[(reader, wanted, block)]: blocks of random rows, revisions and values,
+    written into a buffer of noise.  None at all where one is refused that
+    should not be, or where a byte behind the block changes."""
+    rng, out = random.Random(6), []
+    while len(out) < 400:
+        reader = in_force(content.write_rows(rng))
+        rows = model.read_table(reader[1][:reader[0].force]).rows
+        for row in rows:
+            wanted = content.allowed(rng, row, rng.randrange(6))
+            buffer = bytearray(content.noise(rng, 4000))
+            before = bytes(buffer)
+            answer, length = ask(reader, wanted, buffer)
+            if too_wide(wanted):
+                if (answer, length) != ("refused", 12) or buffer != before:
+                    return []
+                continue
+            if answer != "written" or buffer[length:] != before[length:]:
+                return []
+            out.append((reader, wanted, bytes(buffer[:length])))
+    return out
+
+
+def too_wide(wanted):
+    """Is SBLength over 255?"""
+    return bool(wanted.subs) and content.fields_end(
+        wanted.row.subs, wanted.revision) > 255
+
+
+def expected(fields, revision, values):
+    """What the fields of a block answer that was written with these."""
+    out = []
+    for index, field in enumerate(fields):
+        given = values[index] if index < len(values) else None
+        absent = "do-not-use" if field.first <= revision else (
+            "not-in-this-revision")
+        out.append((absent,) if given is None else given)
+    return out
+
+
+def read_all(reader, row, block, count):
+    """TOW and WNc, the body's fields and those of each sub-block."""
+    stamps = [call(reader[0], block)[0]
+              for call in (model.call_tow, model.call_wnc)]
+    body = [model.call_body(*reader, index, block)[0]
+            for index in range(len(row.body))]
+    subs = [[model.call_sub(*reader, number, index, block)[0]
+             for index in range(len(row.subs))] for number in range(count)]
+    return stamps, body, subs
+
+
+def reads_back():
+    """W20, and refusal 9 past the last field and sub-block."""
+    for reader, wanted, block in made():
+        row, count = wanted.row, len(wanted.subs)
+        stamps, body, subs = read_all(reader, row, block, count)
+        size = content.fields_end(row.subs, wanted.revision) if count else 0
+        pair = [("unsigned", count), ("unsigned", size)]
+        want = pair if row.subs else expected(row.body, wanted.revision,
+                                              wanted.body)
+        times = [("do-not-use",) if number is None else ("unsigned", number)
+                 for number in (wanted.tow, wanted.wnc)]
+        past = (model.call_body(*reader, len(row.body), block),
+                model.call_subbytes(*reader, count, block))
+        if stamps != times or body != want or subs != [
+                expected(row.subs, wanted.revision, values)
+                for values in wanted.subs]:
+            return False
+        if any(answer != ("refused", 9) for answer, _ in past):
+            return False
+    return True
+
+
+def writes_back():
+    """W21: what is read is given, into a buffer that just has the room."""
+    for reader, wanted, block in made():
+        row = wanted.row
+        stamps, body, subs = read_all(reader, row, block, len(wanted.subs))
+        again = content.Wanted(row, model.block_of(block, 0)[1])
+        again.tow, again.wnc = [
+            answer[1] if len(answer) > 1 else None for answer in stamps]
+        again.body = [] if row.subs else as_given(body)
+        again.subs = [as_given(answers) for answers in subs]
+        buffer = bytearray(b"\x99" * len(block))
+        if ask(reader, again, buffer) != ("written", len(block)):
+            return False
+        if buffer != block:
+            return False
+    return True
+
+
+def as_given(answers):
+    return [answer if len(answer) > 1 else None for answer in answers]
+
+
+def one_frame():
+    """W22."""
+    for _, wanted, block in made():
+        one = (0, wanted.number, wanted.revision, len(block))
+        if model.read_run(block) != ([one], 0):
+            return False
+    return True
+
+
+def least_length():
+    """W23: with four bytes less, the frame made right again, the fields or
+    the sub-blocks do not fit.  And the room it takes is what it needs."""
+    for reader, wanted, block in made():
+        short = content.seal(block[:-4])
+        answer = model.call_body(*reader, 0, short)[0]
+        if answer not in (("refused", 7), ("refused", 8)):
+            return False
+        tight = bytearray(len(block) - 1)
+        if ask(reader, wanted, tight) != ("refused", 12) or any(tight):
+            return False
+    return True
+
+
+def zero_elsewhere():
+    """W8: where no field stands the bytes are 0."""
+    for _, wanted, block in made():
+        row, rest = wanted.row, bytearray(block)
+        rest[:14] = bytes(14)
+        size = content.fields_end(row.subs, wanted.revision)
+        spots = [(0, f) for f in row.body]
+        spots += [(16 + number * size, f) for number in range(len(wanted.subs))
+                  for f in row.subs]
+        for base, field in spots:
+            if wanted.carries(field):
+                at = base + field.offset
+                many = model.SIZES[field.type]
+                rest[at:at + many] = bytes(many)
+        if any(rest):
+            return False
+    return True
+
+
+def faults_refused():
+    """Each fault that content.py makes is refused with 11, whatever the room,
+    and without it the block is written."""
+    rng = random.Random(7)
+    for fault in content.FAULTS:
+        tried = 0
+        while tried < 25 and fault is not content.fault_number:
+            rows = content.write_rows(rng)
+            wanted = content.allowed(rng, rng.choice(rows), rng.randrange(4))
+            if not fault(rng, wanted):
+                continue
+            tried += 1
+            buffer = bytearray(rng.choice((0, 8, 66000)))
+            if ask(in_force(rows), wanted, buffer) != ("refused", 11):
+                return False
+            if any(buffer):
+                return False
+    return True
+
+
+def values_allowed():
+    """W5 in other words: a value may be given where some bits of the field
+    read as it, and none where some bits read as Do-Not-Use."""
+    near = {sign * 2 ** power + off for power in (7, 8, 15, 16, 31, 32, 63, 64)
+            for off in (-1, 0, 1) for sign in (1, -1)}
+    near |= {0, 1, -1, 0xD09502F9, 0xD09502F8, 0xC212A05F20000000}
+    words = [(word, number) for number in sorted(near)
+             for word in ("unsigned", "signed", "single", "double")
+             if word == "signed" or number >= 0]
+    for mark, kind in [(m, k) for m in model.MARKED for k in model.MARKED[m]]:
+        field, size = model.Field(0, kind, 0, mark), model.SIZES[kind]
+        for given in words:
+            raw = (given[1] % 2 ** (8 * size)).to_bytes(size, "little")
+            reads = model.value(raw, 0, kind, mark) == given
+            bits = model.bits_given(field, given)
+            if bits != (int.from_bytes(raw, "little") if reads else None):
+                return False
+        bits = model.bits_given(field, None)
+        if (bits is None) != (mark == 0):
+            return False
+        if mark and not model.marked(bits, kind, mark):
+            return False
+    return True
+
+
+def widest():
+    """R12 and W24: the longest block has 65,044 bytes; with a sub-field that
+    ends past 255 none is written but the one without sub-blocks."""
+    rng = random.Random(8)
+    row = content.full_row(rng, 1)
+    reader = in_force((row,))
+    wanted = content.allowed(rng, row, 255)
+    out = bytearray(65536)
+    if ask(reader, wanted, out) != ("written", 65044):
+        return False
+    wanted.subs.append(wanted.subs[0])
+    if ask(reader, wanted, out) != ("refused", 11):
+        return False
+    wide = model.Row(1, 0, content.PAIR, (model.Field(255, 4, 0, 1),))
+    reader = in_force((wide,))
+    return (ask(reader, content.allowed(rng, wide, 0), out) == ("written", 16)
+            and ask(reader, content.allowed(rng, wide, 1), out)
+            == ("refused", 12)
+            and ask(reader, content.allowed(rng, wide, 255), out)
+            == ("refused", 12))
+
+
+def write_samples():
+    return [
+        ("write lines", sample_lines()), ("write sizes", sample_sizes()),
+        ("no write lines", sample_no_calls()),
+        ("W1", bool(made())), ("W20", reads_back()), ("W21", writes_back()), ("W22", one_frame()),
+        ("W23", least_length()), ("W8", zero_elsewhere()),
+        ("R11", faults_refused()), ("W5", values_allowed()),
+        ("R12", widest())]
+
+
 def samples():
     """[(name, whether it holds)]"""
     lister = bytes.fromhex("002440A9890000080024")
@@ -240,16 +602,19 @@ def samples():
         ("lister", model.list_run(lister) == b"block 1 0 0 8\nend 10 1 2\n"),
         ("crc", crcs_agree()), ("feed", feeds_agree()),
         ("cuts", cuts_agree()), ("moved", moved_agree()),
-        ("tables", tables_agree()), ("shipped", shipped_agree())]
+        ("tables", tables_agree()), ("shipped", shipped_agree())
+    ] + write_samples()
 
 
 # ------------------------------------------------------- one script compared
 
 
 def material(name):
-    """The script, or the run, of a seed's name: 17, r17 or l17."""
+    """The script, or the run, of a seed's name: 17, r17, w17 or l17."""
     if name.startswith("r"):
         return scripts.record_script(int(name[1:]))
+    if name.startswith("w"):
+        return scripts.write_script(int(name[1:]))
     if name.startswith("l"):
         return scripts.whole_stream(int(name[1:]))
     return scripts.script(int(name))
@@ -387,7 +752,8 @@ REFUSALS = {"open": (1, 2, 4, 5), "feed": (1, 2, 3), "finish": (1, 2),
             "body": (1, 4, 5, 6, 7, 8, 9, 10),
             "sub": (1, 4, 5, 6, 7, 8, 9, 10),
             "subbytes": (1, 4, 5, 6, 7, 8, 9, 10),
-            "tow": (1, 7, 10), "wnc": (1, 7, 10)}
+            "tow": (1, 7, 10), "wnc": (1, 7, 10),
+            "write": (1, 4, 5, 6, 11, 12)}
 VALUES = ("unsigned", "signed", "single", "double", "do-not-use",
           "not-in-this-revision")
 ANSWERS = {"open": ("opened",), "feed": ("fed block", "fed more"),
@@ -395,7 +761,7 @@ ANSWERS = {"open": ("opened",), "feed": ("fed block", "fed more"),
            "stage": ("staged",), "withdraw": ("withdrawn 0", "withdrawn 1"),
            "body": VALUES, "sub": VALUES, "subbytes": ("part",),
            "tow": ("unsigned", "do-not-use"),
-           "wnc": ("unsigned", "do-not-use")}
+           "wnc": ("unsigned", "do-not-use"), "write": ("written",)}
 
 
 def must_be_met():
@@ -430,14 +796,17 @@ def check_counts(tally, times):
     calls = sum(n for (word, _), n in counts.items() if word != "lister")
     records = sum(n for (word, _), n in counts.items()
                   if word in RECORD_WORDS)
-    print("compared: %d scripts, %d calls, %d record answers, %d bad lines, "
-          "%d runs with %d lines" % (
-              tally.scripts, calls, records, tally.bad, tally.runs,
+    written = counts["write", "written"]
+    print("compared: %d scripts, %d calls, %d record answers, %d blocks "
+          "written, %d bad lines, %d runs with %d lines" % (
+              tally.scripts, calls, records, written, tally.bad, tally.runs,
               counts["lister", "line"]))
     print_counts(counts)
-    for name, have, least in (("scripts", tally.scripts, SCRIPTS + RECORDS),
+    for name, have, least in (("scripts", tally.scripts,
+                               SCRIPTS + RECORDS + WRITES),
                               ("record answers", records,
                                LEAST_RECORD_ANSWERS),
+                              ("blocks written", written, LEAST_WRITTEN),
                               ("bad lines", tally.bad, 1),
                               ("runs", tally.runs, RUNS)):
         if have < least * (times if name != "bad lines" else 1):
@@ -469,6 +838,7 @@ def names_of(times):
     """The seeds' names, those of one kind rising."""
     return (["%d" % n for n in range(1, SCRIPTS * times + 1)]
             + ["r%d" % n for n in range(1, RECORDS * times + 1)]
+            + ["w%d" % n for n in range(1, WRITES * times + 1)]
             + ["l%d" % n for n in range(1, RUNS * times + 1)])
 
 
@@ -490,14 +860,20 @@ def missing():
             if not os.access(path, os.X_OK)]
 
 
-def test(times):
-    """Prints what was found; (passed, failed)."""
-    start = time.time()
+def test_model():
+    """The model's own samples; (passed, failed)."""
     passed = failed = 0
     for name, holds in samples():
         passed, failed = passed + holds, failed + (not holds)
         if not holds:
             print("the model's own sample %s fails" % name)
+    return passed, failed
+
+
+def test(times):
+    """Prints what was found; (passed, failed)."""
+    start = time.time()
+    passed, failed = test_model()
     for path in missing():
         print("missing, or no program: %s (`rt check` builds the programs)" % path)
         failed += 1
@@ -519,10 +895,13 @@ def main(words):
     if words[:1] == ["--seed"] and len(words) == 2:
         sys.stdout.buffer.write(material(words[1]))
         return 0
-    if len(words) > 1 or (words and not words[0].isdigit()):
+    if words == ["--model"]:
+        passed, failed = test_model()
+    elif len(words) > 1 or (words and not words[0].isdigit()):
         sys.stderr.write(__doc__)
         return 2
-    passed, failed = test(max(1, int(words[0])) if words else 1)
+    else:
+        passed, failed = test(max(1, int(words[0])) if words else 1)
     print("%d passed, %d failed" % (passed, failed))
     return 1 if failed else 0
 

@@ -22,6 +22,7 @@ CASES = Cases()
 expect = CASES.expect
 SAMPLE = os.path.join(TOP, "samples", "flight.sbf")
 TEXT = os.path.join(TOP, "samples", "shipped-v1.table.txt")
+WEEKEND = os.path.join(TOP, "samples", "weekend.txt")
 ONE = bytes.fromhex("24 40 A9 89 00 00 08 00")  # a block of 8 bytes
 BROKEN = "/proc/self/mem"  # it opens, and reading it fails
 
@@ -116,7 +117,7 @@ def helps(stand):
     """Help on standard output and status 0, wrong words with the usage and status 2."""
     names = sorted(n for n in os.listdir(os.path.join(TOP, "tools")) if os.stat(os.path.join(TOP, "tools", n)).st_mode & stat.S_IXUSR)
     names = [n for n in names if os.path.isfile(os.path.join(TOP, "tools", n))]
-    expect("the tools are there", len(names) == 12, names)
+    expect("the tools are there", len(names) == 13, names)
     for name in names:
         status, out, err = stand.run(name, "--help", top=TOP)
         expect(f"tools/{name} --help", (status, err) == (0, "") and f"Usage: tools/{name}" in out.decode(), (status, out[-300:], err))
@@ -188,6 +189,53 @@ def others(stand):
     one_line("replay: two complaints", stand.run("replay", "a.script"), "replay", "a.script", "cannot be read to its end")
 
 
+def scribed(stand):
+    """tools/scribe over a stand-in for the scribe."""
+    write(stand.at("run.txt"), "5943 0 1000 2100\n")
+    write(stand.at("my.table"), "rows")
+    stand.program("scribe", "printf block\n")
+    expect("scribe: a file", stand.run("scribe", "run.txt", "out.sbf") == (0, b"", "") and read(stand.at("out.sbf")) == b"block")
+    expect("scribe: what is proved first", stand.calls() == ["check scribe"])
+    expect("scribe: '-' and '-'", stand.run("scribe", "-", "-", data=b"5943 0 1000 2100\n") == (0, b"block", ""))
+    expect("scribe: a file that is there already", stand.run("scribe", "-", "run.txt", data=b"") == (0, b"", "") and read(stand.at("run.txt")) == b"block")
+    stand.program("scribe", 'printf "%s" "$*"\n')
+    expect("scribe: the rows shipped", stand.run("scribe", "run.txt", "-") == (0, b"", ""))
+    expect("scribe: a table", stand.run("scribe", "--table", "my.table", "run.txt", "-") == (0, b"my.table", ""))
+    for words in ([], ["run.txt"], ["run.txt", "-", "-"], ["-x", "run.txt", "-"], ["run.txt", "-x"], ["--table"], ["--table", "my.table", "run.txt"],
+                  ["--table", "-", "run.txt", "-"], ["run.txt", "-", "--table", "my.table"]):
+        said = stand.run("scribe", *words)
+        expect(f"scribe {words}: called wrongly", said[:2] == (2, b"") and said[2].startswith("usage: tools/scribe"), said)
+    some = "lines 1, 2, 3, 4, 5, 6, 7, 8, 9, 10 and 2 more make no block, the first: refused 6: no row"
+    for name, script, file, words, written in [
+        ("a bad line", "printf block; echo 'scribe: line 7: refused 11: a value' >&2", "run.txt", "line 7 makes no block: refused 11: a value", True),
+        ("many bad lines", "printf block; seq -f 'scribe: line %.0f: refused 6: no row' 12 >&2", "run.txt", some, True),
+        ("a read that fails", "printf block; echo 'scribe: cannot read standard input' >&2", "run.txt", "cannot be read to its end", False),
+        ("a bad line, then a read that fails", "echo 'scribe: line 1: is not' >&2; echo 'scribe: cannot read standard input' >&2", "run.txt", "to its end", False),
+        ("a table that breaks a rule", "echo 'scribe: the table breaks one of the rules T1 to T17' >&2", "my.table", "breaks one of the rules T1 to T17", False),
+        ("a table that cannot be read", "echo 'scribe: the table: Input/output error' >&2", "my.table", "Input/output error", False),
+        ("a status", "printf block; exit 3", "run.txt", "ended with status 3", False),
+        ("a signal", "printf block; kill -9 $$", "run.txt", "ended with status 137", False),
+    ]:
+        stand.program("scribe", script + "\n")
+        write(stand.at("out.sbf"), "as it was")
+        one_line("scribe: " + name, stand.run("scribe", "--table", "my.table", "run.txt", "out.sbf"), "scribe", file, words)
+        expect(f"scribe: {name}: what is written", read(stand.at("out.sbf")) == (b"block" if written else b"as it was"), read(stand.at("out.sbf")))
+    stand.program("scribe", "printf block\n")
+    for place, words in [("tools", "is a folder"), ("none", "there is no such file"), ("run.txt/x", "lies below a file")]:
+        one_line(f"scribe: the text {place}", stand.run("scribe", place, "new.sbf"), "scribe", place, words)
+        one_line(f"scribe: the table {place}", stand.run("scribe", "--table", place, "run.txt", "new.sbf"), "scribe", place, words)
+    expect("scribe: nothing is written then", not os.path.exists(stand.at("new.sbf")))
+    for place, words in [("tools", "is a folder"), ("none/x", "there is no such file or folder"), ("/dev/full", "no room is left")]:
+        one_line(f"scribe: out to {place}", stand.run("scribe", "run.txt", place), "scribe", place, words)
+    with open("/dev/full", "wb") as full:
+        one_line("scribe: a full device", stand.run("scribe", "run.txt", "-", stdout=full), "scribe", "run.txt", "no room is left")
+    left, right = os.pipe()
+    os.close(left)
+    said = stand.run("scribe", "run.txt", "-", stdout=right)
+    os.close(right)
+    expect("scribe: a pipe that nobody reads", said[0] == -signal.SIGPIPE and said[2] == "", said)
+
+
 def streams(stand):
     """Files, folders, pipes and devices, with each tool that reads or writes them."""
     stand.program("lister", "echo 'end 8 1 0'\n")
@@ -227,13 +275,14 @@ def streams(stand):
 def terminal(stand):
     """Who types is told that a tool waits."""
     stand.program("lister", "echo 'end 0 0 0'\n")
-    for tool, words in [("list", []), ("table", ["show"]), ("table", ["c"]), ("table", ["make", "-", "out"])]:
+    stand.program("scribe", "")
+    for tool, words in [("list", []), ("scribe", ["-", "out"]), ("table", ["show"]), ("table", ["c"]), ("table", ["make", "-", "out"])]:
         typed, given = os.openpty()
         with stand.start(tool, *words, stdin=given) as ran:
             first = ran.stderr.readline()
             expect(f"{tool} {words}: at a terminal", first == f"tools/{tool}: reads standard input; Ctrl-D ends it\n".encode(), first)
             os.write(typed, b"\4")
-            expect(f"{tool} {words}: Ctrl-D ends it", ended(ran)[0] == (0 if tool == "list" else 1))
+            expect(f"{tool} {words}: Ctrl-D ends it", ended(ran)[0] == (1 if tool == "table" else 0))
         os.close(typed)
         os.close(given)
 
@@ -367,8 +416,9 @@ def signals(stand):
             expect(name + ": its folder", not folder or not os.path.exists(folder), folder)
             os.remove(stand.at("sleeps"))
     os.remove(stand.at("says"))
-    for tool, words in [("list", []), ("table", ["show"]), ("table", ["make", "-", "out"])]:
+    for tool, words in [("list", []), ("scribe", ["-", "out"]), ("table", ["show"]), ("table", ["make", "-", "out"])]:
         write(stand.at("target/bin/lister"), "#!/bin/sh\nexec cat\n")
+        write(stand.at("target/bin/scribe"), "#!/bin/sh\nexec cat\n")
         with stand.start(tool, *words, stdin=subprocess.PIPE) as ran:
             ran.stdin.write(b"version 1\n")
             ran.stdin.flush()
@@ -402,6 +452,20 @@ def real(stand):
     script = os.path.join(TOP, "samples", "flight-line.script")
     expect("replay of the flight line", stand.run("replay", script, top=TOP, env=env) == (0, read(script[:-6] + "out"), ""))
     expect("crc of a text", stand.run("crc", data=b"123456789", top=TOP, env=env) == (0, b"31c3\n", ""))
+    made = stand.at("weekend.sbf")
+    expect("scribe of the weekend", stand.run("scribe", WEEKEND, made, top=TOP, env=env) == (0, b"", ""))
+    expect("list of the weekend", stand.run("list", made, top=TOP, env=env) == (0, read(WEEKEND[:-3] + "list"), ""))
+    again = stand.run("scribe", "--table", TEXT[:-4], "-", "-", data=read(WEEKEND), top=TOP, env=env)
+    expect("scribe of the weekend by the table file", again == (0, read(made), ""), again[2])
+    one_line("scribe: reading fails", stand.run("scribe", BROKEN, stand.at("none.sbf"), top=TOP, env=env), "scribe", BROKEN, "cannot be read to its end")
+    expect("scribe: nothing is written of it", not os.path.exists(stand.at("none.sbf")))
+    one_line("scribe by no table", stand.run("scribe", "--table", WEEKEND, WEEKEND, "-", top=TOP, env=env), "scribe", WEEKEND, "breaks one of the rules")
+    one_line("scribe by a table that is too long", stand.run("scribe", "--table", "/dev/zero", WEEKEND, "-", top=TOP, env=env), "scribe", "/dev/zero", "breaks")
+    one_line("scribe by a table that cannot be read", stand.run("scribe", "--table", BROKEN, WEEKEND, "-", top=TOP, env=env), "scribe", BROKEN, "Input/output")
+    text = b"5943 0 1 2 u1\n# so\n5943 0 1000 2100\n" + b"#" * 270001 + b"\n\n5943 0 1000"
+    said = stand.run("scribe", "-", "-", data=text, top=TOP, env=env)
+    one_line("scribe of bad lines", said, "scribe", "standard input", "lines 1, 4, 6 make no block, the first: refused 11: a value, TOW, WNc")
+    expect("scribe: the other lines are written", said[1] == bytes.fromhex("2440754037171000e803000034080000"), said)
     for tool in ("list", "replay", "crc"):
         said = stand.run(tool, BROKEN, top=TOP, env=env)
         one_line(f"{tool}: reading fails", said, tool, BROKEN, "cannot be read to its end")
@@ -423,7 +487,7 @@ def main():
             part(Stand(os.path.realpath(folder)))
 
     with ThreadPoolExecutor(3) as pool:
-        list(pool.map(apart, (streams, signals, listed, helps, others, terminal, tables, proving, capi, compiler, real)))
+        list(pool.map(apart, (streams, signals, listed, helps, others, scribed, terminal, tables, proving, capi, compiler, real)))
     return CASES.tally()
 
 

@@ -1,4 +1,4 @@
-"""Runs a program of the repository on a file or on standard input: what tools/list, tools/crc and tools/replay share.
+"""Runs a program of the repository on a file or on standard input: what tools/list, tools/crc, tools/replay and tools/scribe share.
 
 The program is proved and built first, so that what runs is what the sources say. A Rattle program has no exit status
 (docs/DECISIONS.md, 47): that it failed is seen by what it says on standard error and by the end of what it prints.
@@ -16,10 +16,10 @@ NAMED = 10  # bad lines that are named; of the others the number is told
 
 
 class Complaints:
-    """What a program says on standard error: the bad lines of a script, and the rest."""
+    """What a program says on standard error: the bad lines of a script or a text, with why the first is bad, and the rest."""
 
     def __init__(self, name):
-        self.name, self.bad, self.numbers, self.others = name, 0, [], []
+        self.name, self.bad, self.numbers, self.why, self.others = name, 0, [], "", []
 
     def read(self, stream):
         rest = b""
@@ -31,17 +31,23 @@ class Complaints:
     def take(self, lines):
         for line in lines:
             words = line.decode("utf-8", "backslashreplace").strip()
-            if re.fullmatch(r"bad line \d+", words):
+            bad = re.fullmatch(r"(?:bad line|scribe: line) (\d+)(?:: (.+))?", words)
+            if bad:
                 self.bad += 1
-                self.numbers += [words[9:]] if self.bad <= NAMED else []
+                self.numbers += [bad[1]] if self.bad <= NAMED else []
+                self.why = self.why or bad[2] or ""
             elif len(self.others) < NAMED:
                 self.others.append(words)
 
     def bad_lines(self):
-        if self.bad == 1:
-            return "line %s is no call; docs/REPLAY.md has the form of a line" % self.numbers[0]
         more = " and %d more" % (self.bad - NAMED) if self.bad > NAMED else ""
-        return "lines %s%s are no calls; docs/REPLAY.md has the form of a line" % (", ".join(self.numbers), more)
+        one = self.bad == 1
+        lines = "line%s %s%s" % ("" if one else "s", ", ".join(self.numbers), more)
+        if self.why:
+            words = ("makes no block: " if one else "make no block, the first: ") + self.why
+        else:
+            words = "is no call" if one else "are no calls"
+        return "%s %s; docs/REPLAY.md has the form of a line" % (lines, words)
 
     def told(self):
         """The complaints in our words, each with what to do."""
@@ -53,18 +59,25 @@ class Complaints:
         return [ours.get(words, words) for words in self.others] + ([self.bad_lines()] if self.bad else [])
 
 
-def copied(stream):
-    """Writes what a program prints to standard output as it comes, and gives the end of it."""
+def copied(stream, to):
+    """Writes what a program prints, by `to`, as it comes, and gives the end of it."""
     end = b""
     while piece := os.read(stream.fileno(), 65536):
-        put(piece)
+        to(piece)
         end = (end + piece)[-KEPT:]
     return end
 
 
-def played(name, given):
-    """Runs the program. Gives what it complains of, its status and the end of what it prints."""
-    command = [os.path.join(TOP, "tools", "x86run"), os.path.join(TOP, "target", "bin", name)]
+def built(name):
+    """Has the program proved and built."""
+    if not os.path.exists(os.path.join(TOP, "target", "bin", name)):
+        say("proving and building %s; the first time takes some minutes" % name)
+    prove("check", name)
+
+
+def played(name, given, words=(), to=put):
+    """Runs the program with these words. Gives what it complains of, its status and the end of what it prints."""
+    command = [os.path.join(TOP, "tools", "x86run"), os.path.join(TOP, "target", "bin", name), *words]
     ran = None
     try:
         with held_back():
@@ -72,10 +85,10 @@ def played(name, given):
         complaints = Complaints(name)
         listener = threading.Thread(target=complaints.read, args=(ran.stderr,), daemon=True)
         listener.start()
-        end = copied(ran.stdout)
+        end = copied(ran.stdout, to)
         listener.join()
         ran.wait()
-        return complaints.told(), status_of(ran), end
+        return complaints, status_of(ran), end
     finally:
         if ran and ran.returncode is None:
             ran.kill()
@@ -90,13 +103,12 @@ def run(doc, name, last, unwhole):
             raise Misused
         path = words[0] if words else "-"
         given = open_input(path)
-        if not os.path.exists(os.path.join(TOP, "target", "bin", name)):
-            say("proving and building %s; the first time takes some minutes" % name)
-        prove("check", name)
+        built(name)
         try:
-            complaints, status, end = played(name, given)
+            said, status, end = played(name, given)
         except Failed as why:
             raise Failed("%s: what was found cannot be written: %s" % (shown(path), why))
+        complaints = said.told()
         if status and not complaints:
             complaints = ["the program %s ended with status %d; try again" % (name, status)]
         if not complaints and not re.search(last, end):

@@ -7,10 +7,11 @@ extern int strcmp(const char *a, const char *b);
 extern int memcmp(const void *a, const void *b, size_t count);
 extern void *memset(void *to, int byte, size_t count);
 
-static uint8_t hold[ALDERFLUTE_HOLD], in_force[ALDERFLUTE_STORE], waiting[ALDERFLUTE_STORE], before[ALDERFLUTE_HOLD];
+static uint8_t hold[ALDERFLUTE_HOLD], in_force[ALDERFLUTE_STORE], waiting[ALDERFLUTE_STORE], out[32], before[ALDERFLUTE_HOLD];
 static const uint8_t sample[8] = {0x24, 0x40, 0xa9, 0x89, 0, 0, 8, 0};
 /* The smallest table that T1 to T17 allow: version 7, one row, block 0, no fields. */
 static const uint8_t table[20] = {0, 0, 0, 0, 0, 0, 0, 0, 7, 0, 1, 0, 20, 0, 20, 0, 0x59, 0x9c, 0x42, 0x54};
+static const alderflute_value tow = {ALDERFLUTE_GIVE_UNSIGNED, 0x04030201}, wnc = {ALDERFLUTE_GIVE_UNSIGNED, 0x0605};
 static unsigned passed, failed;
 
 static void check(int holds, const char *what, uint64_t phase)
@@ -29,7 +30,8 @@ static int zeros(alderflute_block b, alderflute_end e)
 static int untouched(void)
 {
     memset(before, 0xa5, sizeof before);
-    return same(hold, before, sizeof hold) && same(in_force, before, sizeof in_force) && same(waiting, before, sizeof waiting);
+    return same(hold, before, sizeof hold) && same(in_force, before, sizeof in_force) && same(waiting, before, sizeof waiting) &&
+           same(out, before, sizeof out);
 }
 
 static int refuses(alderflute_reply r, alderflute_state s, uint32_t n)
@@ -46,6 +48,8 @@ static int no_field(alderflute_field f, uint32_t n)
 
 static int no_part(alderflute_part p, uint32_t n) { return p.refusal == n && p.offset == 0 && p.length == 0 && untouched(); }
 
+static int no_block(alderflute_written w, uint32_t n) { return w.refusal == n && w.length == 0 && untouched(); }
+
 /* A phase that is none: refusal 1 from every call, the state as it was, and nothing written. */
 static void unknown(uint64_t phase)
 {
@@ -61,6 +65,8 @@ static void unknown(uint64_t phase)
     check(no_field(alderflute_sub(s, in_force, sizeof in_force, sample, sizeof sample, 0, 0), 1), "sub", phase);
     check(no_field(alderflute_tow(s, sample, sizeof sample), 1), "tow", phase);
     check(no_field(alderflute_wnc(s, sample, sizeof sample), 1), "wnc", phase);
+    check(no_block(alderflute_write(s, in_force, sizeof in_force, 0, 0, tow, wnc, NULL, 0, NULL, 0, out, sizeof out), 1), "write",
+          phase);
 }
 
 /* Buffers of length 0 at NULL. */
@@ -78,6 +84,58 @@ static void nothing_lent(void)
     check(no_field(alderflute_sub(s, NULL, 0, NULL, 0, 0, 0), 1), "sub, nothing lent", 0);
     check(no_field(alderflute_tow(s, NULL, 0), 10), "tow of nothing", 0);
     check(no_field(alderflute_wnc(s, NULL, 0), 10), "wnc of nothing", 0);
+    check(no_block(alderflute_write(s, NULL, 0, 0, 0, tow, wnc, NULL, 0, NULL, 0, NULL, 0), 1), "write, nothing lent", 0);
+    check(no_block(alderflute_write(s, in_force, sizeof in_force, 0, 0, tow, wnc, NULL, 0, NULL, 0, NULL, 0), 5), "write, no table",
+          0);
+}
+
+/* A write of block 0, which has no fields: what it is given, and the refusal that it is to get. */
+typedef struct {
+    const char *what;
+    uint64_t number, revision;
+    alderflute_value tow, wnc;
+    uint8_t kinds[2];
+    size_t length, room;
+    uint32_t refusal;
+} attempt;
+
+static void tried(alderflute_state s, attempt a, const uint8_t *block)
+{
+    uint8_t after[sizeof out];
+    memset(out, 0xa5, sizeof out), memset(after, 0xa5, sizeof after);
+    for (size_t i = 0; a.refusal == 0 && i < 16; i++) after[i] = block[i];
+    alderflute_written w = alderflute_write(s, in_force, sizeof in_force, a.number, a.revision, a.tow, a.wnc, a.length ? a.kinds : NULL,
+                                            a.length, NULL, 0, a.room ? out : NULL, a.room);
+    check(w.refusal == a.refusal && w.length == (a.refusal == 0 ? 16 : 0) && same(out, after, sizeof out), a.what, 1);
+}
+
+static void made(alderflute_state s)
+{
+    static const uint8_t full[16] = {0x24, 0x40, 0xdf, 0x50, 0, 0x20, 0x10, 0, 1, 2, 3, 4, 5, 6, 0, 0};
+    static const uint8_t empty[16] = {0x24, 0x40, 0x78, 0x2f, 0, 0, 0x10, 0, 0xff, 0xff, 0xff, 0xff, 0xff, 0xff, 0, 0};
+    const alderflute_value unset = {ALDERFLUTE_GIVE_UNSET, 1}, below = {ALDERFLUTE_GIVE_SIGNED, 1}, begins = {ALDERFLUTE_GIVE_SUB_BLOCK, 1},
+                           no_kind = {6, 1}, long_one = {ALDERFLUTE_GIVE_UNSIGNED, 4294967296u}, ones = {ALDERFLUTE_GIVE_UNSIGNED, 65535};
+    const attempt refused[] = {
+        {"write, no row", 1, 0, tow, wnc, {0}, 0, sizeof out, 6},
+        {"write, a number of 17 bits", 65536, 0, tow, wnc, {0}, 0, sizeof out, 6},
+        {"write, a number of 33 bits", 4294967296u, 0, tow, wnc, {0}, 0, sizeof out, 6},
+        {"write, revision 8", 0, 8, tow, wnc, {0}, 0, sizeof out, 11},
+        {"write, a revision of 33 bits", 0, 4294967296u, tow, wnc, {0}, 0, sizeof out, 11},
+        {"write, TOW of 33 bits", 0, 1, long_one, wnc, {0}, 0, sizeof out, 11},
+        {"write, WNc with a sign", 0, 1, tow, below, {0}, 0, sizeof out, 11},
+        {"write, WNc of all ones", 0, 1, tow, ones, {0}, 0, sizeof out, 11},
+        {"write, TOW of no kind", 0, 1, no_kind, wnc, {0}, 0, sizeof out, 11},
+        {"write, WNc a sub-block", 0, 1, tow, begins, {0}, 0, sizeof out, 11},
+        {"write, a value too many", 0, 1, tow, wnc, {0, ALDERFLUTE_GIVE_UNSIGNED}, 2, sizeof out, 11},
+        {"write, a sub-block too many", 0, 1, tow, wnc, {ALDERFLUTE_GIVE_SUB_BLOCK}, 1, sizeof out, 11},
+        {"write, no room at all", 0, 1, tow, wnc, {0}, 0, 0, 12},
+        {"write, a byte short", 0, 1, tow, wnc, {0}, 0, 15, 12},
+    };
+    const attempt block = {"write", 0, 1, tow, wnc, {0}, 0, sizeof out, 0};
+    const attempt just_room = {"write, room for the block alone", 0, 1, tow, wnc, {0}, 0, 16, 0};
+    const attempt all_unset = {"write, all unset", 0, 0, unset, unset, {0, 0}, 2, sizeof out, 0};
+    for (size_t i = 0; i < sizeof refused / sizeof *refused; i++) tried(s, refused[i], NULL);
+    tried(s, block, full), tried(s, just_room, full), tried(s, all_unset, empty);
 }
 
 /* Values that a kind does not have are 0. */
@@ -93,6 +151,7 @@ static void done(void)
     r = alderflute_open(r.state, in_force, sizeof in_force, waiting, sizeof waiting), a = r.answer;
     check(a.refusal == 0 && a.kind == ALDERFLUTE_TABLE_VERSION && a.version == 7 && a.waited == 0 && a.taken == 0 && zeros(a.block, a.end),
           "open", 0);
+    made(r.state);
     r = alderflute_feed(r.state, hold, sizeof hold, sample, sizeof sample), a = r.answer;
     check(a.refusal == 0 && a.kind == ALDERFLUTE_BLOCK && a.version == 0 && a.waited == 0 && a.taken == 8 && a.block.place == 0 &&
               a.block.length == 8 && a.block.number == 0 && a.block.revision == 0 && a.end.bytes == 0 && a.end.blocks == 0,
@@ -106,22 +165,23 @@ static void done(void)
           "finish", 1);
 }
 
-/* A text for each number, and those of 0 to 10 and of an unknown one are different. */
+/* A text for each number, and those of 0 to 12 and of an unknown one are different. */
 static void texts(void)
 {
-    for (uint32_t n = 0; n < 12; n++) {
+    for (uint32_t n = 0; n < 14; n++) {
         const char *text = alderflute_refusal_text(n);
         int apart = text && *text;
         for (uint32_t m = 0; m < n; m++) apart = apart && strcmp(text, alderflute_refusal_text(m)) != 0;
         check(apart, "the text of a refusal", n);
     }
-    check(strcmp(alderflute_refusal_text(11), alderflute_refusal_text((uint32_t)-1)) == 0, "the text of an unknown refusal", 0);
+    check(strcmp(alderflute_refusal_text(13), alderflute_refusal_text((uint32_t)-1)) == 0, "the text of an unknown refusal", 0);
 }
 
 int main(void)
 {
     static const uint64_t phases[] = {3, 4, 255, 256, 65536, 4294967296u, 4294967297u, 9223372036854775808u, (uint64_t)-1};
     memset(hold, 0xa5, sizeof hold), memset(in_force, 0xa5, sizeof in_force), memset(waiting, 0xa5, sizeof waiting);
+    memset(out, 0xa5, sizeof out);
     for (size_t i = 0; i < sizeof phases / sizeof *phases; i++) unknown(phases[i]);
     nothing_lent();
     done();

@@ -14,10 +14,11 @@ typedef struct {
     size_t lent;   /* to the next call */
 } buffer;
 
-static uint8_t hold_bytes[ALDERFLUTE_HOLD], force_bytes[ALDERFLUTE_STORE], waiting_bytes[ALDERFLUTE_STORE];
+static uint8_t hold_bytes[ALDERFLUTE_HOLD], force_bytes[ALDERFLUTE_STORE], waiting_bytes[ALDERFLUTE_STORE], made_bytes[65536];
 static buffer hold = {hold_bytes, sizeof hold_bytes, sizeof hold_bytes};
 static buffer force = {force_bytes, sizeof force_bytes, sizeof force_bytes};
 static buffer waiting = {waiting_bytes, sizeof waiting_bytes, sizeof waiting_bytes};
+static buffer made = {made_bytes, sizeof made_bytes, sizeof made_bytes}; /* what a script calls out */
 static alderflute_state state;
 
 /* ---- output */
@@ -88,7 +89,7 @@ static void state_and(int buffers)
     } else {
         text("- - -\n");
     }
-    hold.lent = hold.length, force.lent = force.length, waiting.lent = waiting.length;
+    hold.lent = hold.length, force.lent = force.length, waiting.lent = waiting.length, made.lent = made.length;
 }
 
 static void block(alderflute_block b)
@@ -144,6 +145,17 @@ static void part(alderflute_part p, const uint8_t *bytes, size_t length)
         text("(a part past its buffer)");
     } else {
         text("part"), word(p.length), text(" "), crc(bytes + p.offset, p.length);
+    }
+    state_and(0);
+}
+
+static void written(alderflute_written w)
+{
+    if (w.refusal != 0) {
+        text("refused"), word(w.refusal);
+        if (w.length != 0) text(" (and a length)");
+    } else {
+        text("written"), word(w.length), text(" "), crc(made.bytes, made.length);
     }
     state_and(0);
 }
@@ -224,7 +236,7 @@ static int put(span name, uint64_t at, size_t n)
 
 static int size(span name, uint64_t n)
 {
-    buffer *b = named(name);
+    buffer *b = is(name, "out") ? &made : named(name);
     if (!b) return 0;
     b->lent = n < b->length ? n : b->length;
     return 1;
@@ -232,6 +244,69 @@ static int size(span name, uint64_t n)
 
 /* The bytes that were given, where there are none as NULL: any pointer will do with length 0. */
 static const uint8_t *pointer(size_t n) { return n ? given : NULL; }
+
+/* ---- a write, with as many values as its line has */
+
+static uint8_t kinds[LONGEST / 2];
+static uint64_t bits[LONGEST / 2];
+
+/* The next word of a line, and where the one after it begins. */
+static span next(const char *line, size_t length, size_t *at)
+{
+    span s = {line + *at, 0};
+    while (*at + s.length < length && s.at[s.length] != ' ') s.length++;
+    *at += s.length + 1;
+    return s;
+}
+
+/* A signed number in 64 bits: from -2^63 to 2^63 - 1. */
+static int with_sign(span s, uint64_t *n)
+{
+    int below = s.length > 0 && *s.at == '-';
+    span digits = {s.at + below, s.length - (size_t)below};
+    if (!decimal(digits, n) || *n > ((uint64_t)1 << 63) - !below) return 0;
+    if (below) *n = 0 - *n;
+    return 1;
+}
+
+/* A value, or / for the beginning of a sub-block. */
+static int value(span s, uint8_t *kind, uint64_t *n)
+{
+    static const char letters[] = {'u', 'i', 'f', 'd'};
+    span rest = {s.at + 1, s.length - 1};
+    *n = 0;
+    if (is(s, "-")) return *kind = ALDERFLUTE_GIVE_UNSET, 1;
+    if (is(s, "/")) return *kind = ALDERFLUTE_GIVE_SUB_BLOCK, 1;
+    if (s.length == 0) return 0;
+    for (*kind = 1; *kind <= 4; ++*kind)
+        if (*s.at == letters[*kind - 1]) return *kind == ALDERFLUTE_GIVE_SIGNED ? with_sign(rest, n) : decimal(rest, n);
+    return 0;
+}
+
+/* TOW or WNc: a number, or - for unset. */
+static int stamp(span s, alderflute_value *v)
+{
+    v->bits = 0, v->kind = ALDERFLUTE_GIVE_UNSET;
+    if (is(s, "-")) return 1;
+    v->kind = ALDERFLUTE_GIVE_UNSIGNED;
+    return decimal(s, &v->bits);
+}
+
+static int write_call(const char *line, size_t length, size_t at)
+{
+    uint64_t block_number, revision;
+    alderflute_value tow, wnc;
+    size_t n = 0;
+    if (at > length || !decimal(next(line, length, &at), &block_number)) return 0;
+    if (at > length || !decimal(next(line, length, &at), &revision)) return 0;
+    if (at > length || !stamp(next(line, length, &at), &tow)) return 0;
+    if (at > length || !stamp(next(line, length, &at), &wnc)) return 0;
+    for (; at <= length; n++)
+        if (!value(next(line, length, &at), &kinds[n], &bits[n])) return 0;
+    written(alderflute_write(state, force.bytes, force.lent, block_number, revision, tow, wnc, n ? kinds : NULL, n, n ? bits : NULL, n,
+                             made.lent ? made.bytes : NULL, made.lent));
+    return 1;
+}
 
 /* ---- a line: 0 where it is none */
 
@@ -266,7 +341,9 @@ static int line(const char *at, size_t length)
 {
     span w[5];
     int words = 0;
+    size_t first = 0;
     if (length == 0 || *at == '#') return 1;
+    if (is(next(at, length, &first), "write")) return write_call(at, length, first);
     for (size_t start = 0, i = 0; i <= length; i++)
         if (i == length || at[i] == ' ') {
             if (words == 4) return 0;
@@ -297,6 +374,7 @@ int main(void)
     for (size_t i = 0; i < hold.length; i++) hold.bytes[i] = 0xa5;
     for (size_t i = 0; i < force.length; i++) force.bytes[i] = 0x5a;
     for (size_t i = 0; i < waiting.length; i++) waiting.bytes[i] = 0x3c;
+    for (size_t i = 0; i < made.length; i++) made.bytes[i] = 0xc3;
     state = alderflute_new();
     for (uint64_t n = 1; at < length; n++) {
         size_t end = at;

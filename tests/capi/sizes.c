@@ -54,3 +54,11 @@ SIZE(part, 24);
 AT(part, refusal, 0);
 AT(part, offset, 8);
 AT(part, length, 16);
+
+SIZE(value, 16);
+AT(value, kind, 0);
+AT(value, bits, 8);
+
+SIZE(written, 16);
+AT(written, refusal, 0);
+AT(written, length, 8);

@@ -11,8 +11,15 @@ static uint8_t hold[ALDERFLUTE_HOLD], in_force[ALDERFLUTE_STORE], waiting[ALDERF
 static alderflute_reply r;
 static alderflute_field field;
 static alderflute_part part;
+static alderflute_written written;
+static uint8_t out[256];
 /* Block 4043 with one sub-block: all is 0 but the header, N and SBLength. */
 static const uint8_t block[68] = {0x24, 0x40, 0xcb, 0x99, 0xcb, 0x0f, 68, 0, 0, 0, 0, 0, 0, 0, 1, 52};
+
+/* One sub-block for block 4043, with a value in each field. */
+static const uint8_t kinds[] = {ALDERFLUTE_GIVE_SUB_BLOCK, 1, 1, 1, 1, 4, 4, 4, 3, 3, 3, 1, 2, 1, 1, 1};
+static const uint64_t bits[sizeof kinds] = {0, 1, 1, 1, 1, 1, 1, 1, 1, 1, 1, 1, 1, 1, 1, 1};
+static const alderflute_value now = {ALDERFLUTE_GIVE_UNSIGNED, 1};
 
 /* A header that is never ended, and a block in what it holds back, for finish to find. */
 static const uint8_t held_back[16] = {0x24, 0x40, 0, 0, 0, 0, 20, 0, 0x24, 0x40, 0xa9, 0x89, 0, 0, 8, 0};
@@ -28,6 +35,11 @@ static void sub(void) { field = alderflute_sub(r.state, in_force, sizeof in_forc
 static void subbytes(void) { part = alderflute_subbytes(r.state, in_force, sizeof in_force, block, sizeof block, 0); }
 static void tow(void) { field = alderflute_tow(r.state, block, sizeof block); }
 static void wnc(void) { field = alderflute_wnc(r.state, block, sizeof block); }
+static void write(void)
+{
+    written = alderflute_write(r.state, in_force, sizeof in_force, 4043, 0, now, now, kinds, sizeof kinds, bits, sizeof kinds, out,
+                               sizeof out);
+}
 static void hold_back(void) { r = alderflute_feed(r.state, hold, sizeof hold, held_back, sizeof held_back); }
 static void finish(void) { r = alderflute_finish(r.state, hold, sizeof hold); }
 
@@ -35,7 +47,7 @@ static const struct {
     const char *name;
     void (*call)(void);
 } calls[] = {{"new", new}, {"stage", stage}, {"withdraw", withdraw}, {"open", open}, {"feed", feed}, {"bytes", bytes}, {"body", body},
-             {"sub", sub}, {"subbytes", subbytes}, {"tow", tow}, {"wnc", wnc}, {"feed", hold_back}, {"finish", finish}};
+             {"sub", sub}, {"subbytes", subbytes}, {"tow", tow}, {"wnc", wnc}, {"write", write}, {"feed", hold_back}, {"finish", finish}};
 
 /* Paints the stack below this frame, makes the call, and looks how far down the paint is gone. */
 __attribute__((noinline)) static unsigned long depth(void (*call)(void))
@@ -49,14 +61,15 @@ __attribute__((noinline)) static unsigned long depth(void (*call)(void))
     return (unsigned long)(here - at);
 }
 
-/* Twice: at its first call memmove may have to be found first, and that is not the call's stack. */
+/* Twice: at its first call memmove or memset may have to be found first, and that is not the call's stack. */
 int main(void)
 {
     unsigned long deep[sizeof calls / sizeof *calls];
     for (int turn = 0; turn < 2; turn++)
         for (size_t i = 0; i < sizeof calls / sizeof *calls; i++) {
             deep[i] = depth(calls[i].call);
-            if (r.answer.refusal != 0 || field.refusal != 0 || part.refusal != 0) return printf("%s was refused\n", calls[i].name), 1;
+            if (r.answer.refusal != 0 || field.refusal != 0 || part.refusal != 0 || written.refusal != 0)
+                return printf("%s was refused\n", calls[i].name), 1;
         }
     for (size_t i = 0; i < sizeof calls / sizeof *calls; i++) printf("%s %lu\n", calls[i].name, deep[i]);
     return 0;

@@ -1,5 +1,6 @@
 """Seeded content for the replay scripts: field values, blocks, streams and
-block tables, good ones and ones with exactly one rule broken.
+block tables, good ones and ones with exactly one rule broken; and blocks to
+be written, allowed ones and ones with a fault.
 
 Every function draws only from the random.Random it is given.
 """
@@ -7,7 +8,8 @@ Every function draws only from the random.Random it is given.
 import binascii
 import struct
 
-from model import (Field, MARKED, Row, SIZES, crc, make_table, shipped_rows)
+from model import (Field, MARKED, Row, SIGNED, SIZES, crc, kind_read,
+                   make_table, range_of, shipped_rows, value)
 
 SHIPPED = shipped_rows()
 OLDER = shipped_rows(reserved=False)
@@ -536,3 +538,460 @@ def broken_table(rng):
                        broken_numbers, broken_block_row, broken_trailer,
                        broken_size))
     return make(rng)
+
+
+# ----------------------------------------------------- tables to write through
+
+
+def typed_cells(rng, highest):
+    """Every type with every mark that it may have, in any order, with first
+    revisions that do not go down: (type, first revision, mark)."""
+    pairs = [(kind, mark) for mark in MARKED for kind in MARKED[mark]]
+    rng.shuffle(pairs)
+    firsts = sorted(rng.choice((0, 0, rng.randrange(highest + 1)))
+                    for _ in pairs)
+    return [(kind, first, mark) for (kind, mark), first in zip(pairs, firsts)]
+
+
+def spread(rng, start, cells, last=255):
+    """Field rows of these cells from `start` on, with gaps here and there;
+    as many as start by `last`."""
+    rows, at = [], start
+    for kind, first, mark in cells:
+        at += rng.choice((0, 0, 0, 1, 3))
+        if at > last:
+            break
+        rows.append(Field(at, kind, first, mark))
+        at += SIZES[kind]
+    return tuple(rows)
+
+
+def typed_row(rng, number):
+    """A row of all types and marks, in its body or as sub-fields."""
+    highest = rng.choice((0, 1, 3, 7))
+    cells = typed_cells(rng, highest)
+    if rng.random() < 0.5:
+        return Row(number, highest, spread(rng, 14, cells), ())
+    return Row(number, highest, PAIR, spread(rng, 0, cells))
+
+
+def far_row(rng, number):
+    """A row whose last field starts near 255, where offsets end: sub-fields
+    that end at either side of 255."""
+    highest = rng.choice((0, 0, 1, 7))
+    near = spread(rng, 14, typed_cells(rng, 0)[:rng.randrange(5)])
+    kind = rng.choice((3, 4, 4, 8, 10, rng.randrange(1, 11)))
+    at = rng.choice((255, 254, 255 - SIZES[kind], 256 - SIZES[kind],
+                     rng.randrange(240, 256)))
+    far = Field(at, kind, rng.randrange(highest + 1), random_mark(rng, kind))
+    if rng.random() < 0.3:
+        return Row(number, highest, near + (far,), ())
+    return Row(number, highest, PAIR, near + (far,))
+
+
+def late_row(rng, number):
+    """A row whose sub-fields come with later revisions: before, SBLength is
+    0 with sub-blocks too."""
+    cells = [(kind, 2 + first, mark) for kind, first, mark
+             in typed_cells(rng, 2)[:rng.randrange(1, 6)]]
+    return Row(number, 5, PAIR, spread(rng, 0, cells))
+
+
+def full_row(rng, number):
+    """255 sub-fields of one byte: the longest block that can be written."""
+    kinds = rng.choice(((1, 0), (1, 1), (5, 4), (1, 2)))
+    fields = tuple(Field(at, kinds[0], 0, kinds[1]) for at in range(255))
+    return Row(number, 0, PAIR, fields)
+
+
+def write_rows(rng):
+    """Rows to write through."""
+    draw = rng.random()
+    if draw < 0.3:
+        return SHIPPED
+    if draw < 0.5:
+        return random_rows(rng)
+    makers = (typed_row, typed_row, far_row, far_row, late_row, random_row)
+    numbers = sorted(rng.sample(range(8192), rng.randrange(2, 7)))
+    if rng.random() < 0.3:
+        numbers[-1] = 8191
+    return tuple(rng.choice(makers)(rng, number) for number in numbers)
+
+
+# ---------------------------------------------------------- blocks to write
+
+
+class Wanted:
+    """What a `write` line asks for.  Values are those of the model: None for
+    unset, else the kind's word and the number."""
+
+    def __init__(self, row, revision):
+        self.row = row
+        self.number = row.number
+        self.revision = revision
+        self.tow = self.wnc = None
+        self.body = []
+        self.subs = []
+
+    def words(self):
+        """The words of its line."""
+        out = ["write", str(self.number), str(self.revision)]
+        out += ["-" if n is None else str(n) for n in (self.tow, self.wnc)]
+        out += [value_word(given) for given in self.body]
+        for values in self.subs:
+            out += ["/"] + [value_word(given) for given in values]
+        return [word.encode() for word in out]
+
+    def lists(self):
+        """[(list of values, its field rows)]; N and SBLength are not given."""
+        if self.row.subs:
+            return [(values, self.row.subs) for values in self.subs]
+        return [(self.body, self.row.body)]
+
+    def places(self, test):
+        """[(list, index, field)] of the fields that pass the test."""
+        return [(values, index, field) for values, fields in self.lists()
+                for index, field in enumerate(fields) if test(field)]
+
+    def carries(self, field):
+        return field.first <= self.revision
+
+
+def value_word(given):
+    if given is None:
+        return "-"
+    letter = {"unsigned": "u", "signed": "i", "single": "f", "double": "d"}
+    return letter[given[0]] + str(given[1])
+
+
+def given_for(rng, field):
+    """A value that the field may have, or None where the bits drawn are
+    those of its mark."""
+    bits = field_bits(rng, field.type, field.mark)
+    raw = bits.to_bytes(SIZES[field.type], "little")
+    answer = value(raw, 0, field.type, field.mark)
+    return None if answer == ("do-not-use",) else answer
+
+
+def list_for(rng, fields, revision):
+    """An allowed list: sometimes without its last unset values, sometimes
+    with unset ones past the last row."""
+    values = [given_for(rng, field) if field.first <= revision else None
+              for field in fields]
+    draw = rng.random()
+    if draw < 0.5:
+        while values and values[-1] is None and rng.random() < 0.9:
+            values.pop()
+    elif draw < 0.6:
+        values += [None] * rng.randrange(1, 5)
+    return values
+
+
+def sub_count(rng, row):
+    """A few sub-blocks, seldom as many as there may be: the lines are long
+    then, so less often where there are many sub-fields."""
+    if rng.random() < min(0.03, 0.15 / len(row.subs)):
+        return rng.choice((254, 255, 255))
+    return rng.choice((0, 0, 1, 1, 2, 2, 3, 5, rng.randrange(12)))
+
+
+def stamp_for(rng, most):
+    """TOW or WNc, up to the last number before its mark."""
+    return rng.choice((None, 0, 1, most - 1, most - 1, rng.randrange(most),
+                       rng.randrange(most)))
+
+
+def write_revision(rng, row):
+    """As in blocks that are read, and often one below that of some field."""
+    before = [f.first - 1 for f in row.body + row.subs if f.first]
+    if before and rng.random() < 0.4:
+        return rng.choice(before)
+    return pick_revision(rng, row)
+
+
+def allowed(rng, row, count=None):
+    """A block that can be written if there is room for it.  Where sub-blocks
+    are many they are 20 over and over."""
+    wanted = Wanted(row, write_revision(rng, row))
+    wanted.tow = stamp_for(rng, 2 ** 32 - 1)
+    wanted.wnc = stamp_for(rng, 2 ** 16 - 1)
+    if not row.subs:
+        wanted.body = list_for(rng, row.body, wanted.revision)
+        return wanted
+    if rng.random() < 0.3:
+        wanted.body = [None] * rng.choice((1, 2, 2, 3, 20))
+    count = sub_count(rng, row) if count is None else count
+    subs = [list_for(rng, row.subs, wanted.revision)
+            for _ in range(min(count, 20))]
+    wanted.subs = [list(subs[index % 20]) for index in range(count)]
+    return wanted
+
+
+# Faults: each is given a block that can be written and spoils it, or gives
+# False where it has no place for its fault.
+
+
+def put_value(values, index, given):
+    values += [None] * (index + 1 - len(values))
+    values[index] = given
+
+
+def pick_place(rng, wanted, test):
+    places = wanted.places(test)
+    return rng.choice(places) if places else None
+
+
+def any_value(rng):
+    """Some value of any kind."""
+    return rng.choice((
+        ("unsigned", rng.choice((0, 1, 255, 65535, 2 ** 64 - 1))),
+        ("signed", rng.choice((0, -1, 127, -128, -2 ** 63, 2 ** 63 - 1))),
+        ("single", rng.choice(SINGLE)), ("double", rng.choice(DOUBLE))))
+
+
+def fault_kind(rng, wanted):
+    """A value of another kind, its number mostly within the field's range."""
+    place = pick_place(rng, wanted, wanted.carries)
+    if not place:
+        return False
+    values, index, field = place
+    words = ["unsigned", "signed", "single", "double"]
+    words.remove(kind_read(field.type))
+    word = rng.choice(words)
+    number = rng.choice((0, 1, 5, 127, rng.getrandbits(63)))
+    put_value(values, index, (word, number))
+    return True
+
+
+def past_range(rng, kind):
+    """A number that is too large or too small for the type, but not for a
+    line.  None: there is none."""
+    least, most = range_of(kind)
+    top = 2 ** 63 - 1 if kind in SIGNED else 2 ** 64 - 1
+    bottom = -2 ** 63 if kind in SIGNED else 0
+    numbers = [most + 1, least - 1, most + 1, least - 1, top, bottom,
+               2 * most + 1, 2 * most + 2, most + 1 + rng.randrange(most + 1)]
+    fit = [n for n in numbers if bottom <= n <= top
+           and not least <= n <= most]
+    return rng.choice(fit) if fit else None
+
+
+def fault_range(rng, wanted):
+    place = pick_place(rng, wanted, lambda field: wanted.carries(field)
+                       and SIZES[field.type] < 8 and field.type in SIGNED)
+    if not place or rng.random() < 0.6:
+        place = pick_place(rng, wanted, lambda field: wanted.carries(field)
+                           and SIZES[field.type] < 8)
+    if not place:
+        return False
+    values, index, field = place
+    word = kind_read(field.type)
+    put_value(values, index, (word, past_range(rng, field.type)))
+    return True
+
+
+def fault_mark(rng, wanted):
+    """The number that reads as Do-Not-Use by the field's mark."""
+    place = pick_place(rng, wanted, lambda field: wanted.carries(field)
+                       and field.mark)
+    if not place:
+        return False
+    values, index, field = place
+    least, most = range_of(field.type)
+    float_bits = 0xD09502F9 if field.type == 9 else 0xC212A05F20000000
+    number = {1: most, 2: 0, 3: float_bits, 4: least}[field.mark]
+    put_value(values, index, (kind_read(field.type), number))
+    return True
+
+
+def fault_unset(rng, wanted):
+    """A field without a mark is not given."""
+    place = pick_place(rng, wanted, lambda field: wanted.carries(field)
+                       and field.mark == 0)
+    if not place:
+        return False
+    values, index, _ = place
+    if rng.random() < 0.4:
+        del values[index:]
+    else:
+        put_value(values, index, None)
+    return True
+
+
+def fault_carried(rng, wanted):
+    """A value, right but for that, of a field that is not carried."""
+    place = pick_place(rng, wanted, lambda field: not wanted.carries(field))
+    if not place:
+        return False
+    values, index, field = place
+    put_value(values, index, given_for(rng, field) or any_value(rng))
+    return True
+
+
+def fault_past(rng, wanted):
+    """A value past the last row."""
+    lists = wanted.lists()
+    if not lists:
+        return False
+    values, fields = rng.choice(lists)
+    put_value(values, len(fields) + rng.choice((0, 0, 1, 7)), any_value(rng))
+    return True
+
+
+def fault_subs(rng, wanted):
+    """Sub-blocks where the row has no sub-fields."""
+    if wanted.row.subs:
+        return False
+    made = rng.choice(([], [], [None], [("unsigned", 1)]))
+    wanted.subs = [list(made) for _ in range(rng.choice((1, 1, 2, 300)))]
+    return True
+
+
+def fault_pair(rng, wanted):
+    """A value in the body's list of a row with sub-fields: N and SBLength,
+    right or not, or behind them."""
+    if not wanted.row.subs:
+        return False
+    right = (("unsigned", len(wanted.subs)),
+             ("unsigned", min(255, fields_end(wanted.row.subs,
+                                              wanted.revision))))
+    at = rng.choice((0, 1, 1, 2, 9))
+    put_value(wanted.body, at, right[min(at, 1)] if rng.random() < 0.7
+              else any_value(rng))
+    return True
+
+
+def fault_count(rng, wanted):
+    """More than 255 sub-blocks, each allowed."""
+    if not wanted.row.subs or rng.random() > 3 / len(wanted.row.subs):
+        return False
+    one = list_for(rng, wanted.row.subs, wanted.revision)
+    count = rng.choice((256, 256, 257))
+    wanted.subs = [list(one) for _ in range(count)]
+    return True
+
+
+def fault_revision(rng, wanted):
+    """Over 7; some are right in their low bits."""
+    wanted.revision = rng.choice((
+        8, 8, 9, 15, 16, 255, 256, 256 + wanted.revision, 65536, 2 ** 32,
+        2 ** 32 + wanted.revision, 2 ** 63, 2 ** 64 - 1))
+    return True
+
+
+def fault_stamp(rng, wanted):
+    """TOW or WNc: all ones, or too large; some right in their low bits."""
+    if rng.random() < 0.5:
+        wanted.tow = rng.choice((2 ** 32 - 1, 2 ** 32 - 1, 2 ** 32,
+                                 2 ** 32 + 1000, 2 ** 33 - 1, 2 ** 64 - 1))
+    else:
+        wanted.wnc = rng.choice((65535, 65535, 65536, 65536 + 2100, 131071,
+                                 2 ** 32, 2 ** 32 - 1, 2 ** 64 - 1))
+    return True
+
+
+def fault_number(rng, wanted):
+    """A number without a row; some are right in their low bits."""
+    low = wanted.number
+    wanted.number = rng.choice((
+        low ^ 1, rng.randrange(8192), 8192, 8192 + low, 16384 + low,
+        65535, 65536 + low, 2 ** 32 + low, 2 ** 63 + low, 2 ** 64 - 1))
+    return True
+
+
+FAULTS = (fault_kind, fault_kind, fault_range, fault_range, fault_mark,
+          fault_mark, fault_unset, fault_unset, fault_carried, fault_carried,
+          fault_past, fault_subs, fault_pair, fault_count, fault_revision,
+          fault_stamp, fault_stamp, fault_number, fault_number)
+
+
+def spoil(rng, wanted):
+    """One fault that the block has a place for."""
+    while True:
+        if rng.choice(FAULTS)(rng, wanted):
+            return
+
+
+# ------------------------------------------------- `write` lines that are none
+
+
+# Words that are no VALUE.
+NO_VALUES = (
+    b"u", b"i", b"f", b"d", b"u-1", b"u-0", b"u+1", b"i+1", b"i-",
+    b"i--1", b"f-1", b"d-1", b"U1", b"I1", b"F0", b"D0", b"u1.0",
+    b"f1.5", b"dnan", b"u0x1", b"u1u", b"u1/", b"/u1", b"//", b"--",
+    b"-1", b"-u1", b"1", b"0", b"x1", b"u1,", b"s1", b"u1\r", b"u\t1",
+    b"\x00", b"u1\x00", b"\xff", b"", b"i1-", b"i1-2", b"\\", b"/-",
+    b"u18446744073709551616", b"u99999999999999999999",
+    b"u100000000000000000000000", b"d18446744073709551616",
+    b"f18446744073709551616", b"i9223372036854775808",
+    b"i-9223372036854775809", b"i18446744073709551615",
+    b"i18446744073709551616", b"i-18446744073709551616",
+    b"i-99999999999999999999", b"u" + b"1" * 5000)
+# Words that just are one.
+VALUES = (
+    b"u18446744073709551615", b"d18446744073709551615",
+    b"f18446744073709551615", b"f4294967296", b"i9223372036854775807",
+    b"i-9223372036854775808", b"i-0", b"i-00", b"u007", b"i-007",
+    b"u" + b"0" * 5000 + b"1", b"i-" + b"0" * 30 + b"5")
+
+
+def bad_head_word(rng, at):
+    """A word that is no NUMBER or REVISION (at 1 and 2), no TOW or WNC (3
+    and 4)."""
+    words = [b"x", b"-1", b"+1", b"u1", b"/", b"--", b"", b"0x1", b"1.0",
+             b"18446744073709551616", b"99999999999999999999",
+             b"100000000000000000000000000000"]
+    return rng.choice(words + [b"-", b"-"] * (at < 3))
+
+
+def respell(rng, words):
+    """The same line with other digits for its numbers: zeros in front, and a
+    minus sign for 0 where it may have one."""
+    out = words[:1]
+    for word in words[1:]:
+        head = word[:1] if word[:1] in (b"u", b"i", b"f", b"d") else b""
+        digits = word[len(head):]
+        if word in (b"-", b"/") or rng.random() < 0.3:
+            out.append(word)
+        elif digits == b"0" and head == b"i":
+            out.append(b"i-" + b"0" * rng.randrange(1, 4))
+        else:
+            sign = b"-" if digits.startswith(b"-") else b""
+            zeros = b"0" * rng.choice((1, 1, 2, 20, 40))
+            out.append(head + sign + zeros + digits[len(sign):])
+    return out
+
+
+def spoil_words(rng, words):
+    """The words of a `write` line with one thing wrong in the text."""
+    words = list(words)
+    kind = rng.randrange(8)
+    if kind < 3:
+        at = rng.randrange(5, len(words) + 1)
+        words.insert(at, rng.choice(NO_VALUES + VALUES))
+    elif kind == 3:
+        at = rng.randrange(1, 5)
+        words[at] = bad_head_word(rng, at)
+    elif kind == 4:
+        del words[rng.randrange(1, 5):]
+    elif kind == 5:
+        words.insert(rng.randrange(len(words) + 1), b"")
+    elif kind == 6:
+        words[-1] += rng.choice((b"\r", b"\t", b"\x00", b" "))
+    else:
+        words[0] = rng.choice((b"WRITE", b"Write", b"writes", b"writ", b"w",
+                               b"write\t"))
+    return words
+
+
+BAD_WRITES = (
+    b"write", b"write ", b"write 5943", b"write 5943 0", b"write 5943 0 1",
+    b"write 5943 0 1 ", b"write 5943 0 1 2 ", b"write  5943 0 1 2",
+    b" write 5943 0 1 2", b"write 5943 0 1 2\r", b"write - 0 1 2",
+    b"write 5943 - 1 2", b"write 5943 0 / 2", b"write 5943 0 1 /",
+    b"write 5943 0 u1 2", b"write 5943 0 1 2 /-", b"write 5943 0 1 2 / /  /",
+    b"put out 0 00", b"put out 0 -", b"put out 65536 00", b"poke out 1",
+    b"size out", b"size out -", b"size out x", b"size out 1 2",
+    b"size out 18446744073709551616", b"size Out 1", b"size outs 1",
+    b"out", b"out 0")

@@ -1,10 +1,11 @@
-"""An independent model of the SBF reader of docs/RULES.md.
+"""An independent model of the SBF reader of docs/RULES.md, and of its writer.
 
 Written by someone who had seen neither the code nor its definitions, from the
 papers alone that docs/RULES.md restates, and before it did: the rule that each
-part names was put in later, the code is as it was.  The text language at the
-end of this file is that of docs/REPLAY.md.  Choices between readings are in
-CHOICES.md.
+part names was put in later, the code is as it was.  Write came with request
+M-100, again without a look at the code: from the request, from section W of
+docs/RULES.md and from docs/REPLAY.md, whose text language is at the end of
+this file.  Choices between readings are in CHOICES.md.
 
 Run as a program it behaves like `replay`: python3 model.py < script
 """
@@ -453,23 +454,36 @@ def layout_fault(row, data):
     return 0
 
 
-def row_for(state, force, data):
-    """(refusal 1 to 8 and 10, or 0; the block's row)."""
+def table_for(state, force):
+    """(refusal 1, 5 or 4, in this order, or 0; the table in force)."""
     if fault_one(state, force=force):
         return 1, None
     if state.force == 0:
         return 5, None
     table = read_table(bytes(force[:state.force]))
-    if table is None:
-        return 4, None
+    return (4, None) if table is None else (0, table)
+
+
+def row_numbered(table, number):
+    """The row of a block number, None where there is none (R6)."""
+    for row in table.rows:
+        if row.number == number:
+            return row
+    return None
+
+
+def row_for(state, force, data):
+    """(refusal 1 to 8 and 10, or 0; the block's row)."""
+    fault, table = table_for(state, force)
+    if fault:
+        return fault, None
     # R10: one whole frame, and nothing more
     if len(data) == 0 or frame_at(data, 0) != len(data):
         return 10, None
-    number = block_of(data, 0)[0]
-    for row in table.rows:
-        if row.number == number:
-            return layout_fault(row, data), row
-    return 6, None
+    row = row_numbered(table, block_of(data, 0)[0])
+    if row is None:
+        return 6, None
+    return layout_fault(row, data), row
 
 
 def marked(bits, kind, mark):
@@ -554,6 +568,160 @@ def call_tow(state, data):
 
 def call_wnc(state, data):
     return call_time(state, data, 12, 2)
+
+
+# ------------------------------------------------------------ writing a block
+# W1 to W9.  A value is None where it is unset, else what a record call would
+# answer of it: ("unsigned", N), ("signed", N), ("single", bits) or ("double",
+# bits).  So what is read can be given, and what is given compared with it.
+
+BLOCK_MOST, SUBS_MOST, SUB_MOST, REVISION_MOST = 65532, 255, 255, 7
+# V8: what every block has, and every revision carries.
+TOW, WNC = Field(8, 3, 0, 1), Field(12, 2, 0, 1)
+
+
+def kind_read(kind):
+    """The word that a field of this type answers with (V1, V7)."""
+    if kind in UNSIGNED:
+        return "unsigned"
+    if kind in SIGNED:
+        return "signed"
+    return "single" if kind == 9 else "double"
+
+
+def range_of(kind):
+    """The least and the greatest number of a type; of a float, of its
+    bits."""
+    width = 8 * SIZES[kind]
+    if kind in SIGNED:
+        return -(1 << width - 1), (1 << width - 1) - 1
+    return 0, (1 << width) - 1
+
+
+def mark_bits(field):
+    """W6: the bits of an unset field.  None: it has no mark."""
+    width = 8 * SIZES[field.type]
+    if field.mark == 1:
+        return 2 ** width - 1
+    if field.mark == 2:
+        return 0
+    if field.mark == 3:
+        # -2e10, packed from the number, where `marked` has its bits
+        form, whole = ("<f", "<I") if field.type == 9 else ("<d", "<Q")
+        return struct.unpack(whole, struct.pack(form, -2e10))[0]
+    if field.mark == 4:
+        return 2 ** (width - 1)
+    return None
+
+
+def bits_given(field, given):
+    """W5 and W6, of a field that is carried: its bits, or None where the
+    value is not allowed."""
+    if given is None:
+        return mark_bits(field)
+    word, number = given
+    least, most = range_of(field.type)
+    if word != kind_read(field.type) or not least <= number <= most:
+        return None
+    bits = number % (1 << 8 * SIZES[field.type])
+    return None if bits == mark_bits(field) else bits
+
+
+def cells_given(fields, revision, values):
+    """W4 and W5: [(offset, bytes)] of the fields that are carried, or None
+    where some value is not allowed."""
+    # past the last row
+    if any(given is not None for given in values[len(fields):]):
+        return None
+    cells = []
+    for index, field in enumerate(fields):
+        given = values[index] if index < len(values) else None
+        if not carried(field, revision):
+            if given is not None:
+                return None
+            continue
+        bits = bits_given(field, given)
+        if bits is None:
+            return None
+        cells.append((field.offset,
+                      bits.to_bytes(SIZES[field.type], "little")))
+    return cells
+
+
+def lists_given(row, revision, stamps, body, subs):
+    """R11: None where something given cannot stand in a block of the row;
+    else the cells of the block's body, TOW and WNc among them, and those of
+    each sub-block."""
+    if revision > REVISION_MOST or len(subs) > SUBS_MOST:
+        return None
+    if subs and not row.subs:
+        return None
+    # W4: N and SBLength are not given, so no row is there for a value
+    own = () if row.subs else row.body
+    lists = [cells_given((TOW, WNC), revision, stamps),
+             cells_given(own, revision, body)]
+    lists += [cells_given(row.subs, revision, values) for values in subs]
+    if None in lists:
+        return None
+    return lists[0] + lists[1], lists[2:]
+
+
+def end_carried(fields, revision, least):
+    """Where the last carried field ends; `least` where none ends later."""
+    return max([least] + [f.offset + SIZES[f.type] for f in fields
+                          if carried(f, revision)])
+
+
+def sub_length(row, revision, count):
+    """W7: SBLength."""
+    return end_carried(row.subs, revision, 0) if count else 0
+
+
+def block_length(row, revision, count):
+    """W9: L.  TOW and WNc end at 14, N and SBLength at 16 (T16)."""
+    end = end_carried(row.body, revision, 14)
+    end += count * sub_length(row, revision, count)
+    return (end + 3) // 4 * 4
+
+
+def block_bytes(row, revision, cells, subs):
+    """W8: the block, of cells that are allowed and with room for it."""
+    size = sub_length(row, revision, len(subs))
+    data = bytearray(block_length(row, revision, len(subs)))
+    for offset, raw in cells:
+        data[offset:offset + len(raw)] = raw
+    if row.subs:
+        data[14], data[15] = len(subs), size
+    for index, cells_there in enumerate(subs):
+        for offset, raw in cells_there:
+            at = 16 + index * size + offset
+            data[at:at + len(raw)] = raw
+    struct.pack_into("<HH", data, 4, revision * 8192 + row.number, len(data))
+    # F6: the CRC comes last, over all that stands behind it
+    struct.pack_into("<2sH", data, 0, b"\x24\x40", crc(bytes(data[4:])))
+    return bytes(data)
+
+
+def call_write(state, force, out, number, revision, tow, wnc, body, subs):
+    """Write (W1); order of refusals 1, 5, 4, 6, 11, 12 (R20).  body is a list
+    of values, subs one list a sub-block."""
+    fault, table = table_for(state, force)
+    if fault:
+        return refused(fault, state)
+    row = row_numbered(table, number)
+    if row is None:
+        return refused(6, state)
+    lists = lists_given(row, revision, (tow, wnc), body, subs)
+    if lists is None:
+        return refused(11, state)
+    # R12
+    length = block_length(row, revision, len(subs))
+    if length > len(out) or length > BLOCK_MOST:
+        return refused(12, state)
+    if sub_length(row, revision, len(subs)) > SUB_MOST:
+        return refused(12, state)
+    out[:length] = block_bytes(row, revision, *lists)
+    return ("written", length), state
 
 
 # -------------------------------------------------------------- making tables
@@ -652,13 +820,19 @@ def list_run(data):
 LINE_MOST = 270000
 NUMBER = re.compile(rb"[0-9]+\Z")
 HEX = re.compile(rb"(?:[0-9a-fA-F]{2})+\Z")
+# The buffers that `put` writes, and those that `size` shortens.
 BUFFERS = {b"hold": "hold", b"force": "force", b"waiting": "waiting"}
+LENT = {**BUFFERS, b"out": "out"}
 NAMES = {name.encode(): name for name in State._fields}
-# The kinds of the words after each call's own word.
+# The kinds of the words after each call's own word; `write` has values after
+# those here.
 CALLS = {
     b"open": "", b"feed": "x", b"finish": "", b"bytes": "", b"stage": "x",
     b"withdraw": "", b"body": "nx", b"sub": "nnx", b"subbytes": "nx",
-    b"tow": "x", b"wnc": "x", b"poke": "sn", b"put": "bnx", b"size": "bn"}
+    b"tow": "x", b"wnc": "x", b"poke": "sn", b"put": "bnx", b"size": "ln",
+    b"write": "nntt"}
+# The letter of a value in a `write` line.
+LETTERS = {b"u": "unsigned", b"i": "signed", b"f": "single", b"d": "double"}
 WRITERS = (b"open", b"feed", b"finish", b"stage", b"withdraw")
 
 
@@ -674,6 +848,43 @@ def read_number(word):
     if len(digits) > 20 or int(digits) > 2 ** 64 - 1:
         raise BadLine
     return int(digits)
+
+
+def read_signed(word):
+    """Decimal, from -2^63 to 2^63 - 1."""
+    negative = word.startswith(b"-")
+    size = read_number(word[1:] if negative else word)
+    if size > (2 ** 63 if negative else 2 ** 63 - 1):
+        raise BadLine
+    return -size if negative else size
+
+
+def read_stamp(word):
+    """TOW or WNC of a `write` line: a number, or `-` for unset."""
+    return None if word == b"-" else ("unsigned", read_number(word))
+
+
+def read_value(word):
+    """A VALUE of a `write` line."""
+    if word == b"-":
+        return None
+    kind = LETTERS.get(word[:1])
+    if kind is None:
+        raise BadLine
+    read = read_signed if kind == "signed" else read_number
+    return kind, read(word[1:])
+
+
+def read_lists(words):
+    """The values of a `write` line: the body's list, and one list for each
+    `/`."""
+    lists = [[]]
+    for word in words:
+        if word == b"/":
+            lists.append([])
+        else:
+            lists[-1].append(read_value(word))
+    return lists[0], lists[1:]
 
 
 def read_hex(word):
@@ -694,26 +905,33 @@ def read_name(names):
 
 
 READERS = {"n": read_number, "x": read_hex, "s": read_name(NAMES),
-           "b": read_name(BUFFERS)}
+           "b": read_name(BUFFERS), "l": read_name(LENT), "t": read_stamp}
 
 
 def read_line(line):
     """(word, arguments) of a line; BadLine if it is no call."""
     words = line.split(b" ")
     kinds = CALLS.get(words[0])
-    if kinds is None or len(words) != 1 + len(kinds):
+    if kinds is None or len(words) < 1 + len(kinds):
         raise BadLine
-    return words[0], [READERS[k](w) for k, w in zip(kinds, words[1:])]
+    arguments = [READERS[k](w) for k, w in zip(kinds, words[1:])]
+    rest = words[1 + len(kinds):]
+    if words[0] == b"write":
+        return words[0], arguments + list(read_lists(rest))
+    if rest:
+        raise BadLine
+    return words[0], arguments
 
 
 class Player:
-    """The bench tool: three buffers, the state, and one line at a time."""
+    """The bench tool: four buffers, the state, and one line at a time."""
 
     def __init__(self):
         self.state = NEW_READER
         self.buffers = {"hold": bytearray(b"\xA5" * 65536),
                         "force": bytearray(b"\x5A" * 8192),
-                        "waiting": bytearray(b"\x3C" * 8192)}
+                        "waiting": bytearray(b"\x3C" * 8192),
+                        "out": bytearray(b"\xC3" * 65536)}
         self.sizes = {}
         self.seen = {}
 
@@ -765,7 +983,8 @@ class Player:
         lends = {b"open": ("force", "waiting"), b"feed": ("hold",),
                  b"finish": ("hold",), b"bytes": ("hold",),
                  b"stage": ("waiting",), b"body": ("force",),
-                 b"sub": ("force",), b"subbytes": ("force",)}
+                 b"sub": ("force",), b"subbytes": ("force",),
+                 b"write": ("force", "out")}
         function = globals()["call_" + word.decode()]
         lent = [self.lent(name) for name in lends.get(word, ())]
         answer, self.state = function(self.state, *lent, *arguments)
@@ -775,6 +994,9 @@ class Player:
         """ANSWER | state | H F W"""
         if answer[0] == "part":
             answer = ("part", len(answer[1]), "%04x" % crc(answer[1]))
+        # the sum of the whole buffer, also where a `size` line lent less
+        if answer[0] == "written":
+            answer += ("%04x" % self.sum("out"),)
         if word in WRITERS:
             sums = ["%04x" % self.sum(name)
                     for name in ("hold", "force", "waiting")]

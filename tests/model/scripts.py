@@ -4,6 +4,8 @@ poke a number back, or read the block that stands.
 
 script(seed)         about 100 calls of all kinds
 record_script(seed)  a table opened, then about 200 record calls
+write_script(seed)   tables opened, and about 100 blocks to be written;
+                     write_blocks(seed) gives those that were
 whole_stream(seed)   a run of 100 kB and more for the lister
 """
 
@@ -32,6 +34,8 @@ class Maker:
         self.goal = calls
         self.rest = b""
         self.block = b""
+        self.writes = 0
+        self.written = []    # (number, revision, bytes) of each block made
         self.sane = model.NEW_READER
         self.weights = {
             name: weight * self.rng.choice((0.3, 1, 1, 1, 3))
@@ -63,7 +67,11 @@ class Maker:
         self.calls += 1
         if not model.spoiled(self.state):
             self.sane = self.state
-        return text.split(" | ")[0].split(" ")
+        answer = text.split(" | ")[0].split(" ")
+        if line.startswith(b"write "):
+            self.writes += 1
+            self.keep_written(line, answer)
+        return answer
 
     def call(self, *words):
         made = [w if isinstance(w, bytes) else str(w).encode() for w in words]
@@ -286,6 +294,8 @@ class Maker:
             self.table()
         elif draw < 0.65:
             self.call("withdraw")
+        elif draw < 0.72:
+            self.write()
         else:
             self.record()
 
@@ -293,8 +303,8 @@ class Maker:
         """`size` lines, then a call that may or may not be lent them."""
         rng = self.rng
         for _ in range(rng.choice((1, 1, 1, 2, 3))):
-            name = rng.choice(("hold", "force", "waiting"))
-            full = 65536 if name == "hold" else 8192
+            name = rng.choice(("hold", "force", "waiting", "out"))
+            full = 65536 if name in ("hold", "out") else 8192
             self.call("size", name, rng.choice(
                 (full - 1, full - 1, full, full + 1, 0, 1, 8192, 2 ** 64 - 1,
                  rng.randrange(full))))
@@ -382,9 +392,12 @@ class Maker:
         kinds = ("size", "one", "turn", "none", "table", "limit", "count")
         for kind in rng.sample(kinds, rng.choice((2, 2, 3))):
             self.twist(kind)
-        word = rng.choice(("open", "feed", "finish", "stage", "record"))
+        word = rng.choice(("open", "feed", "finish", "stage", "record",
+                           "write"))
         if word == "record":
             self.record()
+        elif word == "write":
+            self.write()
         elif word == "stage":
             self.call(word, hexed(content.broken_table(rng)))
         elif word == "feed":
@@ -495,11 +508,230 @@ class Maker:
         self.call("size", self.rng.choice(("force", "hold", "waiting")), 8191)
         self.record()
 
+    # ------------------------------------------------- blocks to be written
+
+    def keep_written(self, line, answer):
+        """The block that a `write` line made, with what the line asked
+        for."""
+        if answer[0] != "written":
+            return
+        number, revision = line.split(b" ", 3)[1:3]
+        block = bytes(self.player.buffers["out"][:int(answer[1])])
+        self.written.append((int(number), int(revision), block))
+
+    def wanted(self):
+        """A block that the table in force has a row for."""
+        return content.allowed(self.rng, self.rng.choice(self.rows()))
+
+    def ask(self, wanted):
+        """Its line; the block, or none where it was refused."""
+        words = wanted.words()
+        if self.rng.random() < 0.03:
+            words = content.respell(self.rng, words)
+        answer = self.say(b" ".join(words))
+        return self.written[-1][2] if answer[:1] == ["written"] else b""
+
+    def write(self):
+        """Allowed in the greater part, else with a fault or two."""
+        rng, wanted = self.rng, self.wanted()
+        draw = rng.random()
+        if draw > 0.6:
+            content.spoil(rng, wanted)
+        if draw > 0.97:
+            content.fault_number(rng, wanted)
+        elif draw > 0.94:
+            content.spoil(rng, wanted)
+        block = self.ask(wanted)
+        if block and rng.random() < 0.5:
+            self.block = block
+            if len(block) < 3000 and rng.random() < 0.5:
+                self.rest += block
+
+    def sizes(self, wanted):
+        """`size out` lines about the length that the block has."""
+        rng = self.rng
+        length = model.block_length(wanted.row, min(wanted.revision, 7),
+                                    len(wanted.subs))
+        for _ in range(rng.choice((1, 1, 1, 2))):
+            self.call("size", "out", rng.choice((
+                length, length, length - 1, length - 1, length - 4,
+                length + 1, length + 4, 0, 1, 8, 14, 15, 16, 65535, 65536,
+                65537, 2 ** 64 - 1, rng.randrange(length))))
+
+    def write_room(self):
+        """A short out buffer; a fault too now and then, which comes first."""
+        rng, wanted = self.rng, self.wanted()
+        if rng.random() < 0.15:
+            content.spoil(rng, wanted)
+        self.sizes(wanted)
+        draw = rng.random()
+        if draw < 0.1:
+            self.say(rng.choice(content.BAD_WRITES))    # ends no `size`
+        elif draw < 0.2:
+            self.call(rng.choice(("bytes", "tow -", "withdraw")))    # ends it
+        self.ask(wanted)
+        if rng.random() < 0.3:
+            self.ask(wanted)
+
+    def write_spoiled(self):
+        """A state, a table or a store that is not right, and back."""
+        rng, before = self.rng, self.state
+        wanted = self.wanted()
+        if rng.random() < 0.25:
+            content.spoil(rng, wanted)
+        kind = rng.randrange(5)
+        at = rng.randrange(min(before.force + 8, 8192))
+        old = bytes(self.player.buffers["force"][at:at + 1])
+        if kind == 0:
+            name = rng.choice(("force", "force", "hold", "waiting"))
+            self.call("size", name, rng.choice((8191, 8191, 0, 8192)))
+        elif kind == 1:
+            self.put("force", at, bytes((old[0] ^ 1 << rng.randrange(8),)))
+        elif kind == 2:
+            self.poke("force", rng.choice((0, 0, 19, before.force + 4, 8192)))
+        else:
+            name = rng.choice(NAMES)
+            self.poke(name, rng.choice(self.spoil_values(name)))
+        self.ask(wanted)
+        if kind == 1:
+            self.put("force", at, old)
+        self.poke_to(before)
+
+    def write_pair(self):
+        """The conditions of two or three refusals at once."""
+        rng, before = self.rng, self.state
+        wanted = self.wanted()
+        kinds = ("size", "one", "none", "table", "number", "fault", "room")
+        for kind in rng.sample(kinds, rng.choice((2, 2, 3))):
+            if kind == "number":
+                content.fault_number(rng, wanted)
+            elif kind == "fault":
+                content.spoil(rng, wanted)
+            elif kind == "room":
+                self.call("size", "out", rng.choice((0, 8, 12, 15)))
+            else:
+                self.twist(kind)
+        self.ask(wanted)
+        self.poke_to(before)
+
+    def write_bad(self):
+        """Lines that are no call, and some that nearly are none."""
+        rng = self.rng
+        if rng.random() < 0.25:
+            self.say(rng.choice(content.BAD_WRITES))
+        else:
+            words = content.spoil_words(rng, self.wanted().words())
+            self.say(b" ".join(words))
+
+    def write_words(self):
+        """Every line of those, and each word that is no value or just is
+        one: past the last row, so that no call writes it."""
+        for line in content.BAD_WRITES:
+            self.say(line)
+        for word in content.NO_VALUES + content.VALUES:
+            wanted = self.wanted()
+            values, fields = (wanted.lists() or [([], ())])[-1]
+            values += [None] * (len(fields) - len(values))
+            self.say(b" ".join(wanted.words() + [word]))
+
+    def write_many(self):
+        """255 sub-blocks and more."""
+        rng = self.rng
+        rows = [row for row in self.rows() if 0 < len(row.subs) < 16]
+        if rows:
+            self.ask(content.allowed(rng, rng.choice(rows),
+                                     rng.choice((254, 255, 255, 256))))
+
+    def write_long(self, kind):
+        """Lines of about as many bytes as a line may have: six kinds."""
+        words = self.wanted().words()
+        if kind == 0:
+            self.write_longest()
+        elif kind == 1:
+            self.say(stretched(b" ".join(words), b" -"))
+        elif kind == 2:
+            line = stretched(b" ".join(words), b" -")
+            self.say(line.replace(b"write ", b"write 0", 1))    # too long
+        elif kind == 3:
+            self.say(stretched(b" ".join(words[:5]), b" /"))
+        elif kind == 4:
+            self.say(stretched(b" ".join(words) + b" u", b"00"))
+        else:
+            self.say(stretched(b" ".join(words[:5]), b" -"))
+
+    def write_longest(self):
+        """255 sub-blocks of 255 values, through a table put into force for
+        this one line."""
+        rng, before = self.rng, self.state
+        row = content.full_row(rng, rng.randrange(8192))
+        table = model.make_table(rng.randrange(65536), (row,))
+        old = bytes(self.player.buffers["force"][:len(table)])
+        self.put("force", 0, table)
+        self.poke("force", len(table))
+        wanted = content.allowed(rng, row, 255)
+        if rng.random() < 0.3:
+            self.call("size", "out", rng.choice((65043, 65044)))
+        self.ask(wanted)
+        self.poke_to(before)
+        self.put("force", 0, old)
+
+    def read_back(self):
+        """A block is written, then read and fed."""
+        rng, wanted = self.rng, self.wanted()
+        block = self.ask(wanted)
+        if not block:
+            return
+        for _ in range(rng.choice((2, 3, 5))):
+            self.record(block)
+        if self.state.phase == model.FEEDING and len(block) < 9000:
+            cut = rng.choice((0, 8, len(block) - 1, rng.randrange(len(block))))
+            for piece in (block[:cut], block[cut:]):
+                self.call("feed", hexed(piece))
+            self.call("bytes")
+
+    def write_again(self):
+        """All that a block answers is read, and written again: W21."""
+        wanted = self.wanted()
+        if len(wanted.lists()) * len(wanted.row.subs) > 40:
+            return
+        block = self.ask(wanted)
+        if not block:
+            return
+        row, data = wanted.row, hexed(block)
+        again = content.Wanted(row, wanted.revision)
+        for name in ("tow", "wnc"):
+            given = self.given(self.call(name, data))
+            setattr(again, name, given and given[1])
+        body = [self.given(self.call("body", index, data))
+                for index in range(len(row.body))]
+        again.body = [] if row.subs else body
+        again.subs = [[self.given(self.call("sub", number, index, data))
+                       for index in range(len(row.subs))]
+                      for number in range(len(wanted.subs))]
+        self.sizes(again)
+        self.ask(again)
+
+    @staticmethod
+    def given(answer):
+        """The value that an answer is given back as."""
+        if len(answer) == 1 or answer[0] == "refused":
+            return None
+        return answer[0], int(answer[1])
+
+    def reopen(self, table):
+        """Another table in force, in a state that is not spoiled."""
+        self.call("stage", hexed(table))
+        while self.state.phase != model.CLOSED:
+            self.call("finish")
+        self.call("open")
+
     # ------------------------------------------------- lines that are no call
 
     def bad(self):
         for _ in range(self.rng.choice((1, 1, 2))):
             self.say(self.bad_line())
+        if self.rng.random() < 0.2:
+            self.write_bad()
         if self.rng.random() < 0.05:
             self.long_lines()
 
@@ -561,10 +793,11 @@ class Maker:
 
     # ------------------------------------------------- the whole script
 
-    def act(self):
-        names = list(ACTIONS)
-        weights = [self.weights[name] for name in names]
-        getattr(self, self.rng.choices(names, weights)[0])()
+    def act(self, weights=None):
+        """One of the actions, by their weights."""
+        weights = weights or self.weights
+        name = self.rng.choices(list(weights), list(weights.values()))[0]
+        getattr(self, name)()
 
     def text(self):
         """The script; sometimes its last line has no line feed."""
@@ -572,9 +805,17 @@ class Maker:
         return joined if self.rng.random() < 0.2 else joined + b"\n"
 
 
+def stretched(line, fill):
+    """A `write` line of exactly as many bytes as a line may have, by two
+    bytes over and over."""
+    if (model.LINE_MOST - len(line)) % 2:
+        line = line.replace(b"write ", b"write 0", 1)
+    return line + fill * ((model.LINE_MOST - len(line)) // 2)
+
+
 ACTIONS = {"run": 34, "bytes": 4, "table": 8, "turn": 3, "record": 12,
            "sweep": 0.7, "short": 4, "spoil": 6, "limit": 1.5, "pair": 3,
-           "edge": 1,
+           "edge": 1, "write": 5,
            "spoil_bytes": 4, "plant": 2, "bad": 5}
 MODES = ("flight", "mixed", "mixed", "mixed", "storm")
 
@@ -616,6 +857,46 @@ def record_script(seed, answers=200):
             else:
                 maker.short_record()
     return maker.text()
+
+
+# ------------------------------------------------------------- write scripts
+
+WRITE_ACTIONS = {"write": 62, "write_room": 9, "write_spoiled": 6,
+                 "write_pair": 4, "write_bad": 8, "write_many": 0.7,
+                 "read_back": 5, "write_again": 1.5}
+
+
+def write_maker(seed, writes):
+    """The maker of a script of about so many `write` calls: a few tables one
+    after the other, and blocks of all their rows.  Every fifth has a line as
+    long as a line may be, every twentieth all the lines that are no call."""
+    maker = Maker("write %s" % seed, writes)
+    rng = maker.rng
+    if rng.random() < 0.3:
+        maker.write()    # no table is in force yet
+    long = seed // 5 % 6 if seed % 5 == 0 else None
+    while maker.writes < maker.goal:
+        stop = maker.writes + rng.choice((15, 25, 40))
+        maker.reopen(model.make_table(rng.randrange(65536),
+                                      content.write_rows(rng)))
+        if long is not None:
+            maker.write_long(long)
+            long = None
+        while maker.writes < min(stop, maker.goal):
+            maker.act(WRITE_ACTIONS)
+    if seed % 20 == 1:
+        maker.write_words()
+    return maker
+
+
+def write_script(seed, writes=100):
+    return write_maker(seed, writes).text()
+
+
+def write_blocks(seed, writes=100):
+    """[(number, revision, bytes)] of the blocks that the script makes, the
+    first two as its lines ask for them."""
+    return write_maker(seed, writes).written
 
 
 # -------------------------------------------------------- runs for the lister

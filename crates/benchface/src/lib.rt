@@ -1,4 +1,4 @@
-// What the benchmarks in C call: feed with plain numbers, and nothing else. The C caller meets the `requires`.
+// What the benchmarks in C call: feed and the writer with plain numbers, and nothing else. The C caller meets the `requires`.
 ghost use mathlib.Core.Path.{_≡_};
 ghost use Prim.Native.Nat.{_≤_};
 ghost use lib.ListN.{length};
@@ -6,8 +6,17 @@ ghost use Rattle.frame.specs.Judge.{judgedLast};
 ghost use Rattle.scan.specs.Settle.{settle};
 ghost use Rattle.scan.specs.Feed.{feedLit, stop};
 ghost use Rattle.feed.specs.Hold.{restOf, numbersOf, holdOf};
+ghost use mathlib.Core.Bool.{true};
+ghost use Rattle.table.specs.Decode.{decode};
+ghost use Rattle.table.specs.Rules.{tableOk};
+ghost use Rattle.draft.specs.Draft.{draftOf};
+ghost use Rattle.writer.specs.Write.{writtenOf};
 ghost use Rattle.benchface.specs.Four.{fourOf};
+ghost use Rattle.benchface.specs.Written.{plainHead, lengthSaid};
+use draft::Head;
+use entry::Entry;
 use feed::HoldNumbers;
+use writer::Written;
 
 // The new held bytes, the standing block, the bytes taken and the bytes skipped.
 fn four(r: HoldNumbers) -> [usize; 4]
@@ -45,4 +54,33 @@ pub extern "C" fn alderflute_bench_finish(
     ensures { λ _. ⌜ now (hold .exit) ≡ holdOf (stop (settle judgedLast (restOf (now (hold .entry)) held standing))) (now (hold .entry)) ⌝ }
 {
     *out = four(feed::finish(hold, held, standing));
+}
+
+// A block of a table that passes, by the writer alone: its length, or 0 where it is refused. TOW and WNc are unsigned numbers.
+#[no_mangle]
+pub extern "C" fn alderflute_bench_write(
+    table: &[u8],
+    number: u64,
+    revision: u64,
+    tow: u64,
+    wnc: u64,
+    kinds: &[u8],
+    bits: &[u64],
+    out: &mut [u8],
+) -> usize
+    requires { ⌜ tableOk (now table) ≡ true ⌝ }
+    ensures { λ r. ⌜ r ≡ lengthSaid (writtenOf (decode (now (table .entry))) (draftOf (plainHead number revision tow wnc) (now (kinds .entry)) (now (bits .entry))) (now (out .entry)) .said) ⌝ }
+    ensures { λ _. ⌜ now (out .exit) ≡ writtenOf (decode (now (table .entry))) (draftOf (plainHead number revision tow wnc) (now (kinds .entry)) (now (bits .entry))) (now (out .entry)) .buffer ⌝ }
+{
+    let head = Head {
+        number,
+        revision,
+        tow: Entry { kind: 1, bits: tow },
+        wnc: Entry { kind: 1, bits: wnc },
+    };
+    let w = writer::write(table, head, kinds, bits, out);
+    match w {
+        Written::Length(n) => n,
+        Written::Refused(_) => 0,
+    }
 }

@@ -13,6 +13,9 @@ use Rattle.reader.specs.Outcome.{outcome}
 use Rattle.tables.specs.Calls.{openRefusal, openOf, stageRefusal, stageOf, withdrawRefusal, withdrawOf}
 use Rattle.runs.specs.Refusals.{feedRefusal, finishRefusal, bytesRefusal}
 use Rattle.runs.specs.Calls.{feedOf, finishOf}
+use Rattle.draft.specs.Draft.{Draft}
+use Rattle.writer.specs.Write.{refusesWrite}
+use Rattle.writes.specs.Calls.{writeOf}
 use Rattle.records.specs.Calls.{askRefusal, bodyOf, subOf, subBytesRefusal, stampOf, towOf, wncOf}
 
 module _ (t : State) (e : sound t ≡ false) where
@@ -63,3 +66,7 @@ module _ (t : State) (e : sound t ≡ false) where
   pub wnc-one : (block : List ℕ) → wncOf t block ≡ fieldRefused 1
   unfolding stampOf
   wnc-one block = rw e
+
+  pub write-one : (force : List ℕ) (d : Draft) (buffer : List ℕ) → writeOf t force d buffer ≡ refusesWrite 1 buffer
+  unfolding writeOf
+  write-one force d buffer = rw (ask-one force)

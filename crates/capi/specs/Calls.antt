@@ -12,12 +12,17 @@ use Rattle.reader.specs.Outcome.{Outcome}
 use Rattle.tables.specs.Calls.{openOf, stageOf, withdrawOf}
 use Rattle.runs.specs.Calls.{feedOf, finishOf, bytesOf}
 use Rattle.records.specs.Calls.{bodyOf, subOf, subBytesOf, subPlaceOf, subBytesRefusal, towOf, wncOf}
+use Rattle.draft.specs.Draft.{Draft}
+use Rattle.writer.specs.Write.{WriteOutcome, writeRefused}
+use Rattle.writes.specs.Calls.{writeOf}
 use Rattle.cform.specs.declared.CState.{CState}
 use Rattle.cform.specs.declared.CReply.{CReply}
 use Rattle.cform.specs.declared.CField.{CField}
 use Rattle.cform.specs.declared.CPart.{CPart}
+use Rattle.cform.specs.declared.CWritten.{CWritten}
 use Rattle.cform.specs.State.{stateOf, stateC}
 use Rattle.cform.specs.Answer.{replyC, fieldC, partC}
+use Rattle.cform.specs.Draft.{writtenC}
 
 -- the reply, and the buffer that the call may write
 pub record Left : Type 0 where
@@ -95,3 +100,21 @@ bytesC s hold = hands (λ t. bytesRefusal t hold) (λ t. 0) (λ t. bytesOf t hol
 unfoldable pub subBytesC : CState → List ℕ → List ℕ → ℕ → Handing
 subBytesC s force block k =
     hands (λ t. subBytesRefusal t force block k) (λ t. subPlaceOf t force block k .at) (λ t. subBytesOf t force block k) (stateOf s)
+
+-- ---- a block that is made
+
+-- the answer, and the buffer that Write may write
+pub record Making : Type 0 where
+  pub written : CWritten
+  pub buffer : List ℕ
+
+abbrev pub making : CWritten → List ℕ → Making
+making w b = record { written = w; buffer = b }
+
+abbrev pub tellsWritten : (State → WriteOutcome) → List ℕ → Option State → Making
+tellsWritten call buffer none = making (writtenC (writeRefused 1)) buffer
+tellsWritten call buffer (some t) = making (writtenC (call t .said)) (call t .buffer)
+
+-- W1
+unfoldable pub writeC : CState → List ℕ → Draft → List ℕ → Making
+writeC s force d buffer = tellsWritten (λ t. writeOf t force d buffer) buffer (stateOf s)

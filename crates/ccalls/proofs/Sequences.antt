@@ -20,16 +20,20 @@ use Rattle.records.specs.Calls.{tableInForce, askRefusal, firstOf, placeUnless,
 use Rattle.reader.specs.Outcome.{Outcome, partUnless}
 use Rattle.tables.specs.Calls.{openOf, stageOf, withdrawOf}
 use Rattle.records.specs.Calls.{bodyOf, subOf, towOf, wncOf}
+use Rattle.draft.specs.Draft.{Draft}
+use Rattle.writer.specs.Write.{WriteSaid, wrote, writeRefused, WriteOutcome, writeOutcome}
+use Rattle.writes.specs.Calls.{writeOf}
 use Rattle.record.specs.Answer.{FieldSaid}
 use Rattle.cform.specs.declared.CField.{CField}
 use Rattle.cform.specs.declared.CState.{CState}
 use Rattle.cform.specs.State.{stateOf, stateC, inPhase}
 use Rattle.cform.specs.Answer.{replyC, fieldC, partC}
-use Rattle.cform.specs.Theorems.{answerBack, fieldBack}
+use Rattle.cform.specs.Draft.{writtenC}
+use Rattle.cform.specs.Theorems.{answerBack, fieldBack, writtenBack}
 use Rattle.cform.proofs.Phases.{closed-of, feeding-of, finishing-of, none-over}
 use Rattle.cform.proofs.Back.{nothing-lost}
-use Rattle.capi.specs.Calls.{Left, Handing, goesOn, openC, feedC, finishC, stageC, withdrawC, tellsField, bodyC, subC, towC, wncC, hands, cut, bytesC, subBytesC}
-use Rattle.demands.specs.World.{World, stage, withdraw, Look, bytes, body, sub, subBytes, tow, wnc, Call, openRun, feed, finish, table, look, Reply, said, part, value, told, partOf, looked, Step, step, end, Line, _⇒_, trace}
+use Rattle.capi.specs.Calls.{Left, Handing, goesOn, openC, feedC, finishC, stageC, withdrawC, tellsField, bodyC, subC, towC, wncC, hands, cut, bytesC, subBytesC, Making, tellsWritten, writeC}
+use Rattle.demands.specs.World.{World, stage, withdraw, Look, bytes, body, sub, subBytes, tow, wnc, write, Call, openRun, feed, finish, table, look, Reply, said, part, value, penned, writeRefusal, told, partOf, looked, Step, step, end, Line, _⇒_, trace}
 use Rattle.demands.specs.Refusals.{Order, Given, order}
 use Rattle.demands.specs.Demand1.{Demand1}
 use Rattle.demands.proofs.Listed.{nothing-there}
@@ -69,6 +73,17 @@ sub-over w b k n e =
     given-over (order (look (subBytes b k)) w) n
     (omega arith, (omega arith, (omega arith, (omega arith, (omega arith, (omega arith, (omega arith, (omega arith, tt))))))))
     (demand-1 .refused (look (subBytes b k)) w .gives n e)
+
+write-back : (a : WriteSaid) → ((n : ℕ) → a ≡ writeRefused n → 0 < n) → writtenBack (writtenC a) ≡ a
+write-back (wrote n) h = refl
+write-back (writeRefused n) h = rw (ne-eqb n 0 (λ e. let k = h n refl in omega arith))
+
+write-over : (w : World) (d : Draft) (buffer : List ℕ) (n : ℕ) → writeOf (w .state) (w .force) d buffer .said ≡ writeRefused n → 0 < n
+unfolding step
+write-over w d buffer n e =
+    given-over (order (look (write d buffer)) w) n
+    (omega arith, (omega arith, (omega arith, (omega arith, (omega arith, (omega arith, tt))))))
+    (demand-1 .refused (look (write d buffer)) w .gives n (ap (λ (a : WriteSaid). writeRefusal a) e))
 
 -- ---- one call
 
@@ -133,8 +148,14 @@ sub-cut : (s : State) (force b : List ℕ) (k : ℕ)
 unfolding subBytesRefusal subBlockRefusal subPlaceOf subPlace subBytesOf subBlock
 sub-cut s force b k = sub-cut-by (askRefusal s force) (seenSub (decode (tableInForce s force)) b k) b k
 
+makes-it : (call : State → WriteOutcome) (buffer : List ℕ) (s : State) → ((n : ℕ) → call s .said ≡ writeRefused n → 0 < n)
+    → let m = tellsWritten call buffer (stateOf (stateC s)) in writeOutcome (writtenBack (m .written)) (m .buffer) ≡ call s
+makes-it call buffer s h =
+    ap (λ (o : Option State). let m = tellsWritten call buffer o in writeOutcome (writtenBack (m .written)) (m .buffer)) (back s)
+    ∙ ap (λ (a : WriteSaid). writeOutcome a (call s .buffer)) (write-back (call s .said) h)
+
 looks : (l : Look) (w : World) → replyBack (look l) (worldC w) (lookedC l (worldC w)) ≡ looked l w
-unfolding bytesC bodyC subC subBytesC towC wncC
+unfolding bytesC bodyC subC subBytesC towC wncC writeC
 looks bytes w =
     ap (λ (h : Handing). part (refusalBack (h .part .refusal)) (cut (h .part) (w .hold))) (hands-it (λ t. bytesRefusal t (w .hold)) (λ t. 0) (λ t. bytesOf t (w .hold)) (w .state))
     ∙ ap₂ part (part-back (bytesRefusal (w .state) (w .hold)) _ _ (bytes-over w)) (bytes-cut (w .state) (w .hold))
@@ -145,6 +166,7 @@ looks (subBytes b k) w =
     ∙ ap₂ part (part-back (subBytesRefusal (w .state) (w .force) b k) _ _ (sub-over w b k)) (sub-cut (w .state) (w .force) b k)
 looks (tow b) w = ap value (tells-it (λ t. towOf t b) (w .state))
 looks (wnc b) w = ap value (tells-it (λ t. wncOf t b) (w .state))
+looks (write d buffer) w = ap penned (makes-it (λ t. writeOf t (w .force) d buffer) buffer (w .state) (write-over w d buffer))
 
 means : (c : Call) (w : World) → replyBack c (worldC w) (stepC c (worldC w) .answer) ≡ step c w .answer
 unfolding stepC step
@@ -193,13 +215,14 @@ same i c w = same-step c w i
 -- ---- a state that is made up
 
 unknown-look : (l : Look) (w : CWorld) → stateOf (w .state) ≡ none → told (replyBack (look l) w (lookedC l w)) .refusal ≡ some 1
-unfolding bytesC bodyC subC subBytesC towC wncC
+unfolding bytesC bodyC subC subBytesC towC wncC writeC
 unknown-look bytes w e = rw e
 unknown-look (body b i) w e = rw e
 unknown-look (sub b k j) w e = rw e
 unknown-look (subBytes b k) w e = rw e
 unknown-look (tow b) w e = rw e
 unknown-look (wnc b) w e = rw e
+unknown-look (write d buffer) w e = rw e
 
 unknown : (c : Call) (w : CWorld) → stateOf (w .state) ≡ none → told (replyBack c w (stepC c w .answer)) .refusal ≡ some 1
 unfolding stepC openC feedC finishC stageC withdrawC
@@ -218,6 +241,7 @@ empty-look (sub b k j) w e = refl
 empty-look (subBytes b k) w e = rw e
 empty-look (tow b) w e = refl
 empty-look (wnc b) w e = refl
+empty-look (write d buffer) w e = refl
 
 empty : (c : Call) (w : CWorld) → stateOf (w .state) ≡ none → partOf (replyBack c w (stepC c w .answer)) ≡ []
 unfolding stepC openC feedC finishC stageC withdrawC
@@ -236,6 +260,11 @@ keeps finish w e = rw e
 keeps (table (stage t)) w e = rw e
 keeps (table withdraw) w e = rw e
 keeps (look l) w e = refl
+
+unwritten : (d : Draft) (buffer : List ℕ) (w : CWorld) → stateOf (w .state) ≡ none
+    → told (replyBack (look (write d buffer)) w (stepC (look (write d buffer)) w .answer)) .buffer ≡ some buffer
+unfolding stepC writeC
+unwritten d buffer w e = rw e
 
 -- ---- every other state is one of the reader's
 
@@ -309,6 +338,7 @@ through-c =
       unknown = unknown;
       empty = empty;
       keeps = keeps;
+      unwritten = unwritten;
       bytes-at = bytes-at;
       bytes-all = bytes-all;
       sub-bytes-at = sub-bytes-at;

@@ -10,14 +10,16 @@ use lib.ListN.{length}
 use lib.Dec.{eqb}
 use Rattle.reader.specs.declared.State.{State}
 use Rattle.records.specs.Calls.{subPlaceOf}
+use Rattle.draft.specs.Draft.{Draft}
+use Rattle.writer.specs.Write.{writeOutcome}
 use Rattle.cform.specs.declared.CAnswer.{CAnswer}
 use Rattle.cform.specs.declared.CField.{CField}
 use Rattle.cform.specs.declared.CPart.{CPart}
 use Rattle.cform.specs.declared.CState.{CState}
 use Rattle.cform.specs.State.{stateOf, stateC}
-use Rattle.cform.specs.Theorems.{answerBack, fieldBack}
-use Rattle.capi.specs.Calls.{Left, openC, feedC, finishC, stageC, withdrawC, bodyC, subC, towC, wncC, cut, bytesC, subBytesC}
-use Rattle.demands.specs.World.{World, TableCall, stage, withdraw, Look, bytes, body, sub, subBytes, tow, wnc, Call, openRun, feed, finish, table, look, Reply, said, part, value, told, partOf, Step, step, end, Line, _⇒_, trace}
+use Rattle.cform.specs.Theorems.{answerBack, fieldBack, writtenBack}
+use Rattle.capi.specs.Calls.{Left, openC, feedC, finishC, stageC, withdrawC, bodyC, subC, towC, wncC, cut, bytesC, subBytesC, Making, writeC}
+use Rattle.demands.specs.World.{World, TableCall, stage, withdraw, Look, bytes, body, sub, subBytes, tow, wnc, write, Call, openRun, feed, finish, table, look, Reply, said, part, value, penned, told, partOf, Step, step, end, Line, _⇒_, trace}
 
 -- the state as C has it, and the three buffers
 pub record CWorld : Type 0 where
@@ -30,11 +32,12 @@ pub record CWorld : Type 0 where
 abbrev pub worldC : World → CWorld
 worldC w = record { state = stateC (w .state); hold = w .hold; force = w .force; wait = w .wait }
 
--- what an exported call answers
+-- what an exported call answers; Write's answer comes with its buffer
 pub data CSaid : Type 0 where
   cAnswer : CAnswer → CSaid
   cField : CField → CSaid
   cPart : CPart → CSaid
+  cMade : Making → CSaid
 
 -- ---- what an exported call does
 
@@ -54,6 +57,7 @@ lookedC (sub b k j) w = cField (subC (w .state) (w .force) b k j)
 lookedC (subBytes b k) w = cPart (subBytesC (w .state) (w .force) b k .part)
 lookedC (tow b) w = cField (towC (w .state) b)
 lookedC (wnc b) w = cField (wncC (w .state) b)
+lookedC (write d buffer) w = cMade (writeC (w .state) (w .force) d buffer)
 
 unfoldable pub stepC : Call → CWorld → CStep
 stepC openRun w = let l = openC (w .state) (w .force) (w .wait) in leavingC l (w .hold) (l .lent) (w .wait)
@@ -85,6 +89,7 @@ lookedIn (sub b k j) w = []
 lookedIn (subBytes b k) w = b
 lookedIn (tow b) w = []
 lookedIn (wnc b) w = []
+lookedIn (write d buffer) w = []
 
 abbrev pub countedIn : Call → CWorld → List ℕ
 countedIn openRun w = []
@@ -98,6 +103,7 @@ abbrev pub replyBack : Call → CWorld → CSaid → Reply
 replyBack c w (cAnswer a) = said (answerBack (isFinish c) a)
 replyBack c w (cField f) = value (fieldBack f)
 replyBack c w (cPart p) = part (refusalBack (p .refusal)) (cut p (countedIn c w))
+replyBack c w (cMade m) = penned (writeOutcome (writtenBack (m .written)) (m .buffer))
 
 -- ---- the reader's step, made by C
 
@@ -137,6 +143,8 @@ pub record ThroughC : Type 0 where
   pub unknown : (c : Call) (w : CWorld) → stateOf (w .state) ≡ none → told (replyBack c w (stepC c w .answer)) .refusal ≡ some 1
   pub empty : (c : Call) (w : CWorld) → stateOf (w .state) ≡ none → partOf (replyBack c w (stepC c w .answer)) ≡ []
   pub keeps : (c : Call) (w : CWorld) → stateOf (w .state) ≡ none → stepC c w .world ≡ w
+  pub unwritten : (d : Draft) (buffer : List ℕ) (w : CWorld) → stateOf (w .state) ≡ none
+      → told (replyBack (look (write d buffer)) w (stepC (look (write d buffer)) w .answer)) .buffer ≡ some buffer
   -- C9, C13: C's parts stand where the reader's do, and all their bytes are in the buffer
   pub bytes-at : (s : CState) (hold : List ℕ) → bytesC s hold .part .offset ≡ 0
   pub bytes-all : (s : CState) (hold : List ℕ) → length (cut (bytesC s hold .part) hold) ≡ bytesC s hold .part .length

@@ -19,12 +19,19 @@ use Rattle.tables.specs.declared.Staged.{Staged}
 use Rattle.tables.specs.declared.Staged.the-variants as staged
 use Rattle.tables.specs.declared.Withdrawn.{Withdrawn}
 use Rattle.tables.specs.declared.Withdrawn.the-variants as withdrawn
+use Rattle.writer.specs.declared.Written.{Written}
+use Rattle.writer.specs.declared.Written.the-variants as written
+use Rattle.writer.specs.Write.{writeRefused, writtenSays}
+use Rattle.refusal.specs.Numbers.{numberFor}
+use Rattle.refusal.specs.declared.Refusal.{Refusal}
+use Rattle.refusal.specs.declared.Refusal.the-variants.{BadBuffer, OutOfTurn, RunFull, BadTable, NoTable, NoRow, TooShort, BadSubBlocks, NoSuchField, NotOneFrame, BadValues, NoRoom}
 use Rattle.tables.specs.Said.{saidOpened, saidStaged, saidWithdrawn}
 use Rattle.runs.specs.Said.{saidFed, saidFinished}
 use Rattle.reader.specs.State.{phaseNumber}
 use Rattle.cform.specs.State.{phaseOf, inPhaseIfAny, stateOf, stateC}
 use Rattle.cform.specs.Answer.{answerC, fieldC}
-use Rattle.cform.specs.Theorems.{answerBack, fieldBack, NothingLost}
+use Rattle.cform.specs.Draft.{writtenC}
+use Rattle.cform.specs.Theorems.{answerBack, fieldBack, writtenBack, NothingLost}
 use Rattle.cform.specs.declared.CState.{CState}
 use Rattle.cform.proofs.Phases.{none-over, closed-of, feeding-of, finishing-of}
 
@@ -76,6 +83,25 @@ field-back doNotUse = refl
 field-back notInRevision = refl
 field-back (fieldRefused n) = refl
 
+-- no refusal has the number 0
+refusal-back : (x : Refusal) → writtenBack (writtenC (writeRefused (numberFor x))) ≡ writeRefused (numberFor x)
+refusal-back BadBuffer = refl
+refusal-back OutOfTurn = refl
+refusal-back RunFull = refl
+refusal-back BadTable = refl
+refusal-back NoTable = refl
+refusal-back NoRow = refl
+refusal-back TooShort = refl
+refusal-back BadSubBlocks = refl
+refusal-back NoSuchField = refl
+refusal-back NotOneFrame = refl
+refusal-back BadValues = refl
+refusal-back NoRoom = refl
+
+written-back : (a : Written) → writtenBack (writtenC (writtenSays a)) ≡ writtenSays a
+written-back (written.Length n) = refl
+written-back (written.Refused x) = refusal-back x
+
 pub nothing-lost : NothingLost
 nothing-lost =
     record {
@@ -88,4 +114,5 @@ nothing-lost =
       staged = staged-back;
       withdrawn = withdrawn-back;
       fields = field-back;
+      written = written-back;
     }

@@ -1,4 +1,4 @@
--- Nothing is lost on the way to C: a state, an answer and a field can be read back from the plain structs.
+-- Nothing is lost on the way to C: a state, an answer, a field and what Write answers can be read back from the plain structs.
 -- Assumes nothing.
 use Prim.Native.Nat.{_<_}
 use mathlib.Core.Path.{_≡_}
@@ -15,12 +15,16 @@ use Rattle.tables.specs.declared.Withdrawn.{Withdrawn}
 use Rattle.reader.specs.Said.{Report, Said, refused, version, took, found, ended, waited}
 use Rattle.tables.specs.Said.{saidOpened, saidStaged, saidWithdrawn}
 use Rattle.runs.specs.Said.{saidFed, saidFinished}
+use Rattle.writer.specs.declared.Written.{Written}
+use Rattle.writer.specs.Write.{WriteSaid, wrote, writeRefused, writtenSays}
 use Rattle.cform.specs.State.{countsBack, stateOf, stateC}
 use Rattle.cform.specs.Answer.{answerC, fieldC}
+use Rattle.cform.specs.Draft.{writtenC}
 use Rattle.cform.specs.declared.CState.{CState}
 use Rattle.cform.specs.declared.CBlock.{CBlock}
 use Rattle.cform.specs.declared.CAnswer.{CAnswer}
 use Rattle.cform.specs.declared.CField.{CField}
+use Rattle.cform.specs.declared.CWritten.{CWritten}
 
 abbrev pub reportBack : CBlock → Report
 reportBack b = record { place = b .place; number = b .number; revision = b .revision; size = b .length }
@@ -43,6 +47,10 @@ fieldBack f =
     (cond (eqb (f .kind) 3) (single (f .bits))
     (cond (eqb (f .kind) 4) (double (f .bits)) (cond (eqb (f .kind) 5) doNotUse notInRevision)))))
 
+-- what Write answers: C's 0 is no refusal
+abbrev pub writtenBack : CWritten → WriteSaid
+writtenBack w = cond (eqb (w .refusal) 0) (wrote (w .length)) (writeRefused (w .refusal))
+
 pub record NothingLost : Type 0 where
   -- the next call goes on with the state that this one left; a state stands for none exactly where its phase is over 2
   pub state : (t : State) → stateOf (stateC t) ≡ some t
@@ -54,3 +62,4 @@ pub record NothingLost : Type 0 where
   pub staged : (a : Staged) → answerBack false (answerC (saidStaged a)) ≡ saidStaged a
   pub withdrawn : (a : Withdrawn) → answerBack false (answerC (saidWithdrawn a)) ≡ saidWithdrawn a
   pub fields : (a : FieldSaid) → fieldBack (fieldC a) ≡ a
+  pub written : (a : Written) → writtenBack (writtenC (writtenSays a)) ≡ writtenSays a

@@ -7,6 +7,7 @@ mod answers; // answers.rt: answers as C has them
 pub mod replies; // replies.rt: what a call leaves and answers, as C has it
 pub mod fields; // fields.rt: a field's answer as C has it
 pub mod parts; // parts.rt: parts of buffers as C has them
+pub mod drafts; // drafts.rt: what Write is given and answers, as C has it
 
 // The counts of a run: in C the members of its state from `taken` to `skipped`, and at the end an alderflute_end.
 #[repr(C)]
@@ -73,7 +74,21 @@ pub struct CPart {
     pub length: usize,
 }
 
-// State, answer and field can be read back from the plain structs.
+// W2: a value that Write is given: its kind and 64 bits.
+#[repr(C)]
+pub struct CValue {
+    pub kind: u8,
+    pub bits: u64,
+}
+
+// What Write answers: the refusal's number or 0, and the block's length, 0 where it is refused.
+#[repr(C)]
+pub struct CWritten {
+    pub refusal: u32,
+    pub length: usize,
+}
+
+// State, answer, field and length can be read back from the plain structs.
 pub fn nothing_lost()
     ensures { λ _. ⌜ NothingLost ⌝ }
 {}

@@ -21,6 +21,9 @@ use Rattle.tables.specs.declared.Staged.{Staged}
 use Rattle.tables.specs.declared.Staged.the-variants as staged
 use Rattle.tables.specs.declared.Withdrawn.{Withdrawn}
 use Rattle.tables.specs.declared.Withdrawn.the-variants as withdrawn
+use Rattle.writer.specs.Write.{writtenSays}
+use Rattle.writer.specs.declared.Written.{Written}
+use Rattle.writer.specs.declared.Written.the-variants as written
 
 same-block : (a b : Block) → reportOf a ≡ reportOf b → a ≡ b
 same-block a b e =
@@ -75,3 +78,9 @@ withdraws (withdrawn.Waited v) (withdrawn.Waited w) e = let q : v ≡ w = cc in 
 withdraws (withdrawn.Waited v) (withdrawn.Refused y) e = let z : _≡_ {A = ℕ} 0 1 = cc in let f : ⊥ = omega arith in absurd f
 withdraws (withdrawn.Refused x) (withdrawn.Waited w) e = let z : _≡_ {A = ℕ} 0 1 = cc in let f : ⊥ = omega arith in absurd f
 withdraws (withdrawn.Refused x) (withdrawn.Refused y) e = let q : numberFor x ≡ numberFor y = cc in ap withdrawn.Refused (same-refusal x y q)
+
+pub writes : (a b : Written) → writtenSays a ≡ writtenSays b → a ≡ b
+writes (written.Length m) (written.Length n) e = let q : m ≡ n = cc in ap written.Length q
+writes (written.Length m) (written.Refused y) e = let z : _≡_ {A = ℕ} 0 1 = cc in let f : ⊥ = omega arith in absurd f
+writes (written.Refused x) (written.Length n) e = let z : _≡_ {A = ℕ} 0 1 = cc in let f : ⊥ = omega arith in absurd f
+writes (written.Refused x) (written.Refused y) e = let q : numberFor x ≡ numberFor y = cc in ap written.Refused (same-refusal x y q)

@@ -21,7 +21,7 @@ use Rattle.reader.specs.State.{sound}
 use Rattle.reader.specs.Refusals.{need, longStore}
 use Rattle.records.specs.Calls.{tableInForce, askRefusal, firstOf, bodyOf, subOf, subBytesRefusal, stampOf}
 use Rattle.demands.specs.World.{World, body, sub, subBytes, look, fieldRefusal}
-use Rattle.demands.specs.Refusals.{ShortStore, BadState, Breaks, OneFrame, RowOf, OfRow, NotInTable, BodyDoesNotFit, SubsDoNotFit, NoField, NoSubBlock, NoWholeFrame, _when_, Order, Exactly, recordOrder, stampOrder, order}
+use Rattle.demands.specs.Refusals.{ShortStore, BadState, Breaks, OneFrame, blockNumber, RowOf, OfRow, NotInTable, BodyDoesNotFit, SubsDoNotFit, NoField, NoSubBlock, NoWholeFrame, _when_, Order, Exactly, recordOrder, stampOrder, order}
 use Rattle.demands.proofs.Exact.{Tells, exactly-none, both, within, bad-state, store-tells, some-tells, table-tells}
 use Rattle.demands.proofs.Framed.{one-frame, frame-tells}
 use Rattle.demands.proofs.Numbers.{thenOf, body-row, sub-row, twin-row, seen-need, row-less, row-need, stamp-need, first-need, number-unless}
@@ -29,7 +29,7 @@ use Rattle.demands.proofs.Fits.{of-length, row-there, row-none, only, o
 
 -- ---- a row of tests, of which each may use those before it
 
-passed-by : (c : Bool) (m : ℕ) {P : Type 0} (o : Option ℕ) {r : Order} → Tells c P → (c ≡ true → Exactly o r) → Exactly (need c m o) (m when P ∷ r)
+pub passed-by : (c : Bool) (m : ℕ) {P : Type 0} (o : Option ℕ) {r : Order} → Tells c P → (c ≡ true → Exactly o r) → Exactly (need c m o) (m when P ∷ r)
 passed-by true m o t x =
     record {
       gives = λ n e. inr (t .fine refl, x refl .gives n e);
@@ -44,7 +44,7 @@ passed-by false m o t x =
 pub same : {o p : Option ℕ} {r : Order} → o ≡ p → Exactly p r → Exactly o r
 same {r = r} e x = subst (λ (o : Option ℕ). Exactly o r) (sym e) x
 
-last : {c : Bool} {P : Type 0} (m : ℕ) → Tells c P → Exactly (need c m none) (m when P ∷ [])
+pub last : {c : Bool} {P : Type 0} (m : ℕ) → Tells c P → Exactly (need c m none) (m when P ∷ [])
 last {c} m t = passed-by c m none t (λ _. exactly-none)
 
 -- ---- 10, 6, 7, 8, and then 9, of a table that passes
@@ -54,31 +54,31 @@ abbrev nineOf : (BlockRow → Bool) → BlockRow → Option ℕ
 nineOf test r = need (test r) 9 none
 
 module _ (t b : List ℕ) (ok : tableOk t ≡ true) (test : BlockRow → Bool) (Nine : BlockRow → Type 0) (tells : (r : BlockRow) → Tells (test r) (Nine r)) where
-  fits-exact : (r : BlockRow) → OneFrame b → RowOf (decode t) b r
-      → Exactly (need (bodyFits b r) 7 (need (subsFit b r) 8 (nineOf test r))) (7 when BodyDoesNotFit (decode t) b ∷ 8 when SubsDoNotFit (decode t) b ∷ 9 when OfRow (decode t) b Nine ∷ [])
+  fits-exact : (r : BlockRow) → OneFrame b → RowOf (decode t) (blockNumber b) r
+      → Exactly (need (bodyFits b r) 7 (need (subsFit b r) 8 (nineOf test r))) (7 when BodyDoesNotFit (decode t) b ∷ 8 when SubsDoNotFit (decode t) b ∷ 9 when OfRow (decode t) (blockNumber b) Nine ∷ [])
   fits-exact r f h =
-      let one : (q : BlockRow) → RowOf (decode t) b q → q ≡ r = λ q k. only t b ok q r k h in
+      let one : (q : BlockRow) → RowOf (decode t) (blockNumber b) q → q ≡ r = λ q k. only t (blockNumber b) ok q r k h in
       passed-by (bodyFits b r) 7 _ (seven-tells (decode t) b r h one f)
-      (λ _. passed-by (subsFit b r) 8 _ (eight-tells (decode t) b r h one f) (λ _. last 9 (of-row (decode t) b r h one Nine (tells r))))
+      (λ _. passed-by (subsFit b r) 8 _ (eight-tells (decode t) b r h one f) (λ _. last 9 (of-row (decode t) (blockNumber b) r h one Nine (tells r))))
 
   row-exact : OneFrame b → (o : Option BlockRow) → findRow (decode t) (numberIn b) ≡ o
-      → Exactly (thenOf (seenRow b o) (nineOf test)) (6 when NotInTable (decode t) b ∷ (7 when BodyDoesNotFit (decode t) b ∷ 8 when SubsDoNotFit (decode t) b ∷ 9 when OfRow (decode t) b Nine ∷ []))
+      → Exactly (thenOf (seenRow b o) (nineOf test)) (6 when NotInTable (decode t) (blockNumber b) ∷ (7 when BodyDoesNotFit (decode t) b ∷ 8 when SubsDoNotFit (decode t) b ∷ 9 when OfRow (decode t) (blockNumber b) Nine ∷ []))
   row-exact f none e =
-      same (row-less b (nineOf test)) (passed-by false 6 none (record { fine = λ z. never z refl; holds = λ _. row-none (decode t) b e }) (λ z. never z refl))
+      same (row-less b (nineOf test)) (passed-by false 6 none (record { fine = λ z. never z refl; holds = λ _. row-none (decode t) (blockNumber b) e }) (λ z. never z refl))
   row-exact f (some r) e =
-      let h = row-there (decode t) b e in
+      let h = row-there (decode t) (blockNumber b) e in
       same (row-need b r (nineOf test))
       (passed-by true 6 _ (record { fine = λ _ g. g r h; holds = λ z. never refl z }) (λ _. fits-exact r f h))
 
   seen-exact : Exactly (thenOf (seen (decode t) b) (nineOf test))
-      (10 when NoWholeFrame b ∷ 6 when NotInTable (decode t) b ∷ 7 when BodyDoesNotFit (decode t) b ∷ 8 when SubsDoNotFit (decode t) b ∷ 9 when OfRow (decode t) b Nine ∷ [])
+      (10 when NoWholeFrame b ∷ 6 when NotInTable (decode t) (blockNumber b) ∷ 7 when BodyDoesNotFit (decode t) b ∷ 8 when SubsDoNotFit (decode t) b ∷ 9 when OfRow (decode t) (blockNumber b) Nine ∷ [])
   seen-exact =
       same (seen-need (decode t) b (nineOf test))
       (passed-by (wholeFrame b) 10 _ (frame-tells b) (λ e. row-exact (one-frame b e) (findRow (decode t) (numberIn b)) refl))
 
 -- ---- 1, 5, 4, and then the others
 
-ask-exact : (w : World) (o : Option ℕ) {r : Order} → (tableOk (tableInForce (w .state) (w .force)) ≡ true → Exactly o r)
+pub ask-exact : (w : World) (o : Option ℕ) {r : Order} → (tableOk (tableInForce (w .state) (w .force)) ≡ true → Exactly o r)
     → Exactly (firstOf (askRefusal (w .state) (w .force)) o)
     (1 when (BadState (w .state) ⊎ ShortStore (w .force)) ∷ 5 when (w .state .«in_force» ≡ 0) ∷ 4 when Breaks (tableInForce (w .state) (w .force)) ∷ r)
 unfolding askRefusal

@@ -14,7 +14,7 @@ use Rattle.table.specs.Rows.{Table}
 use Rattle.reader.specs.declared.Counts.{Counts}
 use Rattle.reader.specs.declared.Run.{Run}
 use Rattle.reader.specs.declared.State.{State}
-use Rattle.demands.specs.World.{World, stage, withdraw, Look, Call, openRun, feed, finish, table, look, Reply, said, part, value, fieldRefusal, told, Step, step, end, Line, trace}
+use Rattle.demands.specs.World.{World, stage, withdraw, Look, Call, openRun, feed, finish, table, look, Reply, said, part, value, penned, fieldRefusal, told, Step, step, end, Line, trace}
 use Rattle.demands.specs.Sequence.{AllFed, NoEnd, Within, Closes, atOpen, taken, blocks, shownBlocks}
 use Rattle.demands.specs.Demand2.{ReadsBy}
 use Rattle.demands.specs.Demand3.{countsOf, RunOf, Offers, foundBy}
@@ -51,6 +51,7 @@ said-end (said (ended d)) c e = let q : d ≡ c = cc in ap (λ (x : Counts). sai
 said-end (said (waited b)) c e = nothing-there e
 said-end (part n p) c e = nothing-there e
 said-end (value v) c e = nothing-there e
+said-end (penned o) c e = nothing-there e
 
 -- a block that Finish tells is its answer Block
 finish-found : (o : Option ℕ) (r : Run) (v : List ℕ) (b : Report) → told (said (finishSaid o r v)) .block ≡ some b → said (finishSaid o r v) ≡ said (found b)

@@ -48,6 +48,10 @@ followed {b} m {P} {o} t x = record { gives = gives-by b m o t x; given = given-
 
 -- ---- tests put together
 
+-- a test tells a condition that is another's in other words
+pub retell : {c : Bool} {P Q : Type 0} → (P → Q) → (Q → P) → Tells c P → Tells c Q
+retell to back u = record { fine = λ e q. u .fine e (back q); holds = λ e. to (u .holds e) }
+
 both-holds : (a b : Bool) {P Q : Type 0} → Tells a P → Tells b Q → (a && b) ≡ false → P ⊎ Q
 both-holds true b t u e = inr (u .holds e)
 both-holds false b t u e = inl (t .holds refl)
@@ -70,8 +74,8 @@ to-left (inr (inl q)) = inl (inr q)
 to-left (inr (inr r)) = inr r
 
 -- the tests stand in a row from the left, the conditions from the right
-regroup : {c : Bool} {P Q R : Type 0} → Tells c ((P ⊎ Q) ⊎ R) → Tells c (P ⊎ (Q ⊎ R))
-regroup u = record { fine = λ e g. u .fine e (to-left g); holds = λ e. to-right (u .holds e) }
+pub regroup : {c : Bool} {P Q R : Type 0} → Tells c ((P ⊎ Q) ⊎ R) → Tells c (P ⊎ (Q ⊎ R))
+regroup u = retell to-right to-left u
 
 pub within : (m n : ℕ) → Tells (leb m n) (n < m)
 within m n = record { fine = λ e l. let g = leb-true m n e in omega arith; holds = λ e. leb-false m n e }

@@ -17,50 +17,50 @@ use Rattle.table.specs.Decode.{decode}
 use Rattle.table.specs.Rules.{tableOk}
 use Rattle.table.specs.Lookup.{hasNumber, findRow}
 use Rattle.table.proofs.Laws.{one-row}
-use Rattle.block.specs.Block.{numberIn, revisionIn, endsBy, bodyFits, subsFit, subCount}
-use Rattle.demands.specs.Refusals.{OneFrame, blockRevision, L, N, SBLength, RowOf, OfRow, EndsPast, NotInTable, BodyDoesNotFit, SubsDoNotFit, NoField, NoSubBlock}
-use Rattle.demands.proofs.Exact.{Tells, both, within, orelse, empty-tells}
+use Rattle.block.specs.Block.{revisionIn, endsBy, bodyFits, subsFit, subCount}
+use Rattle.demands.specs.Refusals.{OneFrame, blockNumber, blockRevision, L, N, SBLength, RowOf, OfRow, EndsPast, NotInTable, BodyDoesNotFit, SubsDoNotFit, NoField, NoSubBlock}
+use Rattle.demands.proofs.Exact.{Tells, retell, both, within, orelse, empty-tells}
 use Rattle.demands.proofs.Listed.{first-there, first-none, every-tells}
 
--- ---- the block's row
+-- ---- the row of a number
 
-pub row-there : (t : Table) (b : List ℕ) {r : BlockRow} → findRow t (numberIn b) ≡ some r → RowOf t b r
+pub row-there : (t : Table) (n : ℕ) {r : BlockRow} → findRow t n ≡ some r → RowOf t n r
 unfolding findRow
-row-there t b {r} e =
-    let h = first-there (hasNumber (numberIn b)) (t .rows) e in
-    record { among = h .0; same = eqb-true (r .number) (numberIn b) (h .1) }
+row-there t n {r} e =
+    let h = first-there (hasNumber n) (t .rows) e in
+    record { among = h .0; same = eqb-true (r .number) n (h .1) }
 
-pub row-none : (t : Table) (b : List ℕ) → findRow t (numberIn b) ≡ none → NotInTable t b
+pub row-none : (t : Table) (n : ℕ) → findRow t n ≡ none → NotInTable t n
 unfolding findRow
-row-none t b e r h =
-    first-none (hasNumber (numberIn b)) (t .rows) e (h .among .0) (h .among .1) (eq-eqb (r .number) (numberIn b) (h .same))
+row-none t n e r h =
+    first-none (hasNumber n) (t .rows) e (h .among .0) (h .among .1) (eq-eqb (r .number) n (h .same))
 
 -- T8: a table that passes has one row of a number
-pub only : (t b : List ℕ) → tableOk t ≡ true → (q r : BlockRow) → RowOf (decode t) b q → RowOf (decode t) b r → q ≡ r
-only t b ok q r h k =
+pub only : (t : List ℕ) (n : ℕ) → tableOk t ≡ true → (q r : BlockRow) → RowOf (decode t) n q → RowOf (decode t) n r → q ≡ r
+only t n ok q r h k =
     let i : h .among .0 ≡ k .among .0 = one-row t ok (h .among .0) (k .among .0) q r (h .among .1) (k .among .1) (h .same ∙ sym (k .same)) in
     let e : some q ≡ some r = sym (h .among .1) ∙ ap (pick (decode t .rows)) i ∙ k .among .1 in
     cc
 
--- a condition on that row tells what one on the block's row does
-pub of-row : (t : Table) (b : List ℕ) (r : BlockRow) → RowOf t b r → ((q : BlockRow) → RowOf t b q → q ≡ r) → (P : BlockRow → Type 0) {c : Bool}
-    → Tells c (P r) → Tells c (OfRow t b P)
-of-row t b r mine one P u =
+-- a condition on that row tells what one on the row of the number does
+pub of-row : (t : Table) (n : ℕ) (r : BlockRow) → RowOf t n r → ((q : BlockRow) → RowOf t n q → q ≡ r) → (P : BlockRow → Type 0) {c : Bool}
+    → Tells c (P r) → Tells c (OfRow t n P)
+of-row t n r mine one P u =
     record { fine = λ e g. u .fine e (subst P (one (g .0) (g .1 .0)) (g .1 .1)); holds = λ e. (r, (mine, u .holds e)) }
 
 -- ---- tests turned round
 
-swap : {c : Bool} {P Q : Type 0} → Tells c (P ⊎ Q) → Tells c (Q ⊎ P)
-swap u = record { fine = λ e g. u .fine e (⊎-elim inr inl g); holds = λ e. ⊎-elim inr inl (u .holds e) }
+pub swap : {c : Bool} {P Q : Type 0} → Tells c (P ⊎ Q) → Tells c (Q ⊎ P)
+swap u = retell (⊎-elim inr inl) (⊎-elim inr inl) u
 
-above : (m n : ℕ) → Tells (not (leb m n)) (m ≤ n)
+pub above : (m n : ℕ) → Tells (not (leb m n)) (m ≤ n)
 above m n =
     record {
       fine = λ e h. let l = leb-false m n (not-true (leb m n) e) in omega arith;
       holds = λ e. leb-true m n (not-false (leb m n) e);
     }
 
-below : (m n : ℕ) → Tells (ltb m n) (n ≤ m)
+pub below : (m n : ℕ) → Tells (ltb m n) (n ≤ m)
 below m n = record { fine = λ e h. let l = ltb-true m n e in omega arith; holds = λ e. ltb-false m n e }
 
 twice : (c : Bool) {P : Type 0} → Tells c P → Tells (not (not c)) P
@@ -69,29 +69,30 @@ twice false u = u
 
 -- ---- the fields
 
-past-tells : (fs : List FieldRow) (b : List ℕ) (n : ℕ) → Tells (every (endsBy (revisionIn b) n) fs) (EndsPast fs b n)
-past-tells fs b n =
-    every-tells (endsBy (revisionIn b) n) (λ (f : FieldRow). (f .first ≤ blockRevision b) × (n < ends f))
-    (λ f. orelse (above (f .first) (revisionIn b)) (within (ends f) n)) fs
+pub past-tells : (fs : List FieldRow) (revision n : ℕ) → Tells (every (endsBy revision n) fs) (EndsPast fs revision n)
+past-tells fs revision n =
+    every-tells (endsBy revision n) (λ (f : FieldRow). (f .first ≤ revision) × (n < ends f))
+    (λ f. orelse (above (f .first) revision) (within (ends f) n)) fs
 
 -- a test on the number of the bytes is one on L
 pub of-length : (b : List ℕ) → OneFrame b → (P : ℕ → Type 0) {c : Bool} → Tells c (P (length b)) → Tells c (P (L b))
 of-length b frame P {c} u = subst (λ (n : ℕ). Tells c (P n)) (sym (frame .all)) u
 
-module _ (t : Table) (b : List ℕ) (r : BlockRow) (mine : RowOf t b r) (one : (q : BlockRow) → RowOf t b q → q ≡ r) (frame : OneFrame b) where
+module _ (t : Table) (b : List ℕ) (r : BlockRow) (mine : RowOf t (blockNumber b) r) (one : (q : BlockRow) → RowOf t (blockNumber b) q → q ≡ r) (frame : OneFrame b) where
   pub seven-tells : Tells (bodyFits b r) (BodyDoesNotFit t b)
   unfolding bodyFits
   seven-tells =
       swap
       (both (of-length b frame (λ (n : ℕ). n < 14) (within 14 (length b)))
-      (of-row t b r mine one (λ (q : BlockRow). EndsPast (q .body) b (L b)) (of-length b frame (EndsPast (r .body) b) (past-tells (r .body) b (length b)))))
+      (of-row t (blockNumber b) r mine one (λ (q : BlockRow). EndsPast (q .body) (blockRevision b) (L b))
+      (of-length b frame (EndsPast (r .body) (blockRevision b)) (past-tells (r .body) (revisionIn b) (length b)))))
 
   pub eight-tells : Tells (subsFit b r) (SubsDoNotFit t b)
   unfolding subsFit
   eight-tells =
-      of-row t b r mine one _
+      of-row t (blockNumber b) r mine one _
       (orelse (twice (eqb (length (r .subs)) 0) (empty-tells (length (r .subs))))
-      (both (orelse (empty-tells (N b)) (past-tells (r .subs) b (SBLength b)))
+      (both (orelse (empty-tells (N b)) (past-tells (r .subs) (revisionIn b) (SBLength b)))
       (of-length b frame (λ (n : ℕ). n < 16 + N b * SBLength b) (within (16 + N b * SBLength b) (length b)))))
 
 pub field-tells : (fs : List FieldRow) (i : ℕ) → Tells (ltb i (length fs)) (NoField fs i)

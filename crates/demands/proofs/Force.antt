@@ -1,4 +1,4 @@
--- The table in force is not touched while a run is open, and every record is read by it.
+-- The table in force is not touched while a run is open, and every record is read by it, and Write writes by it.
 -- Assumes nothing.
 use Prim.Native.Nat.{ℕ, _≤_, _<_}
 use native.Mathlib.Omega.{arith}
@@ -15,7 +15,8 @@ use Rattle.table.specs.Decode.{decode}
 use Rattle.tables.specs.Calls.{nextTable, opening}
 use Rattle.feed.specs.Hold.{over}
 use Rattle.records.specs.Calls.{tableInForce, askRefusal, bodyOf, subOf, subBytesOf, subBytesRefusal, stampOf}
-use Rattle.demands.specs.World.{World, TableCall, stage, withdraw, Look, bytes, body, sub, subBytes, tow, wnc, Call, openRun, feed, finish, table, look, Step, looked, step, end}
+use Rattle.writes.specs.Calls.{writeOf}
+use Rattle.demands.specs.World.{World, TableCall, stage, withdraw, Look, bytes, body, sub, subBytes, tow, wnc, write, Call, openRun, feed, finish, table, look, Step, looked, step, end}
 use Rattle.demands.specs.Sequence.{NoEnd, Within, atOpen}
 use Rattle.demands.specs.Demand2.{ReadsBy}
 use Rattle.demands.specs.Demand3.{foundBy}
@@ -68,13 +69,14 @@ no-refusal t w g r =
     rw (good-sound w g, le-leb 8192 (length (w .force)) (r .long), lt-ltb 0 (w .state .«in_force») (r .some), r .is, r .ok) refl
 
 looked-by : (t : List ℕ) (l : Look) (w : World) → Good w → ReadBy t w → ReadsBy (decode t) l (looked l w)
-unfolding bodyOf subOf subBytesOf subBytesRefusal stampOf
+unfolding bodyOf subOf subBytesOf subBytesRefusal stampOf writeOf
 looked-by t bytes w g r = tt
 looked-by t (body b i) w g r = rw (no-refusal t w g r, r .is) refl
 looked-by t (sub b k j) w g r = rw (no-refusal t w g r, r .is) refl
 looked-by t (subBytes b k) w g r = rw (no-refusal t w g r, r .is) refl
 looked-by t (tow b) w g r = rw (good-sound w g) refl
 looked-by t (wnc b) w g r = rw (good-sound w g) refl
+looked-by t (write d buffer) w g r = rw (no-refusal t w g r, r .is) refl
 
 pub look-by : (t : List ℕ) (l : Look) (w : World) → Good w → ReadBy t w → ReadsBy (decode t) l (step (look l) w .answer)
 unfolding step

@@ -22,6 +22,12 @@ pub mod Framed
 pub mod Listed
 pub mod Numbers
 pub mod Fits
+pub mod Ruled
+pub mod Values
+pub mod Drafts
+pub mod Room
+pub mod Behind
+pub mod Penned
 pub mod Asked
 pub mod Single
 pub mod Telling

@@ -2,16 +2,16 @@
 -- Assumes nothing.
 use Prim.Native.Nat.{ℕ, zero, suc, _≤_, _<_}
 use native.Mathlib.Omega.{arith}
-use mathlib.Core.Path.{_≡_, refl, sym}
+use mathlib.Core.Path.{_≡_, refl, sym, ap, _∙_}
 use mathlib.Core.Bool.{Bool, true, false, cond}
 use mathlib.Core.List.{List, [], _∷_}
 use mathlib.Core.Logic.{_⊎_, inl, inr, ⊎-elim}
 use mathlib.Core.Option.{none, some}
 use lib.ListN.{length}
-use Rattle.wire.proofs.Tests.{never}
+use Rattle.wire.proofs.Tests.{both-left, both-right, never}
 use Rattle.table.specs.Lists.{every, firstThat, pick}
 use Rattle.demands.specs.Refusals.{Among}
-use Rattle.demands.proofs.Exact.{Tells, both}
+use Rattle.demands.proofs.Exact.{Tells, retell, both}
 
 pub nothing-there : {A X : Type 0} {x : A} → none ≡ some x → X
 nothing-there e = let z : _≡_ {A = ℕ} 0 1 = cc in let f : ⊥ = omega arith in absurd f
@@ -53,6 +53,13 @@ module _ {A : Type 0} where
   pick-none (y ∷ ys) zero e = nothing-there (sym e)
   pick-none (y ∷ ys) (suc i) e = let h = pick-none ys i e in omega arith
 
+  -- what holds of every one holds of one
+  pub every-at : (p : A → Bool) (xs : List A) (i : ℕ) {x : A} → pick xs i ≡ some x → every p xs ≡ true → p x ≡ true
+  unfolding every pick
+  every-at p [] i e h = nothing-there e
+  every-at p (y ∷ ys) zero {x} e h = let s : x ≡ y = cc in ap p s ∙ both-left (p y) _ h
+  every-at p (y ∷ ys) (suc i) e h = every-at p ys i e (both-right (p y) _ h)
+
   module _ (P : A → Type 0) (y : A) (ys : List A) where
     here : P y → AnyOf (y ∷ ys) P
     unfolding pick
@@ -69,10 +76,7 @@ module _ {A : Type 0} where
 
     more-tells : {c : Bool} → Tells c (P y ⊎ AnyOf ys P) → Tells c (AnyOf (y ∷ ys) P)
     more-tells u =
-        record {
-          fine = λ e g. u .fine e (which (g .0) (g .1 .0 .0) (g .1 .0 .1) (g .1 .1));
-          holds = λ e. ⊎-elim here later (u .holds e);
-        }
+        retell (⊎-elim here later) (λ g. which (g .0) (g .1 .0 .0) (g .1 .0 .1) (g .1 .1)) u
 
   -- a test of every one tells whether its condition holds of one
   pub every-tells : (p : A → Bool) (P : A → Type 0) → ((x : A) → Tells (p x) (P x)) → (xs : List A) → Tells (every p xs) (AnyOf xs P)

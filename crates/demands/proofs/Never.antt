@@ -14,9 +14,10 @@ use Rattle.wire.specs.Range.{Bytes}
 use Rattle.feed.specs.Hold.{over}
 use Rattle.runs.specs.Calls.{feedingOf, finishingOf}
 use Rattle.table.specs.Rows.{BlockRow}
-use Rattle.demands.specs.World.{World, TableCall, stage, withdraw, bytes, body, sub, subBytes, tow, wnc, Call, openRun, feed, finish, table, look, told, Step, step, end}
+use Rattle.draft.specs.Draft.{Draft}
+use Rattle.demands.specs.World.{World, TableCall, stage, withdraw, bytes, body, sub, subBytes, tow, wnc, write, Call, openRun, feed, finish, table, look, told, Step, step, end}
 use Rattle.demands.specs.Sequence.{New, pieceOf, AllFed}
-use Rattle.demands.specs.Refusals.{ShortHold, ShortStore, BadState, NoField, NoSubBlock, Order, Given, recordOrder, stampOrder, order}
+use Rattle.demands.specs.Refusals.{ShortHold, ShortStore, BadState, NoField, NoSubBlock, Order, Given, recordOrder, stampOrder, writeOrder, order}
 use Rattle.demands.specs.Demand1.{Long}
 use Rattle.demands.proofs.Exact.{bad-state}
 use Rattle.demands.proofs.Refusals.{exactly}
@@ -114,6 +115,9 @@ module _ (w : World) (g : Good w) (l : Long w) where
   not-stamp : (b : List ℕ) → NotOne (stampOrder w b)
   not-stamp b = ((λ q p. no-bad w g p), ((λ q p. omega arith), ((λ q p. omega arith), tt)))
 
+  not-write : (d : Draft) (buffer : List ℕ) → NotOne (writeOrder w d buffer)
+  not-write d buffer = ((λ q p. with-force p), ((λ q p. omega arith), ((λ q p. omega arith), ((λ q p. omega arith), ((λ q p. omega arith), ((λ q p. omega arith), tt))))))
+
   not-one : (c : Call) → NotOne (order c w)
   not-one openRun = ((λ q p. with-both p), ((λ q p. omega arith), ((λ q p. omega arith), ((λ q p. omega arith), tt))))
   not-one (feed piece) = ((λ q p. with-hold p), ((λ q p. omega arith), ((λ q p. omega arith), tt)))
@@ -126,6 +130,7 @@ module _ (w : World) (g : Good w) (l : Long w) where
   not-one (look (subBytes b k)) = not-record b (NoSubBlock b k)
   not-one (look (tow b)) = not-stamp b
   not-one (look (wnc b)) = not-stamp b
+  not-one (look (write d buffer)) = not-write d buffer
 
 never-from : (cs : List Call) (c : Call) (w : World) → Good w → Long w → AllFed cs → told (step c (end cs w) .answer) .refusal ≡ some 1 → ⊥
 unfolding end AllFed

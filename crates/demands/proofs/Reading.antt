@@ -23,7 +23,7 @@ use Rattle.reader.specs.declared.Phase.{Phase}
 use Rattle.reader.specs.declared.Counts.{Counts}
 use Rattle.reader.proofs.Laws.{passes, with-hold}
 use Rattle.feed.specs.Hold.{restOf}
-use Rattle.demands.specs.World.{World, TableCall, stage, withdraw, Look, bytes, body, sub, subBytes, tow, wnc, Call, openRun, feed, finish, table, look, Reply, said, told, Step, looked, step, end}
+use Rattle.demands.specs.World.{World, TableCall, stage, withdraw, Look, bytes, body, sub, subBytes, tow, wnc, write, Call, openRun, feed, finish, table, look, Reply, said, told, Step, looked, step, end}
 use Rattle.demands.specs.Sequence.{pieceOf, AllFed, NoEnd, Within, Closes, atOpen, tookOf, inHold, shown, taken, blocks, shownBlocks}
 use Rattle.demands.specs.Demand2.{MayFollow, ReadSoFar}
 use Rattle.demands.specs.Demand3.{countsOf, RunOf}
@@ -53,6 +53,7 @@ look-reads (sub x k j) w r = nil r
 look-reads (subBytes x k) w r = nil r
 look-reads (tow x) w r = nil r
 look-reads (wnc x) w r = nil r
+look-reads (write d x) w r = nil r
 
 -- Finish is given no piece
 no-piece : (n : ℕ) → take {A = ℕ} n [] ≡ []
@@ -184,6 +185,7 @@ shown-look (sub x k j) w = refl
 shown-look (subBytes x k) w = refl
 shown-look (tow x) w = refl
 shown-look (wnc x) w = refl
+shown-look (write d x) w = refl
 
 shown-done : (c : Call) (w : World) → Bytes (pieceOf c) → Good w → refusal c w ≡ none → Good (done c w .world)
     → shown (told (done c w .answer) .block) (done c w .world) ≡ inHold (told (done c w .answer) .block) (done c w .world)

@@ -7,10 +7,11 @@ use mathlib.Core.Option.{Option, none, some}
 use Rattle.record.specs.Calls.{towRow, wncRow}
 use Rattle.runs.specs.Calls.{finishingOf, finishingBy, finishSaid}
 use Rattle.reader.specs.declared.Run.{Run}
-use Rattle.demands.specs.World.{World, TableCall, stage, withdraw, bytes, body, sub, subBytes, tow, wnc, Call, openRun, feed, finish, table, look, said, told, Step, step}
+use Rattle.demands.specs.World.{World, TableCall, stage, withdraw, bytes, body, sub, subBytes, tow, wnc, write, Call, openRun, feed, finish, table, look, said, told, Step, step}
 use Rattle.demands.specs.Refusals.{Exactly, order}
 use Rattle.demands.proofs.Exact.{open-exact, feed-exact, finish-exact, bytes-exact, withdraw-exact, stage-exact}
 use Rattle.demands.proofs.Asked.{same, body-exact, sub-exact, twin-exact, stamp-exact}
+use Rattle.demands.proofs.Penned.{write-exact}
 use Rattle.demands.proofs.Steps.{refusal, done, tableDone, unlessRefused, by-refusal}
 
 finish-none : (o : Option ℕ) (r : Run) (v : List ℕ) → told (said (finishSaid o r v)) .refusal ≡ none
@@ -49,3 +50,4 @@ exactly (look (sub b k j)) w = sub-exact w b k j
 exactly (look (subBytes b k)) w = twin-exact w b k
 exactly (look (tow b)) w = stamp-exact w b towRow
 exactly (look (wnc b)) w = stamp-exact w b wncRow
+exactly (look (write d buffer)) w = write-exact w d buffer

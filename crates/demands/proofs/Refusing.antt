@@ -6,11 +6,12 @@ use mathlib.Core.List.{[]}
 use mathlib.Core.Option.{Option, none, some}
 use Rattle.runs.proofs.Emptying.{bytes-empty}
 use Rattle.records.proofs.Asking.{sub-bytes-empty}
-use Rattle.demands.specs.World.{World, Look, bytes, body, sub, subBytes, tow, wnc, Call, openRun, feed, finish, table, look, told, partOf, Step, looked}
+use Rattle.demands.specs.World.{World, Look, bytes, body, sub, subBytes, tow, wnc, write, Call, openRun, feed, finish, table, look, told, partOf, Step, looked}
 use Rattle.demands.specs.Demand1.{Demand1}
 use Rattle.demands.proofs.Listed.{nothing-there}
 use Rattle.demands.proofs.Steps.{How, isnt, is, how, done}
 use Rattle.demands.proofs.Refusals.{finish-tells-none, table-tells-none, exactly}
+use Rattle.demands.proofs.Penned.{unwritten, kept-behind}
 use Rattle.demands.proofs.Never.{never-one}
 use Rattle.demands.proofs.Reached.{good-sound, good-end, good-new}
 
@@ -39,6 +40,7 @@ look-empty (sub b k j) w n e = refl
 look-empty (subBytes b k) w n e = sub-bytes-empty (w .state) (w .force) b k n e
 look-empty (tow b) w n e = refl
 look-empty (wnc b) w n e = refl
+look-empty (write d buffer) w n e = refl
 
 done-empty : (c : Call) (w : World) (n : ℕ) → told (done c w .answer) .refusal ≡ some n → partOf (done c w .answer) ≡ []
 done-empty openRun w n e = refl
@@ -57,6 +59,8 @@ demand-1 =
       refused = exactly;
       keeps = λ c w n e. keeps-by c w n (how c w) e;
       empty = λ c w n e. empty-by c w n (how c w) e;
+      unwritten = λ d buffer w n e. unwritten d buffer w n e;
+      kept-behind = λ d buffer after w n e f. kept-behind d buffer after w n e f;
       sound = λ w before n b. good-sound _ (good-end before w b (good-new w n));
       never = never-one;
     }

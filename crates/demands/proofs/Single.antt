@@ -15,8 +15,10 @@ use Rattle.reader.specs.Outcome.{Outcome, outcome}
 use Rattle.tables.specs.Calls.{openOf, stageOf, withdrawOf}
 use Rattle.runs.specs.Calls.{feedOf, finishOf, bytesOf}
 use Rattle.records.specs.Calls.{bodyOf, subOf, subBytesOf, subBytesRefusal, subPlaceOf, towOf, wncOf}
-use Rattle.demands.specs.One.{One, OnePart, OnePlace, OneField, OneOutcome}
-use Rattle.demands.proofs.Apart.{checks, opens, feeds, finishes, stages, withdraws}
+use Rattle.writer.specs.Write.{WriteOutcome, writeOutcome, writtenSays}
+use Rattle.writes.specs.Calls.{writeOf}
+use Rattle.demands.specs.One.{One, OnePart, OnePlace, OneField, OneWrite, OneOutcome}
+use Rattle.demands.proofs.Apart.{checks, opens, feeds, finishes, stages, withdraws, writes}
 
 one-by : {A : Type 0} (said : A → Said) → ((a b : A) → said a ≡ said b → a ≡ b) → (o : Outcome) → One said o
 one-by said apart o a b s t l m p q =
@@ -35,6 +37,11 @@ one-place n at x y e f g h = placed (one-answer .handed (x .handed) (y .handed) 
 one-field : (said : FieldSaid) → OneField said
 one-field said a b p q = one-answer .answers a b said p q
 
+one-write : (o : WriteOutcome) → OneWrite o
+one-write o a b l m p q =
+    let e : writeOutcome (writtenSays a) l ≡ writeOutcome (writtenSays b) m = p ∙ sym q in
+    (writes a b (ap (λ (x : WriteOutcome). x .said) e), ap (λ (x : WriteOutcome). x .buffer) e)
+
 pub one : OneOutcome
 one =
     record {
@@ -52,4 +59,5 @@ one =
       sub-places = λ s force b k. one-place (subBytesRefusal s force b k) (subPlaceOf s force b k);
       tows = λ s b. one-field (towOf s b);
       wncs = λ s b. one-field (wncOf s b);
+      writes = λ s force d buffer. one-write (writeOf s force d buffer);
     }

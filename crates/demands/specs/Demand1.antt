@@ -6,9 +6,10 @@ use mathlib.Core.Path.{_≡_}
 use mathlib.Core.Bool.{true}
 use mathlib.Core.List.{List, []}
 use mathlib.Core.Option.{none, some}
-use lib.ListN.{length}
+use lib.ListN.{length, drop}
+use Rattle.draft.specs.Draft.{Draft}
 use Rattle.reader.specs.State.{sound}
-use Rattle.demands.specs.World.{World, Call, told, partOf, step, end}
+use Rattle.demands.specs.World.{World, write, Call, look, told, partOf, step, end}
 use Rattle.demands.specs.Sequence.{New, AllFed}
 use Rattle.demands.specs.Refusals.{Exactly, order}
 
@@ -25,6 +26,12 @@ pub record Demand1 : Type 0 where
   pub keeps : (c : Call) (w : World) (n : ℕ) → told (step c w .answer) .refusal ≡ some n → step c w .world ≡ w
   -- R22: a part is empty where the call is refused
   pub empty : (c : Call) (w : World) (n : ℕ) → told (step c w .answer) .refusal ≡ some n → partOf (step c w .answer) ≡ []
+  -- R21, W1: a refused Write gives its buffer back byte for byte
+  pub unwritten : (d : Draft) (buffer : List ℕ) (w : World) (n : ℕ) → told (step (look (write d buffer)) w .answer) .refusal ≡ some n
+      → told (step (look (write d buffer)) w .answer) .buffer ≡ some buffer
+  -- W1: one that is not keeps the bytes behind the block, and the buffer as long as it was
+  pub kept-behind : (d : Draft) (buffer after : List ℕ) (w : World) (n : ℕ) → told (step (look (write d buffer)) w .answer) .wrote ≡ some n
+      → told (step (look (write d buffer)) w .answer) .buffer ≡ some after → (drop n after ≡ drop n buffer) × (length after ≡ length buffer)
   -- R1: no calls on a new reader lead to a state that it names, whatever the buffers
   pub sound : (w : World) (before : List Call) → New w → AllFed before → sound (end before w .state) ≡ true
   -- R1: and with long enough buffers no call gets this refusal, whatever came before it

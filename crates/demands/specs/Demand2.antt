@@ -14,9 +14,10 @@ use Rattle.table.specs.Rows.{Table}
 use Rattle.record.specs.Calls.{bodyField, subField, subBlock, subBlockRefusal, towRow, wncRow, stamp}
 use Rattle.reader.specs.Said.{took}
 use Rattle.records.specs.Calls.{tableInForce}
+use Rattle.writer.specs.Write.{writtenOf}
 use Rattle.reader.specs.declared.Phase.{Phase}
 use Rattle.reader.specs.declared.Phase.the-variants.{Closed, Feeding, Finishing}
-use Rattle.demands.specs.World.{World, Look, bytes, body, sub, subBytes, tow, wnc, Call, feed, look, Reply, said, part, value, step, end}
+use Rattle.demands.specs.World.{World, Look, bytes, body, sub, subBytes, tow, wnc, write, Call, feed, look, Reply, said, part, value, penned, step, end}
 use Rattle.demands.specs.Sequence.{Within, atOpen, taken, blocks}
 
 -- C8: the bytes that the run may yet take: none from its first Finish on
@@ -41,7 +42,7 @@ pub record ReadSoFar (w : World) (mid : List Call) : Type 0 where
   pub took : end mid w .state .run .counts .taken ≡ length (taken mid w)
   pub counted : end mid w .state .run .counts .blocks ≡ length (blocks mid w)
 
--- C13: the answer of a record call is the one under this table; of Bytes nothing is asked
+-- C13, W1: the answer of a record call is the one under this table, and Write writes by it; of Bytes nothing is asked
 abbrev pub ReadsBy : Table → Look → Reply → Type 0
 ReadsBy tab bytes a = Unit {0}
 ReadsBy tab (body b i) a = a ≡ value (bodyField tab b i)
@@ -49,6 +50,7 @@ ReadsBy tab (sub b k j) a = a ≡ value (subField tab b k j)
 ReadsBy tab (subBytes b k) a = a ≡ part (subBlockRefusal tab b k) (subBlock tab b k)
 ReadsBy tab (tow b) a = a ≡ value (stamp towRow b)
 ReadsBy tab (wnc b) a = a ≡ value (stamp wncRow b)
+ReadsBy tab (write d buffer) a = a ≡ penned (writtenOf tab d buffer)
 
 pub record Demand2 : Type 0 where
   -- F11: so it is at every moment of every run
@@ -57,6 +59,6 @@ pub record Demand2 : Type 0 where
   pub more : (w : World) (before mid : List Call) (piece : List ℕ) (n : ℕ) → Within w before mid
       → step (feed piece) (end mid (atOpen w before)) .answer ≡ said (took n none)
       → judged (drop (placeNow (end (mid ++ feed piece ∷ []) (atOpen w before))) (taken (mid ++ feed piece ∷ []) (atOpen w before))) ≡ Undecided
-  -- V7: a record call at a moment of a run is answered by the table in force at that moment
+  -- V7, W1: a record call at a moment of a run is answered by the table in force at that moment, and Write writes by it
   pub records : (w : World) (before mid : List Call) → Within w before mid → (l : Look)
       → ReadsBy (decode (tableInForce (end mid (atOpen w before) .state) (end mid (atOpen w before) .force))) l (step (look l) (end mid (atOpen w before)) .answer)

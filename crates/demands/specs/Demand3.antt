@@ -1,5 +1,5 @@
 -- D3: of a run among any calls on a new reader: its blocks, their bytes and its counts are those of all its bytes read at once, its records
--- are read by the table that it was opened with, and its table calls could as well come after it.
+-- are read by the table that it was opened with, and Write writes by it, and its table calls could as well come after it.
 -- Assumes nothing.
 use Prim.Native.Nat.{ℕ}
 use mathlib.Core.Path.{_≡_}
@@ -71,7 +71,7 @@ pub record Demand3 : Type 0 where
       → RunOf run (atOpen w before) mid
   -- where the caller offers the untaken rest first, the bytes taken are the front of his stream
   pub offered : (s : List ℕ) (cs : List Call) (w : World) → Offers s cs w → taken cs w ≡ take (length (taken cs w)) s
-  -- a record call at any moment of the run answers by the table that it was opened with
+  -- a record call at any moment of the run answers by the table that it was opened with, and Write writes by it
   pub records : (w : World) (before mid : List Call) → Within w before mid → (l : Look)
       → ReadsBy (foundBy (end before w)) l (step (look l) (end mid (atOpen w before)) .answer)
   -- with the table calls of `mid` made after the Finish instead, in their order, all calls answer the same and leave the same world

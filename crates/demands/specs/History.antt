@@ -97,7 +97,7 @@ pub record AnswersBy (w : World) (p : Past) : Type 0 where
   pub withdraws : (b : Bool) → told (step (table withdraw) w .answer) .waited ≡ some b → b ≡ isSome (p .waiting)
   -- C9: the standing block, however long ago it was reported
   pub shows : (b : List ℕ) → step (look bytes) w .answer ≡ part none b → b ≡ p .stands
-  -- records are read by the table in force, in a run and after it
+  -- records are read by the table in force, and Write writes by it, in a run and after it
   pub reads : (t : List ℕ) (l : Look) → p .force ≡ some t → ReadsBy (decode t) l (step (look l) w .answer)
 
 pub record History : Type 0 where

@@ -1,6 +1,6 @@
 -- D4: one input, one outcome: of every input, two outcomes that meet a call's contract are equal. Each statement has the very definition
 -- that the contract cites: the answer, the new state and the lent bytes; the part handed back, its bytes and where it stands; a field's
--- answer.
+-- answer; Write's answer and its buffer.
 -- Assumes nothing.
 use Prim.Native.Nat.{ℕ}
 use mathlib.Core.Path.{_≡_}
@@ -20,6 +20,10 @@ use Rattle.reader.specs.Outcome.{Outcome, outcome}
 use Rattle.tables.specs.Calls.{openOf, stageOf, withdrawOf}
 use Rattle.runs.specs.Calls.{feedOf, finishOf, bytesOf}
 use Rattle.records.specs.Calls.{bodyOf, subOf, subBytesOf, subPlaceOf, subBytesRefusal, towOf, wncOf}
+use Rattle.draft.specs.Draft.{Draft}
+use Rattle.writer.specs.declared.Written.{Written}
+use Rattle.writer.specs.Write.{WriteOutcome, writeOutcome, writtenSays}
+use Rattle.writes.specs.Calls.{writeOf}
 use Rattle.reader.specs.declared.Check.{Check}
 use Rattle.reader.specs.declared.State.{State}
 
@@ -39,6 +43,10 @@ OnePlace n at = (x y : Placed) → handedSays (x .handed) ≡ n → x .span ≡ 
 abbrev pub OneField : FieldSaid → Type 0
 OneField said = (a b : Answer) → Answers a said → Answers b said → a ≡ b
 
+-- two answers and buffers of Write that are read as this outcome are one
+abbrev pub OneWrite : WriteOutcome → Type 0
+OneWrite o = (a b : Written) (l m : List ℕ) → writeOutcome (writtenSays a) l ≡ o → writeOutcome (writtenSays b) m ≡ o → (a ≡ b) × (l ≡ m)
+
 pub record OneOutcome : Type 0 where
   pub opens : (s : State) (force wait : List ℕ) → One saidOpened (openOf s force wait)
   pub feeds : (s : State) (hold piece : List ℕ) → One saidFed (feedOf s hold piece)
@@ -55,3 +63,4 @@ pub record OneOutcome : Type 0 where
   pub sub-places : (s : State) (force b : List ℕ) (k : ℕ) → OnePlace (subBytesRefusal s force b k) (subPlaceOf s force b k)
   pub tows : (s : State) (b : List ℕ) → OneField (towOf s b)
   pub wncs : (s : State) (b : List ℕ) → OneField (wncOf s b)
+  pub writes : (s : State) (force : List ℕ) (d : Draft) (buffer : List ℕ) → OneWrite (writeOf s force d buffer)

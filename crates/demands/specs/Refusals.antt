@@ -1,31 +1,38 @@
--- The refusals (rules R1 to R10, R20): when each number is given, as propositions in the rules' words, and each call's numbers in their
+-- The refusals (rules R1 to R12, R20): when each number is given, as propositions in the rules' words, and each call's numbers in their
 -- order. They are written apart from the tests of the code's definitions, the block's numbers among them (`blockNumber` to `SBLength`): a
--- second rendering is wanted here, so that `demand_1` fails where code and definitions of the crate `block` are wrong alike. Shared is what
--- the conditions speak of: `tableOk`, `nextTable`, `tableInForce` and `decode`, `settle` and `restOf`, where the header's numbers stand, the
--- CRC, and where a field ends.
+-- second rendering is wanted here, so that `demand_1` fails where code and definitions of the crates `block`, `entry` and `draft` are wrong
+-- alike. Shared is what the conditions speak of: `tableOk`, `nextTable`, `tableInForce` and `decode`, `settle` and `restOf`, where the
+-- header's numbers stand, the CRC, where a field ends, how its bits are read, and which of them are Do-Not-Use.
 -- Assumes nothing.
-use Prim.Native.Nat.{ℕ, _+_, _*_, _%_, _/_, _≤_, _<_}
+use Prim.Native.Nat.{ℕ, suc, _+_, _*_, _%_, _/_, _^_, _≤_, _<_}
 use mathlib.Core.Path.{_≡_}
-use mathlib.Core.Bool.{false}
+use mathlib.Core.Bool.{true, false}
 use mathlib.Core.List.{List, [], _∷_}
 use mathlib.Core.Logic.{_⊎_}
-use mathlib.Core.Option.{Option, none, some}
+use mathlib.Core.Option.{Option, none, some, IsSome}
 use lib.ListN.{length, getD, take, drop}
+use lib.IntN.{ℤ, pos, negsuc}
 use Rattle.crc.specs.Crc.{crcOf}
 use Rattle.frame.specs.Frame.{crcAt, idAt, lengthAt}
 use Rattle.frame.specs.Judge.{judged}
 use Rattle.scan.specs.Settle.{settle}
 use Rattle.feed.specs.Hold.{restOf}
+use Rattle.kinds.specs.Types.{sizeOf, half}
+use Rattle.kinds.specs.Marks.{isDoNotUse}
 use Rattle.rows.specs.declared.FieldRow.{FieldRow}
 use Rattle.table.specs.Lists.{pick}
 use Rattle.table.specs.Rows.{BlockRow, Table, ends}
 use Rattle.table.specs.Decode.{decode}
 use Rattle.table.specs.Rules.{tableOk}
+use Rattle.value.specs.Said.{FieldSaid, unsigned, signed, single, double, doNotUse, notInRevision, fieldRefused}
+use Rattle.value.specs.Bits.{readAs}
+use Rattle.entry.specs.Wanted.{Wanted}
+use Rattle.draft.specs.Draft.{Draft}
 use Rattle.tables.specs.Calls.{nextTable}
 use Rattle.records.specs.Calls.{tableInForce}
 use Rattle.reader.specs.declared.Phase.the-variants.{Closed, Feeding}
 use Rattle.reader.specs.declared.State.{State}
-use Rattle.demands.specs.World.{World, stage, withdraw, bytes, body, sub, subBytes, tow, wnc, Call, openRun, feed, finish, table, look}
+use Rattle.demands.specs.World.{World, stage, withdraw, bytes, body, sub, subBytes, tow, wnc, write, Call, openRun, feed, finish, table, look}
 
 -- ---- buffers, state and table
 
@@ -101,33 +108,34 @@ SBLength b = getD b 15 0
 abbrev pub Among : {A : Type 0} → List A → A → Type 0
 Among xs x = (i : ℕ) × (pick xs i ≡ some x)
 
--- r is a row of the table, of the block's number
-pub record RowOf (t : Table) (b : List ℕ) (r : BlockRow) : Type 0 where
+-- r is a row of the table, of this number
+pub record RowOf (t : Table) (number : ℕ) (r : BlockRow) : Type 0 where
   pub among : Among (t .rows) r
-  pub same : r .number ≡ blockNumber b
+  pub same : r .number ≡ number
 
--- P of the block's row
-abbrev pub OfRow : Table → List ℕ → (BlockRow → Type 0) → Type 0
-OfRow t b P = (r : BlockRow) × (RowOf t b r × P r)
+-- P of that row
+abbrev pub OfRow : Table → ℕ → (BlockRow → Type 0) → Type 0
+OfRow t number P = (r : BlockRow) × (RowOf t number r × P r)
 
--- V5: a field among these that the block's revision carries ends past n
-abbrev pub EndsPast : List FieldRow → List ℕ → ℕ → Type 0
-EndsPast fs b n = (f : FieldRow) × (Among fs f × ((f .first ≤ blockRevision b) × (n < ends f)))
+-- V5: a field among these that the revision carries ends past n
+abbrev pub EndsPast : List FieldRow → ℕ → ℕ → Type 0
+EndsPast fs revision n = (f : FieldRow) × (Among fs f × ((f .first ≤ revision) × (n < ends f)))
 
 -- ---- the conditions on it
 
--- R6: the table has no row for the block
-abbrev pub NotInTable : Table → List ℕ → Type 0
-NotInTable t b = (r : BlockRow) → RowOf t b r → ⊥
+-- R6: the table has no row of the number
+abbrev pub NotInTable : Table → ℕ → Type 0
+NotInTable t number = (r : BlockRow) → RowOf t number r → ⊥
 
 -- R7: a carried body field is cut off, or TOW or WNc is
 abbrev pub BodyDoesNotFit : Table → List ℕ → Type 0
-BodyDoesNotFit t b = OfRow t b (λ r. EndsPast (r .body) b (L b)) ⊎ (L b < 14)
+BodyDoesNotFit t b = OfRow t (blockNumber b) (λ r. EndsPast (r .body) (blockRevision b) (L b)) ⊎ (L b < 14)
 
 -- R8: of sub-blocks: they are too short for a carried sub-field, or the block is too short for them
 abbrev pub SubsDoNotFit : Table → List ℕ → Type 0
 SubsDoNotFit t b =
-    OfRow t b (λ r. (0 < length (r .subs)) × (((0 < N b) × EndsPast (r .subs) b (SBLength b)) ⊎ (L b < 16 + N b * SBLength b)))
+    OfRow t (blockNumber b)
+    (λ r. (0 < length (r .subs)) × (((0 < N b) × EndsPast (r .subs) (blockRevision b) (SBLength b)) ⊎ (L b < 16 + N b * SBLength b)))
 
 -- R9: no field has the number
 abbrev pub NoField : List FieldRow → ℕ → Type 0
@@ -140,6 +148,84 @@ NoSubBlock b k r = (length (r .subs) ≡ 0) ⊎ (N b ≤ k)
 -- R10: they are not one frame
 abbrev pub NoWholeFrame : List ℕ → Type 0
 NoWholeFrame b = OneFrame b → ⊥
+
+-- ---- the draft given to Write
+
+-- V1: a number with sign is below -h, or from h on
+abbrev pub OutOfHalf : ℕ → ℤ → Type 0
+OutOfHalf h (pos n) = h ≤ n
+OutOfHalf h (negsuc n) = h < suc n
+
+-- V1, W5: a value of another kind than the type, or out of its range
+abbrev pub NoneOfType : ℕ → FieldSaid → Type 0
+NoneOfType kind (unsigned n) = (kind < 1) ⊎ (4 < kind) ⊎ (256 ^ sizeOf kind ≤ n)
+NoneOfType kind (signed z) = (kind < 5) ⊎ (8 < kind) ⊎ OutOfHalf (half (sizeOf kind)) z
+NoneOfType kind (single b) = (kind ≡ 9 → ⊥) ⊎ (2 ^ 32 ≤ b)
+NoneOfType kind (double b) = (kind ≡ 10 → ⊥) ⊎ (2 ^ 64 ≤ b)
+NoneOfType kind doNotUse = Unit {0}
+NoneOfType kind notInRevision = Unit {0}
+NoneOfType kind (fieldRefused n) = Unit {0}
+
+-- V4, W5: bits of the field read as the value, and are Do-Not-Use by its mark
+abbrev pub ReadsDoNotUse : FieldRow → FieldSaid → Type 0
+ReadsDoNotUse f said =
+    (x : ℕ) × ((x < 256 ^ sizeOf (f .kind)) × ((readAs (f .kind) x ≡ said) × (isDoNotUse (f .mark) (f .kind) x ≡ true)))
+
+-- W5: what is not allowed of a field: to be unset where it is carried and has no mark; a value where it is not carried, or one that is
+-- none of its own
+abbrev pub NotAllowed : ℕ → FieldRow → Wanted → Type 0
+NotAllowed revision f none = (f .first ≤ revision) × (f .mark ≡ 0)
+NotAllowed revision f (some said) = (revision < f .first) ⊎ NoneOfType (f .kind) said ⊎ ReadsDoNotUse f said
+
+-- V8: TOW is a u4 and WNc a u2, with mark 1
+abbrev pub towField : FieldRow
+towField = record { offset = 8; kind = 3; first = 0; mark = 1 }
+
+abbrev pub wncField : FieldRow
+wncField = record { offset = 12; kind = 2; first = 0; mark = 1 }
+
+-- W4: a value is set that has the number n or a higher one
+abbrev pub SetFrom : ℕ → List Wanted → Type 0
+SetFrom n ws = (i : ℕ) × ((n ≤ i) × IsSome (getD ws i none))
+
+-- W4, W5: value i is not allowed of row i, or one past the last row is set; a value that the list lacks is unset
+abbrev pub ListNotAllowed : ℕ → List FieldRow → List Wanted → Type 0
+ListNotAllowed revision fs ws =
+    ((i : ℕ) × ((f : FieldRow) × ((pick fs i ≡ some f) × NotAllowed revision f (getD ws i none)))) ⊎ SetFrom (length fs) ws
+
+-- R11: of a row with sub-fields, and of one without
+abbrev pub WithSubFields : BlockRow → Draft → Type 0
+WithSubFields r d =
+    (255 < length (d .subs))
+    ⊎ SetFrom 0 (d .body)
+    ⊎ ((ws : List Wanted) × (Among (d .subs) ws × ListNotAllowed (d .revision) (r .subs) ws))
+
+abbrev pub WithoutSubFields : BlockRow → Draft → Type 0
+WithoutSubFields r d = (0 < length (d .subs)) ⊎ ListNotAllowed (d .revision) (r .body) (d .body)
+
+-- R11: it cannot stand in a block of the row
+abbrev pub CannotStand : BlockRow → Draft → Type 0
+CannotStand r d =
+    (7 < d .revision)
+    ⊎ NotAllowed (d .revision) towField (d .tow)
+    ⊎ NotAllowed (d .revision) wncField (d .wnc)
+    ⊎ ((0 < length (r .subs)) × WithSubFields r d)
+    ⊎ ((length (r .subs) ≡ 0) × WithoutSubFields r d)
+
+-- W7, W9: n bytes hold the block, with m bytes for each sub-block
+pub record HoldsBlock (r : BlockRow) (d : Draft) (m n : ℕ) : Type 0 where
+  pub stamps : 14 ≤ n
+  pub body : EndsPast (r .body) (d .revision) n → ⊥
+  pub inner : 0 < length (d .subs) → EndsPast (r .subs) (d .revision) m → ⊥
+  pub subs : 0 < length (d .subs) → 16 + length (d .subs) * m ≤ n
+
+-- W9: the block is longer than n: no multiple of 4 up to there holds it
+abbrev pub LongerThan : BlockRow → Draft → ℕ → Type 0
+LongerThan r d n = (m k : ℕ) → HoldsBlock r d m k → k % 4 ≡ 0 → k ≤ n → ⊥
+
+-- R12: it is longer than the buffer, which has n bytes, or than 65,532; or, by W7, its SBLength is above 255
+abbrev pub HasNoRoom : ℕ → BlockRow → Draft → Type 0
+HasNoRoom n r d = LongerThan r d n ⊎ LongerThan r d 65532 ⊎ ((0 < length (d .subs)) × EndsPast (r .subs) (d .revision) 255)
 
 -- ---- R20: the numbers of a call, in their order
 
@@ -172,15 +258,27 @@ recordOrder w b Nine =
     ∷ 5 when (w .state .«in_force» ≡ 0)
     ∷ 4 when Breaks (tableInForce (w .state) (w .force))
     ∷ 10 when NoWholeFrame b
-    ∷ 6 when NotInTable t b
+    ∷ 6 when NotInTable t (blockNumber b)
     ∷ 7 when BodyDoesNotFit t b
     ∷ 8 when SubsDoNotFit t b
-    ∷ 9 when OfRow t b Nine
+    ∷ 9 when OfRow t (blockNumber b) Nine
     ∷ []
 
 -- R20: Tow and Wnc, which are lent nothing and read no table
 abbrev pub stampOrder : World → List ℕ → Order
 stampOrder w b = 1 when BadState (w .state) ∷ 10 when NoWholeFrame b ∷ 7 when (L b < 14) ∷ []
+
+-- R20: Write, which is lent the in-force store; of the buffer that it writes 1 asks nothing
+abbrev pub writeOrder : World → Draft → List ℕ → Order
+writeOrder w d buffer =
+    let t = decode (tableInForce (w .state) (w .force)) in
+    1 when (BadState (w .state) ⊎ ShortStore (w .force))
+    ∷ 5 when (w .state .«in_force» ≡ 0)
+    ∷ 4 when Breaks (tableInForce (w .state) (w .force))
+    ∷ 6 when NotInTable t (d .number)
+    ∷ 11 when OfRow t (d .number) (λ r. CannotStand r d)
+    ∷ 12 when OfRow t (d .number) (λ r. HasNoRoom (length buffer) r d)
+    ∷ []
 
 -- R20: all calls, each by the buffers that it is lent (C3). R2 asks for the phase, R5 for a table of either kind
 abbrev pub order : Call → World → Order
@@ -204,3 +302,4 @@ order (look (sub b k j)) w = recordOrder w b (λ r. NoSubBlock b k r ⊎ NoField
 order (look (subBytes b k)) w = recordOrder w b (NoSubBlock b k)
 order (look (tow b)) w = stampOrder w b
 order (look (wnc b)) w = stampOrder w b
+order (look (write d buffer)) w = writeOrder w d buffer

@@ -11,6 +11,9 @@ use Rattle.reader.specs.Outcome.{Outcome}
 use Rattle.tables.specs.Calls.{openOf, stageOf, withdrawOf}
 use Rattle.runs.specs.Calls.{feedOf, finishOf, bytesOf}
 use Rattle.records.specs.Calls.{bodyOf, subOf, subBytesOf, subBytesRefusal, towOf, wncOf}
+use Rattle.draft.specs.Draft.{Draft}
+use Rattle.writer.specs.Write.{WriteSaid, wrote, writeRefused, WriteOutcome}
+use Rattle.writes.specs.Calls.{writeOf}
 use Rattle.reader.specs.declared.Counts.{Counts}
 use Rattle.reader.specs.declared.State.{State}
 
@@ -26,7 +29,8 @@ pub data TableCall : Type 0 where
   stage : List ℕ → TableCall
   withdraw : TableCall
 
--- C9, C13: the calls that change nothing: Bytes, and the record calls with the bytes and the numbers given to them
+-- C9, C13, W1: the calls that change neither state nor the three buffers: Bytes, the record calls with the bytes and the numbers given to
+-- them, and Write with a draft and a buffer of the caller's own
 pub data Look : Type 0 where
   bytes : Look
   body : List ℕ → ℕ → Look
@@ -34,6 +38,7 @@ pub data Look : Type 0 where
   subBytes : List ℕ → ℕ → Look
   tow : List ℕ → Look
   wnc : List ℕ → Look
+  write : Draft → List ℕ → Look
 
 pub data Call : Type 0 where
   openRun : Call
@@ -42,11 +47,12 @@ pub data Call : Type 0 where
   table : TableCall → Call
   look : Look → Call
 
--- what a call answers; a part comes with what its twin call tells (R22)
+-- what a call answers; a part comes with what its twin call tells (R22), and Write's answer with its buffer
 pub data Reply : Type 0 where
   said : Said → Reply
   part : Option ℕ → List ℕ → Reply
   value : FieldSaid → Reply
+  penned : WriteOutcome → Reply
 
 -- ---- what an answer tells
 
@@ -66,9 +72,15 @@ pub record Told : Type 0 where
   pub waited : Option Bool
   -- C9, C13: the part, by Bytes and Subbytes
   pub part : Option (List ℕ)
+  -- W1: the length of the block, by Write
+  pub wrote : Option ℕ
+  -- W1: the caller's buffer as Write leaves it
+  pub buffer : Option (List ℕ)
 
+-- what an answer tells that is not Write's
 abbrev pub tells : Option ℕ → Option ℕ → Option ℕ → Option Report → Option Counts → Option Bool → Option (List ℕ) → Told
-tells n v t b e w p = record { refusal = n; version = v; taken = t; block = b; end = e; waited = w; part = p }
+tells n v t b e w p =
+    record { refusal = n; version = v; taken = t; block = b; end = e; waited = w; part = p; wrote = none; buffer = none }
 
 -- V7: the number, where a field is refused
 abbrev pub fieldRefusal : FieldSaid → Option ℕ
@@ -80,6 +92,29 @@ fieldRefusal doNotUse = none
 fieldRefusal notInRevision = none
 fieldRefusal (fieldRefused n) = some n
 
+-- W1: the number, where Write is refused, and the length where it is not
+abbrev pub writeRefusal : WriteSaid → Option ℕ
+writeRefusal (wrote n) = none
+writeRefusal (writeRefused n) = some n
+
+abbrev pub writeLength : WriteSaid → Option ℕ
+writeLength (wrote n) = some n
+writeLength (writeRefused n) = none
+
+abbrev pub tellsWrite : WriteOutcome → Told
+tellsWrite o =
+    record {
+      refusal = writeRefusal (o .said);
+      version = none;
+      taken = none;
+      block = none;
+      end = none;
+      waited = none;
+      part = none;
+      wrote = writeLength (o .said);
+      buffer = some (o .buffer);
+    }
+
 abbrev pub told : Reply → Told
 told (said (refused n)) = tells (some n) none none none none none none
 told (said (version v)) = tells none (some v) none none none none none
@@ -89,6 +124,7 @@ told (said (ended c)) = tells none none none none (some c) none none
 told (said (waited b)) = tells none none none none none (some b) none
 told (part n p) = tells n none none none none none (some p)
 told (value v) = tells (fieldRefusal v) none none none none none none
+told (penned o) = tellsWrite o
 
 -- the part that is handed back, empty where the call hands back none
 abbrev pub partOf : Reply → List ℕ
@@ -113,6 +149,7 @@ looked (sub b k j) w = value (subOf (w .state) (w .force) b k j)
 looked (subBytes b k) w = part (subBytesRefusal (w .state) (w .force) b k) (subBytesOf (w .state) (w .force) b k)
 looked (tow b) w = value (towOf (w .state) b)
 looked (wnc b) w = value (wncOf (w .state) b)
+looked (write d buffer) w = penned (writeOf (w .state) (w .force) d buffer)
 
 -- C2: which buffer a call may write; the others stay as they were
 unfoldable pub step : Call → World → Step

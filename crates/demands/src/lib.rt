@@ -8,8 +8,8 @@ ghost use Rattle.demands.specs.One.{OneOutcome};
 ghost use Rattle.demands.specs.Progress.{Progress};
 ghost use Rattle.demands.specs.Soundness.{SoundKept};
 
-// D1: every call is refused exactly when the rules say; a refused call changes nothing and hands back nothing; states that are reached
-// are sound; with long enough buffers refusal 1 is not given.
+// D1: every call is refused exactly when the rules say; a refused call changes nothing and hands back nothing, Write's buffer too is as it
+// was, and behind a block that Write made it stays so; states that are reached are sound; with long enough buffers refusal 1 is not given.
 pub fn demand_1()
     ensures { λ _. ⌜ Demand1 ⌝ }
 {}
@@ -21,13 +21,13 @@ pub fn sound_kept()
 {}
 
 // D2: at every moment of a run the blocks reported are the first ones of the reading rule, after More nothing more can be
-// decided, and records are read by the table in force.
+// decided, and records are read by the table in force, and Write writes by it.
 pub fn demand_2()
     ensures { λ _. ⌜ Demand2 ⌝ }
 {}
 
 // D3: blocks, bytes and counts of a closed run are those of its whole bytes, which are the caller's stream where he offers unread bytes
-// again; all records are read by the table that it was opened with; table calls moved to after it change nothing.
+// again; all records are read by the table that it was opened with, and Write writes by it; table calls moved to after it change nothing.
 pub fn demand_3()
     ensures { λ _. ⌜ Demand3 ⌝ }
 {}

@@ -8,4 +8,5 @@ use Rattle.desk.specs.declared.AskReply.the-variants as reply
 abbrev pub plainly : AskReply → Bool
 plainly (reply.Field a) = noNanIn a
 plainly (reply.Bytes b) = true
+plainly (reply.Written b) = true
 plainly (reply.Refused r) = true

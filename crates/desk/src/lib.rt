@@ -21,6 +21,7 @@ pub struct Desk {
     pub hold: usize,
     pub in_force: usize,
     pub waiting: usize,
+    pub out: usize,
 }
 
 // What a call replies that may write: Open, Stage and Withdraw, Feed without a block and with one, Finish with a block and at the
@@ -36,16 +37,17 @@ pub enum RunReply {
     Refused(Refusal),
 }
 
-// Bytes that were handed back: how many, and their CRC.
+// Bytes that were handed back: how many, and their CRC. Of a block that was written: its length, and the CRC of the whole buffer.
 pub struct PartCrc {
     pub count: usize,
     pub crc: u16,
 }
 
-// What a call replies that is lent nothing to write.
+// What a call replies that is lent none of the reader's buffers to write.
 pub enum AskReply {
     Field(Answer),
     Bytes(PartCrc),
+    Written(PartCrc),
     Refused(Refusal),
 }
 
@@ -63,6 +65,7 @@ pub fn after(state: State) -> Desk {
         hold: WHOLE,
         in_force: WHOLE,
         waiting: WHOLE,
+        out: WHOLE,
     }
 }
 
@@ -81,6 +84,7 @@ pub fn sized(b: Desk, buffer: Buffer, n: usize) -> Desk {
         Buffer::Hold => next.hold = n,
         Buffer::InForce => next.in_force = n,
         Buffer::Waiting => next.waiting = n,
+        Buffer::Out => next.out = n,
         Buffer::Unknown => {}
     }
     next
@@ -113,6 +117,7 @@ fn with_phase(b: Desk, phase: Phase) -> Desk {
         hold: b.hold,
         in_force: b.in_force,
         waiting: b.waiting,
+        out: b.out,
     }
 }
 

@@ -5,12 +5,11 @@ use mathlib.Core.List.{List, [], _∷_, _++_}
 use mathlib.Core.Path.{_≡_, refl, _∙_}
 use Prim.Native.Nat.{ℕ, zero, suc, _+_, _*_, _/_, _%_, _<_, _≤_}
 use native.Mathlib.Omega.{arith}
-use lib.Bits.{bitXor, xor-lt}
 use lib.Dec.{ltb, leb}
 use lib.ListN.{length, getD}
 use borrow.Author.Tests.{ltb-true, ltb-false, leb-true, lt-ltb}
-use Rattle.crc.specs.Crc.{crcByte, crcFrom, crcOf}
-use Rattle.crc.proofs.Linear.{bits8-lt}
+use Rattle.crc.specs.Crc.{crcOf}
+use Rattle.crc.proofs.Linear.{crc-small}
 use Rattle.rows.specs.declared.FieldRow.{FieldRow}
 use Rattle.table.specs.Lists.{every, neighbours}
 use Rattle.kinds.specs.Marks.{markFits}
@@ -119,16 +118,6 @@ rows-part-small before (b ∷ bs) l n h f =
     append (u2Bytes (b .number)) _ (two-small (b .number) (omega arith)) (both-true (lt-ltb (b .highest) 256 (omega arith)) (both-true (small (length (b .body)) (j .0))
     (append (u2Bytes before) _ (two-small before (omega arith)) (both-true (small (length (b .subs)) (j .1)) rest))))
 
--- The CRC.
-
-crc-small : (c : ℕ) (xs : List ℕ) → c < 65536 → every isByte xs ≡ true → crcFrom c xs < 65536
-unfolding every crcFrom crcByte
-crc-small c [] h e = h
-crc-small c (x ∷ xs) h e =
-    let a = both (isByte x) _ e in
-    let l : x < 256 = ltb-true _ _ (a .0) in
-    crc-small (crcByte c x) xs (bits8-lt (bitXor c (x * 256)) (xor-lt 16 c (x * 256) h (omega arith))) (a .1)
-
 -- The file.
 
 module _ (tab : Table) (m : Meaning tab) (r : Room tab) where
@@ -148,7 +137,7 @@ module _ (tab : Table) (m : Meaning tab) (r : Room tab) where
   unfolding encode crcOf every
   file-small =
       let u = unsealed-small in
-      append (unsealed tab) _ u (append (u2Bytes (crcOf (unsealed tab))) (0x42 ∷ 0x54 ∷ []) (two-small (crcOf (unsealed tab)) (crc-small 0 (unsealed tab) (omega arith) u)) refl)
+      append (unsealed tab) _ u (append (u2Bytes (crcOf (unsealed tab))) (0x42 ∷ 0x54 ∷ []) (two-small (crcOf (unsealed tab)) (crc-small 0 (unsealed tab) (omega arith) (bytes-at (unsealed tab) u))) refl)
 
   pub bytes : (j : ℕ) → getD (encode tab) j 0 < 256
   bytes = bytes-at (encode tab) file-small

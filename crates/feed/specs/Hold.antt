@@ -4,6 +4,7 @@ use Prim.Native.Nat.{ℕ, _-_, _≤_}
 use mathlib.Core.Path.{_≡_}
 use mathlib.Core.List.{List, _++_}
 use lib.ListN.{length, take, drop}
+pub use Rattle.copy.specs.Over.{over}
 use Rattle.scan.specs.Feed.{Intake, size}
 use Rattle.scan.specs.Passed.{passedOf}
 use Rattle.feed.specs.declared.HoldNumbers.{HoldNumbers}
@@ -16,10 +17,6 @@ restOf hold held standing = take (held - standing) (drop standing hold)
 abbrev pub numbersOf : Intake → HoldNumbers
 numbersOf f =
     record { taken = f .taken; passed = passedOf (f .passed); held = length (f .held); standing = size (f .standing) }
-
--- C4: bytes over the start of a buffer, and behind them what it had
-abbrev pub over : List ℕ → List ℕ → List ℕ
-over xs buffer = xs ++ drop (length xs) buffer
 
 -- C4: the hold after a call
 abbrev pub holdOf : Intake → List ℕ → List ℕ

@@ -1,4 +1,5 @@
 pub mod Below
+pub mod Keys
 pub mod Types
 pub mod Marks
 pub mod Unset

@@ -1,4 +1,4 @@
--- The marks, one list (rules V3, V4): the types that may bear each, its test for Do-Not-Use, and what an unset field is written
+-- The marks, one list (rules V3, V4, W6): the types that may bear each, its test for Do-Not-Use, and what an unset field is written
 -- with.
 -- Assumes nothing.
 use mathlib.Core.Bool.{Bool, true, false, cond}
@@ -8,6 +8,7 @@ use mathlib.Core.Path.{_≡_}
 use Prim.Native.Nat.{ℕ, _-_, _^_, _<_}
 use lib.Dec.{eqb}
 use lib.ListN.{getD}
+use Rattle.kinds.specs.declared.UnsetAs.{UnsetAs}
 use Rattle.kinds.specs.Types.{sizeOf, listed, isUnsigned, isSigned, isFloat, half}
 
 -- V3: the numbers of the marks
@@ -82,9 +83,13 @@ markFits kind mark = markOf mark .fits kind
 unfoldable pub isDoNotUse : ℕ → ℕ → ℕ → Bool
 isDoNotUse mark kind x = markOf mark .test (sizeOf kind) x
 
--- what an unset field of a type is written with
+-- W6: what an unset field of a type is written with
 unfoldable pub unsetOf : ℕ → ℕ → Option ℕ
 unsetOf mark kind = markOf mark .unset (sizeOf kind)
+
+-- D9: the same by the code's answer
+abbrev pub unsetSays : UnsetAs → Option ℕ
+unsetSays u = cond (u .can) (some (u .bits)) none
 
 -- what is written for a mark fits the type, and is told as Do-Not-Use; only a field without a mark cannot be unset
 abbrev pub ReadsUnset : ℕ → ℕ → Option ℕ → Type 0

@@ -1,13 +1,15 @@
-// The types of fields with their sizes (rule V1), and the marks: which types may bear each, and which bits are its Do-Not-Use
-// (V3, V4).
+// The types of fields with their sizes (rule V1), and the marks: which types may bear each, which bits are its Do-Not-Use (V3, V4),
+// and what an unset field is written with (W6).
 ghost use mathlib.Core.Path.{_≡_};
+ghost use mathlib.Core.Option.{some};
 ghost use Prim.Native.Nat.{_≤_};
-ghost use Rattle.kinds.specs.Types.{sizeOf};
-ghost use Rattle.kinds.specs.Marks.{markFits, isDoNotUse, UnsetIsTold};
+ghost use Rattle.kinds.specs.Types.{sizeOf, half};
+ghost use Rattle.kinds.specs.Marks.{allOnes, minus, markFits, isDoNotUse, unsetOf, unsetSays, UnsetIsTold};
 ghost use Rattle.kinds.specs.Grid.{GridHolds};
 
-// D7: entry k is the size of type k + 1. Table check and field reader look sizes up here.
-const SIZES: [usize; 10] = [1, 2, 4, 8, 1, 2, 4, 8, 4, 8];
+// D7: entry k is the size of type k + 1. Table check, field reader and writer look sizes up here. They are bytes: a constant array is
+// stored anew wherever it is named, and ten bytes are two stores.
+const SIZES: [u8; 10] = [1, 2, 4, 8, 1, 2, 4, 8, 4, 8];
 
 // The size of a type; 0 where it is not listed.
 pub fn size(kind: u8) -> usize
@@ -18,7 +20,8 @@ pub fn size(kind: u8) -> usize
     }
     if kind <= 10 {
         let k = (kind - 1) as usize;
-        return SIZES[k];
+        let n = SIZES[k];
+        return n as usize;
     }
     0
 }
@@ -37,49 +40,80 @@ pub fn mark_fits(kind: u8, mark: u8) -> bool
     }
 }
 
-// Entry k is all ones in k bytes.
-const ONES: [u64; 9] = [
-    0x0,
-    0xff,
-    0xffff,
-    0xff_ffff,
-    0xffff_ffff,
-    0xff_ffff_ffff,
-    0xffff_ffff_ffff,
-    0xff_ffff_ffff_ffff,
-    0xffff_ffff_ffff_ffff,
-];
+// The bits that mark 1 names, of a type: all ones in its bytes.
+fn all_ones(kind: u8) -> u64
+    ensures { λ r. ⌜ r ≡ allOnes (sizeOf kind) ⌝ }
+{
+    match kind {
+        1 | 5 => 0xff,
+        2 | 6 => 0xffff,
+        3 | 7 | 9 => 0xffff_ffff,
+        4 | 8 | 10 => 0xffff_ffff_ffff_ffff,
+        _ => 0,
+    }
+}
 
-// Entry k is the bits of the least signed number of k bytes.
-const LEAST: [u64; 9] = [
-    0x1,
-    0x80,
-    0x8000,
-    0x80_0000,
-    0x8000_0000,
-    0x80_0000_0000,
-    0x8000_0000_0000,
-    0x80_0000_0000_0000,
-    0x8000_0000_0000_0000,
-];
+// The bits that mark 3 names: -2e10 in four bytes, or in eight.
+fn minus_2e10(kind: u8) -> u64
+    ensures { λ r. ⌜ r ≡ minus (sizeOf kind) ⌝ }
+{
+    match kind {
+        3 | 7 | 9 => 0xd095_02f9,
+        _ => 0xc212_a05f_2000_0000,
+    }
+}
+
+// The bits that mark 4 names: the least signed number in its bytes.
+fn least_bits(kind: u8) -> u64
+    ensures { λ r. ⌜ r ≡ half (sizeOf kind) ⌝ }
+{
+    match kind {
+        1 | 5 => 0x80,
+        2 | 6 => 0x8000,
+        3 | 7 | 9 => 0x8000_0000,
+        4 | 8 | 10 => 0x8000_0000_0000_0000,
+        _ => 1,
+    }
+}
 
 // Whether the bits of a type are its mark's Do-Not-Use.
 pub fn is_do_not_use(mark: u8, kind: u8, x: u64) -> bool
     ensures { λ r. ⌜ r ≡ isDoNotUse mark kind x ⌝ }
 {
-    let n = size(kind);
     match mark {
-        1 => x == ONES[n],
+        1 => x == all_ones(kind),
         2 => x == 0,
-        3 => {
-            if n == 4 {
-                x == 0xd095_02f9
-            } else {
-                x == 0xc212_a05f_2000_0000
-            }
-        }
-        4 => x == LEAST[n],
+        3 => x == minus_2e10(kind),
+        4 => x == least_bits(kind),
         _ => false,
+    }
+}
+
+// What an unset field is written with, where it can be unset.
+pub struct UnsetAs {
+    pub can: bool,
+    pub bits: u64,
+}
+
+fn can_be(bits: u64) -> UnsetAs
+    ensures { λ r. ⌜ unsetSays r ≡ some bits ⌝ }
+{
+    UnsetAs { can: true, bits }
+}
+
+// W6: the bits of a field's mark; a field without one cannot be unset.
+pub fn unset_bits(mark: u8, kind: u8) -> UnsetAs
+    ensures { λ r. ⌜ unsetSays r ≡ unsetOf mark kind ⌝ }
+{
+    match mark {
+        1 => can_be(all_ones(kind)),
+        2 => can_be(0),
+        3 => can_be(minus_2e10(kind)),
+        4 => can_be(least_bits(kind)),
+        _ => UnsetAs {
+            can: false,
+            bits: 0,
+        },
     }
 }
 

@@ -1,4 +1,4 @@
-// One call, played with the reader's own on the buffers of the desk.
+// One call, played with the reader's own, or with Write, on the buffers of the desk.
 ghost use Prim.Native.Nat.{_≤_};
 ghost use mathlib.Core.Path.{_≡_};
 ghost use lib.Dec.{T};
@@ -7,13 +7,14 @@ ghost use Rattle.crc.specs.Crc.{crcOf};
 ghost use Rattle.desk.specs.Plain.{plainly};
 ghost use Rattle.play.specs.Turns.{plain};
 
-mod replies; // replies.rt: what a call that may write answered, as a reply
+mod replies; // replies.rt: what a call that may write answered, and Write, as a reply
 
 use desk::AskReply;
 use desk::Crcs;
 use desk::Desk;
 use desk::PartCrc;
 use desk::RunReply;
+use lists::LineRead;
 use reader::Check;
 use reader::State;
 use record::Answer;
@@ -210,11 +211,11 @@ fn put(
         Buffer::Hold => desk::written(hold, offset, bytes),
         Buffer::InForce => desk::written(force, offset, bytes),
         Buffer::Waiting => desk::written(waiting, offset, bytes),
-        Buffer::Unknown => false,
+        _ => false,
     }
 }
 
-// Plays one call.
+// Plays one call, which is not Write.
 pub fn call(
     b: Desk,
     call: LineCall,
@@ -230,10 +231,37 @@ pub fn call(
         LineCall::Bad => quiet(b, false),
         LineCall::Run(run) => run_call(b, run, given, hold, force, waiting),
         LineCall::Ask(ask) => ask_call(b, ask, given, hold, force),
+        LineCall::Write => quiet(b, false),
         LineCall::Poke(part, v) => quiet(desk::poked(b, part, v as usize), true),
         LineCall::Put(buffer, offset) => {
             quiet(b, put(buffer, offset as usize, given, hold, force, waiting))
         }
         LineCall::Size(buffer, n) => quiet(desk::sized(b, buffer, n as usize), true),
+    }
+}
+
+// Plays Write, on what it is lent of the store in force and of the buffer that it writes; the CRC is of the whole buffer. Where the
+// line could not be read nothing is called.
+pub fn write_call(
+    b: Desk,
+    line: LineRead,
+    kinds: &[u8],
+    bits: &[u64],
+    force: &[u8],
+    out: &mut [u8],
+) -> Played
+    ensures { λ r. ⌜ T (plain (r .turn)) ⌝ }
+{
+    if !line.good {
+        return quiet(b, false);
+    }
+    let head = line.head;
+    let f = desk::lent(b.in_force, force);
+    let o = desk::lent(b.out, out);
+    let answer = writes::write(b.state, &force[..f], head, kinds, bits, &mut out[..o]);
+    let reply = replies::written(answer, crc::crc_of(out));
+    Played {
+        desk: desk::after(b.state),
+        turn: Turn::Asked(reply),
     }
 }

@@ -16,7 +16,7 @@ use refusal::Refusal;
 use table::Checked;
 
 // R1, R5, R4: the table in force is checked at every call, for a caller may have spoiled the store.
-fn of_ask(s: State, in_force: &[u8]) -> Check
+pub fn of_ask(s: State, in_force: &[u8]) -> Check
     ensures { λ r. ⌜ refusalOf r ≡ askRefusal s (now («in_force» .entry)) ⌝ }
 {
     if !(reader::is_sound(s) & (8192 <= in_force.len())) {

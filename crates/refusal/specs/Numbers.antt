@@ -1,13 +1,13 @@
--- The numbers of the refusals (rules R1 to R10), there and back.
+-- The numbers of the refusals (rules R1 to R12), there and back.
 -- Assumes nothing.
 use Prim.Native.Nat.{ℕ, _-_}
 use mathlib.Core.Path.{_≡_}
 use mathlib.Core.List.{List, [], _∷_}
 use lib.ListN.{getD}
 use Rattle.refusal.specs.declared.Refusal.{Refusal}
-use Rattle.refusal.specs.declared.Refusal.the-variants.{BadBuffer, OutOfTurn, RunFull, BadTable, NoTable, NoRow, TooShort, BadSubBlocks, NoSuchField, NotOneFrame}
+use Rattle.refusal.specs.declared.Refusal.the-variants.{BadBuffer, OutOfTurn, RunFull, BadTable, NoTable, NoRow, TooShort, BadSubBlocks, NoSuchField, NotOneFrame, BadValues, NoRoom}
 
--- D9: each refusal's number, R1 to R10
+-- D9: each refusal's number, R1 to R12
 abbrev pub numberFor : Refusal → ℕ
 numberFor BadBuffer = 1
 numberFor OutOfTurn = 2
@@ -19,11 +19,13 @@ numberFor TooShort = 7
 numberFor BadSubBlocks = 8
 numberFor NoSuchField = 9
 numberFor NotOneFrame = 10
+numberFor BadValues = 11
+numberFor NoRoom = 12
 
 -- the refusals in the order of their numbers, and the one of a number
 abbrev pub refusals : List Refusal
 refusals =
-    BadBuffer ∷ OutOfTurn ∷ RunFull ∷ BadTable ∷ NoTable ∷ NoRow ∷ TooShort ∷ BadSubBlocks ∷ NoSuchField ∷ NotOneFrame ∷ []
+    BadBuffer ∷ OutOfTurn ∷ RunFull ∷ BadTable ∷ NoTable ∷ NoRow ∷ TooShort ∷ BadSubBlocks ∷ NoSuchField ∷ NotOneFrame ∷ BadValues ∷ NoRoom ∷ []
 
 abbrev pub refusalNumbered : ℕ → Refusal
 refusalNumbered n = getD refusals (n - 1) BadBuffer

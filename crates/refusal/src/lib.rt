@@ -1,4 +1,4 @@
-// Why a call is refused, and the number of each refusal (rules R1 to R10).
+// Why a call is refused, and the number of each refusal (rules R1 to R12).
 ghost use mathlib.Core.Path.{_≡_};
 ghost use Rattle.refusal.specs.Numbers.{numberFor, NumbersApart};
 
@@ -13,6 +13,8 @@ pub enum Refusal {
     BadSubBlocks,
     NoSuchField,
     NotOneFrame,
+    BadValues,
+    NoRoom,
 }
 
 // The number of a refusal.
@@ -30,6 +32,8 @@ pub fn number(x: Refusal) -> u32
         Refusal::BadSubBlocks => 8,
         Refusal::NoSuchField => 9,
         Refusal::NotOneFrame => 10,
+        Refusal::BadValues => 11,
+        Refusal::NoRoom => 12,
     }
 }
 

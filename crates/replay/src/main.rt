@@ -12,6 +12,7 @@ use console::lines::LineReading;
 use desk::Crcs;
 use desk::Desk;
 use libc::STDERR_FILENO;
+use lists::LineRead;
 use play::Played;
 use play::Turn;
 use script::Asked;
@@ -70,22 +71,97 @@ fn begin_line(s: Script, line: LineReading, out: &[u8; 8192]) -> Script
 
 // Reads a line of n bytes as a call. One that is too long is none, and where no line is played nothing is asked.
 fn read_call(playing: bool, line: &[u8; 270000], n: usize, given: &mut [u8; 135000]) -> Asked
-    ensures { λ r. ⌜ r .count ≤ 135000 ⌝ }
+    ensures { λ r. ⌜ (r .count ≤ 135000) × (r .behind ≤ n) ⌝ }
 {
     if !playing {
         return Asked {
             call: LineCall::Pass,
             count: 0,
+            behind: 0,
         };
     }
     if lines::LONGEST < n {
         return Asked {
             call: LineCall::Bad,
             count: 0,
+            behind: 0,
         };
     }
     let all: &[u8] = line;
     script::read(&all[..n], given)
+}
+
+fn is_write(call: LineCall) -> bool {
+    match call {
+        LineCall::Write => true,
+        _ => false,
+    }
+}
+
+// Reads what Write is given by a line of n bytes. One that is too long asks for no call.
+fn read_values(
+    asked: Asked,
+    line: &[u8; 270000],
+    n: usize,
+    kinds: &mut [u8; 135000],
+    bits: &mut [u64; 135000],
+) -> LineRead
+    requires { ⌜ asked .behind ≤ n ⌝ }
+    ensures { λ r. ⌜ r .count ≤ 135000 ⌝ }
+{
+    if lines::LONGEST < n {
+        return lists::no_line();
+    }
+    let all: &[u8] = line;
+    let from = asked.behind;
+    lists::read(&all[from..n], kinds, bits)
+}
+
+// Reads and plays a Write.
+fn play_write(
+    desk: Desk,
+    asked: Asked,
+    line: &[u8; 270000],
+    n: usize,
+    kinds: &mut [u8; 135000],
+    bits: &mut [u64; 135000],
+    force: &[u8; 8192],
+    block: &mut [u8; 65536],
+) -> Played
+    requires { ⌜ asked .behind ≤ n ⌝ }
+    ensures { λ r. ⌜ T (plain (r .turn)) ⌝ }
+{
+    let values = read_values(asked, line, n, kinds, bits);
+    let k = values.count;
+    let all_kinds: &[u8] = kinds;
+    let all_bits: &[u64] = bits;
+    play::write_call(desk, values, &all_kinds[..k], &all_bits[..k], force, block)
+}
+
+// Plays what was asked by a line of n bytes.
+fn play_call(
+    desk: Desk,
+    asked: Asked,
+    line: &[u8; 270000],
+    n: usize,
+    given: &[u8; 135000],
+    kinds: &mut [u8; 135000],
+    bits: &mut [u64; 135000],
+    hold: &mut [u8; 65536],
+    force: &mut [u8; 8192],
+    waiting: &mut [u8; 8192],
+    block: &mut [u8; 65536],
+) -> Played
+    requires { ⌜ (asked .count ≤ 135000) × (asked .behind ≤ n) ⌝ }
+    ensures { λ r. ⌜ T (plain (r .turn)) ⌝ }
+{
+    let call = asked.call;
+    if is_write(call) {
+        return play_write(desk, asked, line, n, kinds, bits, force, block);
+    }
+    let count = asked.count;
+    let all: &[u8] = given;
+    play::call(desk, call, &all[..count], hold, force, waiting)
 }
 
 // The CRCs of the whole buffers, after a call that may write. No other line prints any.
@@ -159,20 +235,32 @@ fn play_line(
     n: usize,
     line: &[u8; 270000],
     given: &mut [u8; 135000],
+    kinds: &mut [u8; 135000],
+    bits: &mut [u64; 135000],
     hold: &mut [u8; 65536],
     force: &mut [u8; 8192],
     waiting: &mut [u8; 8192],
+    block: &mut [u8; 65536],
     out: &mut [u8; 8192],
 ) -> Script
     requires { ⌜ (s .filled ≤ 8192) × (s .at + 320 ≤ 8192) ⌝ }
     ensures { λ r. ⌜ r .filled ≤ 8192 ⌝ }
 {
     let asked = read_call(s.playing, line, n, given);
-    let call = asked.call;
-    let count = asked.count;
     let desk = s.desk;
-    let all: &[u8] = given;
-    let played = play::call(desk, call, &all[..count], hold, force, waiting);
+    let played = play_call(
+        desk,
+        asked,
+        line,
+        n,
+        given,
+        kinds,
+        bits,
+        hold,
+        force,
+        waiting,
+        block,
+    );
     let turn = played.turn;
     end_line(s, played, crcs_after(turn, hold, force, waiting), out)
 }
@@ -182,9 +270,12 @@ fn play_all(
     buf: &mut [u8; 65536],
     line: &mut [u8; 270000],
     given: &mut [u8; 135000],
+    kinds: &mut [u8; 135000],
+    bits: &mut [u64; 135000],
     hold: &mut [u8; 65536],
     force: &mut [u8; 8192],
     waiting: &mut [u8; 8192],
+    block: &mut [u8; 65536],
     out: &mut [u8; 8192],
 ) -> Script
     ensures { λ r. ⌜ r .filled ≤ 8192 ⌝ }
@@ -195,7 +286,19 @@ fn play_all(
     while turns > 0 {
         reading = lines::next_line(reading, buf, line);
         now = begin_line(now, reading, out);
-        now = play_line(now, reading.length, line, given, hold, force, waiting, out);
+        now = play_line(
+            now,
+            reading.length,
+            line,
+            given,
+            kinds,
+            bits,
+            hold,
+            force,
+            waiting,
+            block,
+            out,
+        );
         turns = console::left(turns, now.playing);
     }
     now
@@ -206,17 +309,23 @@ fn main() {
     let mut buf = [0u8; 65536];
     let mut line = [0u8; 270000];
     let mut given = [0u8; 135000];
+    let mut kinds = [0u8; 135000];
+    let mut bits = [0u64; 135000];
     let mut hold = [0xa5u8; 65536];
     let mut force = [0x5au8; 8192];
     let mut waiting = [0x3cu8; 8192];
+    let mut block = [0xc3u8; 65536];
     let mut out = [0u8; 8192];
     let last = play_all(
         &mut buf,
         &mut line,
         &mut given,
+        &mut kinds,
+        &mut bits,
         &mut hold,
         &mut force,
         &mut waiting,
+        &mut block,
         &mut out,
     );
     let course = last.course;

@@ -9,6 +9,7 @@ use lib.Dec.{ltb, eqb}
 use Rattle.frame.specs.Judge.{judged}
 use Rattle.scan.specs.Settle.{settle}
 use Rattle.feed.specs.Hold.{restOf}
+pub use Rattle.table.specs.Lists.{isSome}
 use Rattle.reader.specs.State.{limit, sound}
 use Rattle.reader.specs.Refusals.{need, isClosed, longHold}
 use Rattle.reader.specs.declared.Phase.{Phase}
@@ -20,10 +21,6 @@ abbrev pub isFeeding : Phase → Bool
 isFeeding Closed = false
 isFeeding Feeding = true
 isFeeding Finishing = false
-
-abbrev pub isSome : {A : Type 0} → Option A → Bool
-isSome none = false
-isSome (some x) = true
 
 -- R20: 1, 2, 3; what R3 asks of the held bytes, it asks without the standing block
 unfoldable pub feedRefusal : State → List ℕ → List ℕ → Option ℕ

@@ -1,13 +1,16 @@
--- The samples S1 to S10, and the bytes of S11, as one table of cases.
+-- The samples S1 to S10, and the bytes of S11, as one table of cases; and blocks of S8 and S9 written by Write.
 -- Each case is a transcript of calls on a new reader. To add one, add its lines to `cases`.
 -- Assumes nothing.
 use Prim.Native.Nat.{ℕ}
 use mathlib.Core.Path.{_≡_}
 use mathlib.Core.List.{List, [], _∷_, _++_, map}
 use mathlib.Core.Option.{none, some}
+use lib.ListN.{replicate}
 use Rattle.record.specs.Answer.{single, unsigned, doNotUse}
-use Rattle.demands.specs.World.{stage, bytes, body, sub, subBytes, tow, wnc, openRun, feed, finish, table, look, part, value, _⇒_}
-use Rattle.samples.specs.Transcript.{Transcript, replayed, versionIs, moreIs, blockIs, foundIs, endIs, refusalIs, report}
+use Rattle.entry.specs.Wanted.{Wanted}
+use Rattle.draft.specs.Draft.{Draft}
+use Rattle.demands.specs.World.{stage, bytes, body, sub, subBytes, tow, wnc, write, openRun, feed, finish, table, look, part, value, _⇒_}
+use Rattle.samples.specs.Transcript.{Transcript, replayed, versionIs, moreIs, blockIs, foundIs, endIs, refusalIs, wroteIs, unwrittenIs, report}
 use Rattle.answers.specs.Samples.{sampleB, twelve}
 
 -- S3
@@ -59,6 +62,15 @@ noneMarked =
     -- 65534; D09502F8
     ∷ 0xFE ∷ 0xFF ∷ 0xF8 ∷ 0x02 ∷ 0x95 ∷ 0xD0 ∷ []
 
+-- W1: a draft of revision 0 with TOW and WNc 0, and without sub-blocks
+abbrev pub draftOfBody : ℕ → List Wanted → Draft
+draftOfBody number ws =
+    record { number = number; revision = 0; tow = some (unsigned 0); wnc = some (unsigned 0); body = ws; subs = [] }
+
+-- the values of `noneMarked`
+abbrev pub nearMarks : List Wanted
+nearMarks = some (unsigned 65534) ∷ some (single 0xD09502F8) ∷ []
+
 -- each case begins on a new reader, whose first run is opened with the table
 abbrev pub run : Transcript → Transcript
 run rest = table (stage sampleFile) ⇒ versionIs 1 ∷ openRun ⇒ versionIs 1 ∷ rest
@@ -96,6 +108,13 @@ cases =
     ∷ run (look (body id3717 0) ⇒ refusalIs 6 ∷ [])
     -- S11: the lister's ten bytes
     ∷ run (feed (0x00 ∷ sampleB ++ 0x24 ∷ []) ⇒ blockIs 9 (report 1 0 0 8) ∷ feed (0x24 ∷ []) ⇒ moreIs 1 ∷ finish ⇒ endIs 10 1 2 ∷ [])
+    -- W1: unset fields are written as Do-Not-Use, the bytes behind the block stay; and the neighbours of S8 and S9
+    ∷ run (look (write (draftOfBody 0 []) (replicate 22 7)) ⇒ wroteIs 20 (allMarked ++ 7 ∷ 7 ∷ []) ∷ [])
+    ∷ run (look (write (draftOfBody 0 nearMarks) (replicate 20 7)) ⇒ wroteIs 20 noneMarked ∷ [])
+    -- 6 for a number without a row; 11 for a value that is Do-Not-Use, and before 12; 12 for one byte too few
+    ∷ run (look (write (draftOfBody 1 []) (replicate 20 7)) ⇒ unwrittenIs 6 (replicate 20 7) ∷ [])
+    ∷ run (look (write (draftOfBody 0 (some (unsigned 65535) ∷ [])) (replicate 19 7)) ⇒ unwrittenIs 11 (replicate 19 7) ∷ [])
+    ∷ run (look (write (draftOfBody 0 []) (replicate 19 7)) ⇒ unwrittenIs 12 (replicate 19 7) ∷ [])
     ∷ []
 
 abbrev pub SamplesHold : Type 0

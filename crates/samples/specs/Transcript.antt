@@ -7,7 +7,8 @@ use lib.ListN.{replicate}
 use Rattle.record.specs.Answer.{fieldRefused}
 use Rattle.reader.specs.Said.{Report, version, took, found, ended}
 use Rattle.reader.specs.State.{newState}
-use Rattle.demands.specs.World.{World, Reply, said, value, Line, trace}
+use Rattle.writer.specs.Write.{wrote, writeOutcome, refusesWrite}
+use Rattle.demands.specs.World.{World, Reply, said, value, penned, Line, trace}
 
 -- C2, C15: a new reader, lent the shortest buffers allowed, full of bytes 7
 unfoldable pub newWorld : World
@@ -43,6 +44,14 @@ endIs bytes blocks skipped = said (ended (record { taken = bytes; blocks = block
 -- V7: a record call is refused
 abbrev pub refusalIs : ℕ → Reply
 refusalIs n = value (fieldRefused n)
+
+-- W1: Write answers a length, and leaves this buffer
+abbrev pub wroteIs : ℕ → List ℕ → Reply
+wroteIs n buffer = penned (writeOutcome (wrote n) buffer)
+
+-- R21: Write is refused, and leaves this buffer
+abbrev pub unwrittenIs : ℕ → List ℕ → Reply
+unwrittenIs n buffer = penned (refusesWrite n buffer)
 
 -- C7: what Block has
 abbrev pub report : ℕ → ℕ → ℕ → ℕ → Report

@@ -1,6 +1,7 @@
 // A script's lines: each is read as a call. Its first word says which, and the words behind it are read as that call asks. Words are
 // matched by their keys (`words::keys_hold`).
 ghost use Prim.Native.Nat.{_≤_};
+ghost use mathlib.Core.Path.{_≡_};
 ghost use lib.ListN.{length};
 use words::Decimal;
 use words::Decoded;
@@ -9,6 +10,7 @@ pub enum Buffer {
     Hold,
     InForce,
     Waiting,
+    Out,
     Unknown,
 }
 
@@ -44,21 +46,24 @@ pub enum Ask {
     Wnc,
 }
 
-// What a line asks for. `Pass` is an empty line or a comment, `Bad` no call at all.
+// What a line asks for. `Pass` is an empty line or a comment, `Bad` no call at all. What `Write` is given is read by itself (crate
+// `lists`), and where that cannot be read the line is bad.
 pub enum LineCall {
     Pass,
     Bad,
     Run(RunCall),
     Ask(Ask),
+    Write,
     Poke(StateNumber, u64),
     Put(Buffer, u64),
     Size(Buffer, u64),
 }
 
-// A call, and how many bytes it is given.
+// A call, how many bytes it is given, and where the text behind its first word begins.
 pub struct Asked {
     pub call: LineCall,
     pub count: usize,
+    pub behind: usize,
 }
 
 // A word of a line: its key, its value as a number, and where the text behind its space begins. `leads` says that it is a number with
@@ -114,6 +119,7 @@ fn buffer_of(key: u64) -> Buffer {
         0x686f6c64 => Buffer::Hold, // hold
         0x666f726365 => Buffer::InForce, // force
         0x77616974696e67 => Buffer::Waiting, // waiting
+        0x6f7574 => Buffer::Out, // out
         _ => Buffer::Unknown,
     }
 }
@@ -134,6 +140,15 @@ fn number_named(key: u64) -> StateNumber {
 
 fn is_known(b: Buffer) -> bool {
     match b {
+        Buffer::Unknown => false,
+        _ => true,
+    }
+}
+
+// Bytes are put into the reader's buffers, and not into the one that Write writes.
+fn can_put(b: Buffer) -> bool {
+    match b {
+        Buffer::Out => false,
         Buffer::Unknown => false,
         _ => true,
     }
@@ -165,7 +180,7 @@ fn whether(holds: bool, call: LineCall, words: u8) -> Head {
 }
 
 // A call by its first word, with the two words behind it as that call asks: `body FIELD HEX`, `sub SUBBLOCK FIELD HEX`,
-// `subbytes SUBBLOCK HEX`, `poke NAME VALUE`, `put hold|force|waiting OFFSET HEX`, `size hold|force|waiting N`.
+// `subbytes SUBBLOCK HEX`, `poke NAME VALUE`, `put hold|force|waiting OFFSET HEX`, `size hold|force|waiting|out N`.
 fn begun(first: Word, second: Word, third: Word) -> Head {
     let key = first.key;
     let alone = first.is_last;
@@ -185,8 +200,9 @@ fn begun(first: Word, second: Word, third: Word) -> Head {
         0x626f6479 => whether(second.leads, LineCall::Ask(Ask::Body(n)), 2), // body
         0x7375626279746573 => whether(second.leads, LineCall::Ask(Ask::SubBytes(n)), 2), // subbytes
         0x737562 => whether(second.leads & third.leads, LineCall::Ask(Ask::Sub(n, m)), 3), // sub
+        0x7772697465 => whether(!alone, LineCall::Write, 0), // write
         0x706f6b65 => whether(third.ends & can_poke(part, m), LineCall::Poke(part, m), 0), // poke
-        0x707574 => whether(third.leads & is_known(buffer), LineCall::Put(buffer, m), 3), // put
+        0x707574 => whether(third.leads & can_put(buffer), LineCall::Put(buffer, m), 3), // put
         0x73697a65 => whether(third.ends & is_known(buffer), LineCall::Size(buffer, m), 0), // size
         _ => whether(false, LineCall::Bad, 0),
     }
@@ -205,36 +221,41 @@ fn start(words: u8, first: usize, second: usize, third: usize) -> usize
 }
 
 // A call that is given no bytes.
-fn bare(call: LineCall) -> Asked
-    ensures { λ r. ⌜ r .count ≤ 135000 ⌝ }
+fn bare(call: LineCall, behind: usize) -> Asked
+    ensures { λ r. ⌜ (r .count ≤ 135000) × (r .behind ≡ behind) ⌝ }
 {
-    Asked { call, count: 0 }
+    Asked {
+        call,
+        count: 0,
+        behind,
+    }
 }
 
 // A call whose last word is read as bytes.
-fn with_bytes(call: LineCall, read: Decoded) -> Asked
+fn with_bytes(call: LineCall, read: Decoded, behind: usize) -> Asked
     requires { ⌜ read .count ≤ 135000 ⌝ }
-    ensures { λ r. ⌜ r .count ≤ 135000 ⌝ }
+    ensures { λ r. ⌜ (r .count ≤ 135000) × (r .behind ≡ behind) ⌝ }
 {
     if read.is_hex {
         return Asked {
             call,
             count: read.count,
+            behind,
         };
     }
-    bare(LineCall::Bad)
+    bare(LineCall::Bad, behind)
 }
 
 // A line without its line feed; the bytes that the call is given go to the start of `given`.
 pub fn read(line: &[u8], given: &mut [u8; 135000]) -> Asked
     requires { ⌜ length (now line) ≤ 270000 ⌝ }
-    ensures { λ r. ⌜ r .count ≤ 135000 ⌝ }
+    ensures { λ r. ⌜ (r .count ≤ 135000) × (r .behind ≤ length (now (line .entry))) ⌝ }
 {
     if line.len() == 0 {
-        return bare(LineCall::Pass);
+        return bare(LineCall::Pass, 0);
     }
     if line[0] == b'#' {
-        return bare(LineCall::Pass);
+        return bare(LineCall::Pass, 0);
     }
     let first = word_at(line, 0);
     let second = word_at(line, first.next);
@@ -242,8 +263,8 @@ pub fn read(line: &[u8], given: &mut [u8; 135000]) -> Asked
     let head = begun(first, second, third);
     let call = head.call;
     if head.words == 0 {
-        return bare(call);
+        return bare(call, first.next);
     }
     let from = start(head.words, first.next, second.next, third.next);
-    with_bytes(call, words::bytes(&line[from..], given))
+    with_bytes(call, words::bytes(&line[from..], given), first.next)
 }

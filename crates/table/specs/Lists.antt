@@ -1,6 +1,7 @@
--- Lists: what stands at each index, what holds of every element and of every two neighbours, the first that a test holds of.
+-- Lists: what stands at each index, what holds of every element and of every two neighbours, the first that a test holds of; and whether
+-- there is something.
 -- Assumes nothing.
-use mathlib.Core.Bool.{Bool, true, _&&_, cond}
+use mathlib.Core.Bool.{Bool, true, false, _&&_, cond}
 use mathlib.Core.List.{List, [], _∷_}
 use mathlib.Core.Option.{Option, none, some}
 use Prim.Native.Nat.{ℕ, zero, suc, _+_}
@@ -34,3 +35,7 @@ unfoldable pub pick : {A : Type 0} → List A → ℕ → Option A
 pick [] k = none
 pick (x ∷ xs) zero = some x
 pick (x ∷ xs) (suc k) = pick xs k
+
+abbrev pub isSome : {A : Type 0} → Option A → Bool
+isSome none = false
+isSome (some x) = true

@@ -1,4 +1,4 @@
--- The lines of the calls that are lent nothing to write, byte by byte (docs/REPLAY.md).
+-- The lines of the calls that are lent none of the reader's buffers to write, byte by byte (docs/REPLAY.md).
 -- Assumes nothing.
 use Prim.Native.Nat.{ℕ}
 use mathlib.Core.List.{List, [], _∷_, _++_}
@@ -15,16 +15,21 @@ use Rattle.desk.specs.declared.AskReply.the-variants as ask
 abbrev pub wordPart : List ℕ
 wordPart = 112 ∷ 97 ∷ 114 ∷ 116 ∷ []
 
+-- `written`
+abbrev pub wordWritten : List ℕ
+wordWritten = 119 ∷ 114 ∷ 105 ∷ 116 ∷ 116 ∷ 101 ∷ 110 ∷ []
+
 -- ` | - - -`, and the line's end
 abbrev pub wordNoCrcs : List ℕ
 wordNoCrcs = 32 ∷ 124 ∷ 32 ∷ 45 ∷ 32 ∷ 45 ∷ 32 ∷ 45 ∷ 10 ∷ []
 
--- how many bytes the part has, and their CRC
-abbrev pub bytesText : PartCrc → List ℕ
-bytesText b = wordPart ++ spaced (b .count) ++ crcText (b .crc)
+-- a word, how many bytes, and a CRC
+abbrev pub bytesText : List ℕ → PartCrc → List ℕ
+bytesText w b = w ++ spaced (b .count) ++ crcText (b .crc)
 
 -- what such a call replies
 abbrev pub askText : AskReply → List ℕ
 askText (ask.Field a) = fieldText (answerSays a)
-askText (ask.Bytes b) = bytesText b
+askText (ask.Bytes b) = bytesText wordPart b
+askText (ask.Written b) = bytesText wordWritten b
 askText (ask.Refused r) = refusedText (numberFor r)

@@ -1,9 +1,10 @@
-// The lines of the calls that are lent nothing to write: what a field answers, or how many bytes were handed back.
+// The lines of the calls that are lent none of the reader's buffers to write: what a field answers, how many bytes were handed back,
+// or how long a block was written.
 ghost use Prim.Native.Nat.{_+_, _≤_};
 ghost use mathlib.Core.Path.{_≡_};
 ghost use mathlib.Core.List.{_++_};
 ghost use lib.Dec.{T};
-ghost use lib.ListN.{take};
+ghost use lib.ListN.{length, take};
 ghost use Rattle.record.specs.Answer.{valueSays};
 ghost use Rattle.value.specs.Said.{noNan};
 ghost use Rattle.desk.specs.Plain.{plainly};
@@ -44,17 +45,17 @@ fn put_value(out: &mut [u8; 8192], at: usize, v: Value) -> usize
     }
 }
 
-// Bytes that were handed back: how many, and their CRC.
-fn bytes(out: &mut [u8; 8192], at: usize, b: PartCrc) -> usize
-    requires { ⌜ at + 120 ≤ 8192 ⌝ }
+// A word, how many bytes, and a CRC.
+fn bytes(out: &mut [u8; 8192], at: usize, word: &[u8], b: PartCrc) -> usize
+    requires { ⌜ (at + 120 ≤ 8192) × (length (now word) ≤ 90) ⌝ }
     ensures { λ r. ⌜ r ≤ at + 120 ⌝ }
-    ensures { λ r. ⌜ take r (now (out .exit)) ≡ take at (now (out .entry)) ++ bytesText b ⌝ }
+    ensures { λ r. ⌜ take r (now (out .exit)) ≡ take at (now (out .entry)) ++ bytesText (now (word .entry)) b ⌝ }
 {
-    let count = text::word_number(out, at, b"part", b.count as u64);
+    let count = text::word_number(out, at, word, b.count as u64);
     text::crc(out, count, b.crc)
 }
 
-// What a call replies that is lent nothing to write.
+// What such a call replies.
 fn ask_reply(out: &mut [u8; 8192], at: usize, reply: AskReply) -> usize
     requires { ⌜ T (plainly reply) ⌝ }
     requires { ⌜ at + 120 ≤ 8192 ⌝ }
@@ -66,12 +67,13 @@ fn ask_reply(out: &mut [u8; 8192], at: usize, reply: AskReply) -> usize
             Answer::Field(v) => put_value(out, at, v),
             Answer::Refused(why) => phrases::refused(out, at, why),
         },
-        AskReply::Bytes(b) => bytes(out, at, b),
+        AskReply::Bytes(b) => bytes(out, at, b"part", b),
+        AskReply::Written(b) => bytes(out, at, b"written", b),
         AskReply::Refused(why) => phrases::refused(out, at, why),
     }
 }
 
-// The line of a call that is lent nothing to write.
+// The line of such a call.
 pub fn ask_line(out: &mut [u8; 8192], at: usize, reply: AskReply, state: State) -> usize
     requires { ⌜ T (plainly reply) ⌝ }
     requires { ⌜ at + 320 ≤ 8192 ⌝ }

@@ -30,12 +30,14 @@ KeysHold =
     × Key "body" 0x626f6479
     × Key "subbytes" 0x7375626279746573
     × Key "sub" 0x737562
+    × Key "write" 0x7772697465
     × Key "poke" 0x706f6b65
     × Key "put" 0x707574
     × Key "size" 0x73697a65
     × Key "hold" 0x686f6c64
     × Key "force" 0x666f726365
     × Key "waiting" 0x77616974696e67
+    × Key "out" 0x6f7574
     × Key "phase" 0x7068617365
     × Key "waits" 0x7761697473
     × Key "held" 0x68656c64

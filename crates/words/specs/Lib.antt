@@ -1,3 +1,4 @@
 pub mod Theorems
 pub mod Words
+pub mod Values
 pub mod Keys

@@ -1,9 +1,12 @@
-// The words of a line: where one ends, its key, decimal numbers, bytes in hex; and the keys of a script's words.
+// The words of a line: where one ends, its key, decimal numbers, the values of a `write`, bytes in hex; and the keys of a script's
+// words.
 ghost use Prim.Native.Nat.{_+_, _≤_};
 ghost use mathlib.Core.Path.{_≡_};
+ghost use mathlib.Core.Option.{none};
 ghost use lib.ListN.{length, take};
 ghost use Rattle.io.specs.Counts.{Counts};
 ghost use Rattle.words.specs.Words.{upTo, keyOf, numberSays, addDigit, decimalIn, hexDigit, bytesSay, bytesFrom, bytesIn};
+ghost use Rattle.words.specs.Values.{fromZero, belowZero, signedNumberIn, valuedSays, ofKind, letterIs, loneIs, valueIn, isDash, stampIn};
 ghost use Rattle.words.specs.Keys.{KeysHold};
 ghost use Rattle.words.specs.Theorems.{KeysApart};
 
@@ -89,6 +92,139 @@ pub fn number(word: &[u8]) -> Decimal
         i += 1;
     }
     Decimal::Value(v)
+}
+
+// A number without a minus, as 64 bits with sign.
+fn from_zero(d: Decimal) -> Decimal
+    ensures { λ r. ⌜ numberSays r ≡ fromZero (numberSays d) ⌝ }
+{
+    match d {
+        Decimal::NoNumber => Decimal::NoNumber,
+        Decimal::Value(n) => {
+            if n < 0x8000_0000_0000_0000 {
+                return Decimal::Value(n);
+            }
+            Decimal::NoNumber
+        }
+    }
+}
+
+// A number behind a minus, as 64 bits with sign.
+fn below_zero(d: Decimal) -> Decimal
+    ensures { λ r. ⌜ numberSays r ≡ belowZero (numberSays d) ⌝ }
+{
+    match d {
+        Decimal::NoNumber => Decimal::NoNumber,
+        Decimal::Value(n) => {
+            if n == 0 {
+                return Decimal::Value(0);
+            }
+            if 0x8000_0000_0000_0000 < n {
+                return Decimal::NoNumber;
+            }
+            Decimal::Value(0xffff_ffff_ffff_ffff - (n - 1))
+        }
+    }
+}
+
+// A word as a decimal number with sign, as 64 bits.
+fn signed_number(word: &[u8]) -> Decimal
+    ensures { λ r. ⌜ numberSays r ≡ signedNumberIn (now (word .entry)) ⌝ }
+{
+    if word.len() == 0 {
+        return Decimal::NoNumber;
+    }
+    if word[0] == 45 {
+        return below_zero(number(&word[1..]));
+    }
+    from_zero(number(word))
+}
+
+// What a word of a `write` is read as: a kind and its bits (rules W2, W3), or that it is no value.
+pub struct Valued {
+    pub is_value: bool,
+    pub kind: u8,
+    pub bits: u64,
+}
+
+fn no_value() -> Valued
+    ensures { λ r. ⌜ valuedSays r ≡ none ⌝ }
+{
+    Valued {
+        is_value: false,
+        kind: 0,
+        bits: 0,
+    }
+}
+
+fn of_kind(kind: u8, d: Decimal) -> Valued
+    ensures { λ r. ⌜ valuedSays r ≡ ofKind kind (numberSays d) ⌝ }
+{
+    match d {
+        Decimal::NoNumber => no_value(),
+        Decimal::Value(bits) => Valued {
+            is_value: true,
+            kind,
+            bits,
+        },
+    }
+}
+
+// A word of one byte.
+fn lone(c: u8) -> Valued
+    ensures { λ r. ⌜ valuedSays r ≡ loneIs c ⌝ }
+{
+    match c {
+        45 => of_kind(0, Decimal::Value(0)), // -
+        47 => of_kind(255, Decimal::Value(0)), // /
+        _ => no_value(),
+    }
+}
+
+// A letter, and the word behind it.
+fn lettered(c: u8, word: &[u8]) -> Valued
+    ensures { λ r. ⌜ valuedSays r ≡ letterIs c (now (word .entry)) ⌝ }
+{
+    match c {
+        117 => of_kind(1, number(word)), // u
+        105 => of_kind(2, signed_number(word)), // i
+        102 => of_kind(3, number(word)), // f
+        100 => of_kind(4, number(word)), // d
+        _ => no_value(),
+    }
+}
+
+// A word as a value, or as the sign that a sub-block begins.
+pub fn value(word: &[u8]) -> Valued
+    ensures { λ r. ⌜ valuedSays r ≡ valueIn (now (word .entry)) ⌝ }
+{
+    if word.len() == 0 {
+        return no_value();
+    }
+    if word.len() == 1 {
+        return lone(word[0]);
+    }
+    lettered(word[0], &word[1..])
+}
+
+// Whether a word is `-` alone.
+fn is_dash(word: &[u8]) -> bool
+    ensures { λ r. ⌜ r ≡ isDash (now (word .entry)) ⌝ }
+{
+    if word.len() != 1 {
+        return false;
+    }
+    word[0] == 45
+}
+
+// A word as TOW or WNc.
+pub fn stamp(word: &[u8]) -> Valued
+    ensures { λ r. ⌜ valuedSays r ≡ stampIn (now (word .entry)) ⌝ }
+{
+    if is_dash(word) {
+        return of_kind(0, Decimal::Value(0));
+    }
+    of_kind(1, number(word))
 }
 
 // The value of a hex digit in either case; 16 where it is none.

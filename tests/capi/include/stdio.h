@@ -1,4 +1,4 @@
-/* A stand-in for what samples/example.c uses of the C library's header: the kit's clang has no headers. */
+/* A stand-in for what the examples in samples/ use of the C library's header: the kit's clang has no headers. */
 #ifndef STAND_IN_STDIO_H
 #define STAND_IN_STDIO_H
 #include <stddef.h>

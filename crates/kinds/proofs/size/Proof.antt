@@ -17,11 +17,13 @@ sub-k c = search needs
 cast-k : tie.Need-cast-k
 cast-k c = search needs
 
-mul-result : tie.Need-mul-result
-mul-result c = search needs
+array-read-n : tie.Need-array-read-n
+array-read-n c = search needs
 
-array-read-result : tie.Need-array-read-result
-array-read-result c = search needs
+cast-result : tie.Need-cast-result
+cast-result c =
+    let k = c .before .before .args .kind in
+    record { fits = omega (arith, size-in k (c .before .if1 .left), size-most k) }
 
 returns-2 : tie.Need-returns-2
 returns-2 c =
@@ -33,5 +35,4 @@ returns-3 : tie.Need-returns-3
 returns-3 c = (size-over _ (omega arith), omega arith)
 
 pub size-spec : {M : Type 1} → statement M
-size-spec =
-    tie.close (tie.spec returns sub-k cast-k mul-result array-read-result returns-2 returns-3)
+size-spec = tie.close (tie.spec returns sub-k cast-k array-read-n cast-result returns-2 returns-3)

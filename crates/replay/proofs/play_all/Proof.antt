@@ -6,11 +6,11 @@ use Rattle.replay.proofs.play_all.Statement.{statement}
 use Rattle.replay.proofs.play_all.Tie as tie
 
 abbrev Inv-loop : tie.InvT-loop
-Inv-loop buf₀ line₀ given₀ hold₀ force₀ waiting₀ out₀ now₀ reading₀ turns₀ buf line given hold force waiting out now reading turns =
+Inv-loop buf₀ line₀ given₀ kinds₀ bits₀ hold₀ force₀ waiting₀ block₀ out₀ now₀ reading₀ turns₀ buf line given kinds bits hold force waiting block out now reading turns =
     (now .filled ≤ 8192) × (reading .at ≤ reading .count) × (reading .count ≤ 65536)
 
 abbrev μ-loop : tie.MeasureT-loop
-μ-loop buf₀ line₀ given₀ hold₀ force₀ waiting₀ out₀ now₀ reading₀ turns₀ buf line given hold force waiting out now reading turns = turns
+μ-loop buf₀ line₀ given₀ kinds₀ bits₀ hold₀ force₀ waiting₀ block₀ out₀ now₀ reading₀ turns₀ buf line given kinds bits hold force waiting block out now reading turns = turns
 
 new-requires : tie.Need-new-requires Inv-loop μ-loop
 new-requires c κs = search needs
@@ -43,7 +43,9 @@ loop-less : tie.Need-loop-less Inv-loop μ-loop
 loop-less c = search needs
 
 loop-again : tie.Need-loop-again Inv-loop μ-loop
-loop-again c = search needs
+loop-again c =
+    let n = c .before .before .before .before .before .before .before .before .before .before .before .before .before .next-line in
+    (c .before .play-line .ensures, n .ensures .0, n .ensures .1)
 
 returns : tie.Need-returns Inv-loop μ-loop
 returns c = search needs

@@ -24,7 +24,9 @@ read-requires c κs =
     omega (arith, length-take-le (a .n) (a .line .now) (omega arith))
 
 returns-3 : tie.Need-returns-3
-returns-3 c = search needs
+returns-3 c =
+    let a = c .before .before .before .before .before .before .args in
+    (c .read .ensures .0, omega (arith, c .read .ensures .1, length-take-le (a .n) (a .line .now) (omega arith)))
 
 pub read-call-spec : {M : Type 1} → statement M
 read-call-spec =

@@ -33,11 +33,23 @@ refused-requires c κs = search needs
 enum-known-reply-2 : tie.Need-enum-known-reply-2
 enum-known-reply-2 c = search needs
 
+slice-aggregate-bytes : tie.Need-slice-aggregate-bytes
+slice-aggregate-bytes c = search needs
+
 bytes-requires : tie.Need-bytes-requires
 bytes-requires c κs = search needs
 
 enum-known-reply-3 : tie.Need-enum-known-reply-3
 enum-known-reply-3 c = search needs
+
+slice-aggregate-bytes-2 : tie.Need-slice-aggregate-bytes-2
+slice-aggregate-bytes-2 c = search needs
+
+bytes-requires-2 : tie.Need-bytes-requires-2
+bytes-requires-2 c κs = search needs
+
+enum-known-reply-4 : tie.Need-enum-known-reply-4
+enum-known-reply-4 c = search needs
 
 refused-requires-2 : tie.Need-refused-requires-2
 refused-requires-2 c κs = search needs
@@ -58,13 +70,18 @@ returns-2 c =
 
 returns-3 : tie.Need-returns-3
 returns-3 c =
-    let b = c .before .before .before .before .before in
-    (omega (arith, c .bytes .ensures .0, b .pre), rw (c .before .before .before .reply2 .given .1) (c .bytes .ensures .1))
+    let b = c .before .before .before .before .before .before in
+    (omega (arith, c .bytes .ensures .0, b .pre), rw (c .before .before .before .before .reply2 .given .1) (c .bytes .ensures .1))
 
 returns-4 : tie.Need-returns-4
 returns-4 c =
+    let b = c .before .before .before .before .before .before in
+    (omega (arith, c .bytes2 .ensures .0, b .pre), rw (c .before .before .before .before .reply3 .given .1) (c .bytes2 .ensures .1))
+
+returns-5 : tie.Need-returns-5
+returns-5 c =
     let b = c .before .before .before .before .before in
-    (omega (arith, c .refused2 .ensures .0, b .pre), rw (c .before .before .before .reply3 .given .1) (c .refused2 .ensures .1))
+    (omega (arith, c .refused2 .ensures .0, b .pre), rw (c .before .before .before .reply4 .given .1) (c .refused2 .ensures .1))
 
 pub ask-reply-spec : {M : Type 1} → statement M
 ask-reply-spec =
@@ -76,10 +93,15 @@ ask-reply-spec =
     enum-known-a-2
     refused-requires
     enum-known-reply-2
+    slice-aggregate-bytes
     bytes-requires
     enum-known-reply-3
+    slice-aggregate-bytes-2
+    bytes-requires-2
+    enum-known-reply-4
     refused-requires-2
     returns
     returns-2
     returns-3
-    returns-4)
+    returns-4
+    returns-5)

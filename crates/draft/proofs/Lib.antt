@@ -1,0 +1,5 @@
+pub mod Values
+pub mod Walks
+pub mod Ends
+pub mod Drafts
+pub mod Admitted

@@ -1,0 +1,5 @@
+pub mod Ending
+pub mod Laying
+pub mod Filling
+pub mod Low
+pub mod Ends

@@ -1,0 +1,3 @@
+pub mod Block
+pub mod Write
+pub mod Code

@@ -1,0 +1,61 @@
+-- What it says of a draft and a buffer that Write made a block: nothing was refused, and the block is the bytes of its draft.
+-- Assumes nothing.
+use mathlib.Core.Bool.{Bool, true, false, cond}
+use mathlib.Core.List.{List, _++_}
+use mathlib.Core.Option.{Option, some}
+use mathlib.Core.Path.{_≡_, refl, sym, ap, _∙_}
+use Prim.Native.Nat.{ℕ}
+use native.Mathlib.Omega.{arith}
+use lib.ListN.{length, take, drop}
+use lib.Seq.{take-at}
+use Rattle.table.specs.Rows.{BlockRow, Table}
+use Rattle.copy.specs.Over.{over}
+use Rattle.draft.specs.Draft.{Draft, draftOk, blockLength, roomFor}
+use Rattle.writer.specs.Block.{blockBytes}
+use Rattle.writer.specs.Write.{wrote, writeRefused, WriteOutcome, writeOutcome, refusesWrite, writtenBy, writtenOf}
+use Rattle.writing.specs.Theorems.{Made}
+use Rattle.draft.proofs.Admitted.{Admitted, admitted, Roomy, roomy}
+use Rattle.writer.proofs.Lengths.{length-block}
+use Rattle.writing.proofs.Rows.{FoundKept, found-kept}
+
+-- what was written was refused by none of the tests
+pub refused-none : (n m : ℕ) {X : Type 0} → writeRefused n ≡ wrote m → X
+refused-none n m e = let z : _≡_ {A = ℕ} 0 1 = cc e in let f : ⊥ = omega arith in absurd f
+
+by-tests : (a c : Bool) (n m : ℕ) (bytes buffer : List ℕ)
+    → cond a (cond c (writeOutcome (wrote n) bytes) (refusesWrite 12 buffer)) (refusesWrite 11 buffer) .said ≡ wrote m
+    → (a ≡ true) × (c ≡ true)
+by-tests true true n m bytes buffer e = (refl, refl)
+by-tests true false n m bytes buffer e = refused-none 12 m e
+by-tests false c n m bytes buffer e = refused-none 11 m e
+
+pub record Making (tab : Table) (r : BlockRow) (d : Draft) (buffer b : List ℕ) : Type 0 where
+  pub found : FoundKept (d .number) r
+  pub draft : Admitted r d
+  pub room : Roomy r d (length buffer)
+  pub size : length b ≡ blockLength r d
+  pub bytes : b ≡ blockBytes r d
+
+said-by : (n m : ℕ) → wrote n ≡ wrote m → n ≡ m
+said-by n m e = cc e
+
+pub making : (tab : Table) (r : BlockRow) (d : Draft) (buffer b : List ℕ) → Made tab r d buffer b → Making tab r d buffer b
+unfolding writtenOf writtenBy
+making tab r d buffer b m =
+    let f = found-kept tab (d .number) r (m .right) (m .found) in
+    let o : writtenOf tab d buffer ≡ writtenBy (some r) d buffer = ap (λ (x : Option BlockRow). writtenBy x d buffer) (m .found) in
+    let whole = over (blockBytes r d) buffer in
+    let s = ap (λ (x : WriteOutcome). x .said) (sym o) ∙ m .answer in
+    let t = by-tests (draftOk r d) (roomFor r d (length buffer)) (blockLength r d) (length b) whole buffer s in
+    let w : writtenBy (some r) d buffer ≡ writeOutcome (wrote (blockLength r d)) whole = rw (t .0, t .1) in
+    let n : blockLength r d ≡ length b = said-by _ _ (ap (λ (x : WriteOutcome). x .said) (sym (o ∙ w)) ∙ m .answer) in
+    let size : length (blockBytes r d) ≡ length b = length-block r d (f .kept) ∙ n in
+    let front : take (length b) (blockBytes r d ++ drop (length (blockBytes r d)) buffer) ≡ b =
+    ap (λ (x : WriteOutcome). take (length b) (x .buffer)) (sym (o ∙ w)) ∙ m .front in
+    record {
+      found = f;
+      draft = admitted r d (t .0);
+      room = roomy r d (length buffer) (t .1);
+      size = sym n;
+      bytes = sym front ∙ take-at (blockBytes r d) (drop (length (blockBytes r d)) buffer) (length b) size;
+    }

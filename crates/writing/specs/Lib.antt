@@ -1,0 +1,5 @@
+pub mod Holds
+pub mod Theorems
+pub mod Giving
+pub mod Samples
+pub mod InForce
