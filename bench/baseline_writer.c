@@ -6,7 +6,7 @@
 #include <stdint.h>
 
 enum { U1 = 1, U2, U4, U8, I1, I2, I4, I8, F4, F8 };
-enum { NONE, ONES, ZERO, MINUS, LEAST };
+enum { NONE, ONES, ZERO, MINUS, LEAST, SEED };
 enum { SUB_BLOCK = 255 };
 
 typedef struct {
@@ -54,7 +54,7 @@ static inline bool take(list *l, unsigned type, unsigned mark, uint64_t *x)
         return false;
     }
     *x = v;
-    return mark == NONE || v != told;
+    return mark == NONE || (mark == SEED ? v >> 13 != 0 : v != told);
 }
 
 /* Past the last row all is to be unset; the next sub-block begins there, or all has ended. */
@@ -116,7 +116,7 @@ size_t baseline_pvtcartesian(uint8_t *out, size_t room, uint64_t tow, uint64_t w
     ok = ok && take(&l, F8, MINUS, v + 10) && take(&l, F4, MINUS, v + 11);
     for (unsigned i = 12; i < 15; i++) ok = ok && take(&l, U1, ONES, v + i);
     ok = ok && take(&l, U1, ZERO, v + 15) && take(&l, U2, ONES, v + 16) && take(&l, U2, ONES, v + 17) && take(&l, U4, ZERO, v + 18);
-    ok = ok && take(&l, U1, ZERO, v + 19) && take(&l, U1, ZERO, v + 20) && take(&l, U2, ZERO, v + 21);
+    ok = ok && take(&l, U1, ZERO, v + 19) && take(&l, U1, ZERO, v + 20) && take(&l, U2, SEED, v + 21);
     for (unsigned i = 22; i < 25; i++) ok = ok && take(&l, U2, ONES, v + i);
     ok = ok && take(&l, U1, NONE, v + 25);
     if (!ok || !spent(&l) || l.at < l.count || room < 96) return 0;

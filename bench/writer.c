@@ -14,7 +14,7 @@ extern int strcmp(const char *a, const char *b);
 
 static const uint8_t euler_kinds[] = {1, 1, 1, 1, F4}, cartesian_kinds[] = {1, 1, 4, 4, 4, 3, 3, 3, 3, 3, 4, 3, 1, 1, 1, 1, 1, 1, 1, 1, 1, 1, 1, 1, 1, 1};
 static const uint64_t euler_bits[] = {12, 0, 2, 0, 0x42f6e979, 0x3f800000, 0xbf800000, 1, 2, 3};
-static const uint64_t cartesian_bits[] = {4, 0, 0x414e2f9a9fbe76c9, 0x4110d5e04189374c, 0x4153d9a5e353f7cf, 0x42400000, 1, 2, 3, 4, 5, 6, 0, 0, 12, 1, 33, 7, 5, 1, 2, 3, 4, 5, 6, 7};
+static const uint64_t cartesian_bits[] = {4, 0, 0x414e2f9a9fbe76c9, 0x4110d5e04189374c, 0x4153d9a5e353f7cf, 0x42400000, 1, 2, 3, 4, 5, 6, 0, 0, 12, 1, 33, 7, 5, 1, 2, 0x2003, 4, 5, 6, 7};
 #define BASE ALDERFLUTE_GIVE_SUB_BLOCK, 1, 1, 1, 1, 4, 4, 4, 3, 3, 3, 1, 2, 1, 1, 1
 #define BASE_BITS 0, 9, 0, 4, 0, 0x4024000000000000, 0xc024000000000000, 0x3ff0000000000000, 1, 2, 3, 4500, (uint64_t)-700, 11, 12, 13
 static const uint8_t vector_kinds[] = {BASE, BASE, BASE, BASE};

@@ -4,7 +4,7 @@
  * proved against its definition; crates/capi of the repository has both.
  *
  * RULES. What stands here in short stands in docs/RULES.md of the repository in full, by number: how a run is read F11 to F15,
- * calls and buffers C1 to C15, refusal n as Rn, tables T1 to T18, values V1 to V9, writing W1 to W9. The numbers are named
+ * calls and buffers C1 to C15, refusal n as Rn, tables T1 to T18, values V1 to V10, writing W1 to W9. The numbers are named
  * below.
  *
  * WORDS. A run is the bytes from an open to END; a piece is what one feed is given of it, cut anywhere. A block has a number,
@@ -107,9 +107,10 @@
  *     beginning of a sub-block, are not looked at. Where the lists differ in length the kinds count: bits that are missing are
  *     0, and those too many are not looked at.
  *   - Which values are allowed. For a field that the revision carries: unset, where the row has a Do-Not-Use value for it,
- *     which is written then; or a value of the kind that the field reads as, in the range of its type, and not the Do-Not-Use
- *     value itself. A field without a Do-Not-Use value has to be given, a reserved one too. For a field that the revision does
- *     not carry, and past the last row: unset. TOW is a u4 and WNc a u2, of any revision, with all ones for Do-Not-Use.
+ *     which is written then; or a value of the kind that the field reads as, in the range of its type, and none that reads as
+ *     Do-Not-Use: of PPPInfo by the table shipped, whose three highest bits are the type of the seed, no number below 8192
+ *     (V10). A field without a Do-Not-Use value has to be given, a reserved one too. For a field that the revision does not
+ *     carry, and past the last row: unset. TOW is a u4 and WNc a u2, of any revision, with all ones for Do-Not-Use.
  *   - The buffer is yours, of any length, and none of the reader's three. The block stands at its start, and what follows the
  *     block is as it was; a refused write leaves every byte. Gaps and padding in the block are 0. Nothing is kept of a write:
  *     the next one needs no other state, and the block may be fed or read at once, like any other.
@@ -122,12 +123,12 @@
  *                   decides all of them: 600,000 where they are zeros, but 4,570,000,000 where they are full of such
  *                   headers, the dearest that we could make: 1.4 s on one core of an Intel Xeon. Smaller pieces do not help
  *                   there. Each byte more in its piece can add 131,000. With finish it is the same.
- *   body, sub, subbytes   8,000 to 10,000 by the table shipped and blocks of 44 and 272 bytes, 685,000 by a table of 8,192
+ *   body, sub, subbytes   7,200 to 9,300 by the table shipped and blocks of 44 and 272 bytes, 669,000 by a table of 8,192
  *                   bytes and a block of 65,532: each checks the table in force, and the block's CRC.
- *   tow, wnc        850 for a block of 44 bytes, 525,000 for one of 65,532.
+ *   tow, wnc        820 for a block of 44 bytes, 525,000 for one of 65,532.
  *   write           8,300 for an AttEuler of 44 bytes and 17,000 for a BaseVectorCart of 224 by the table shipped, of which
  *                   the check of the table in force takes 6,300 (bench/writer).
- *   stage, open     7,100 for the table shipped, 156,000 for one of 8,192 bytes.
+ *   stage, open     6,600 for the table shipped, 142,000 for one of 8,192 bytes.
  * The others look at no bytes.
  *
  * MEMORY. A reader has 81,920 bytes of buffers, and 64 of state. Nothing is called back and nothing recurs, so a call's stack

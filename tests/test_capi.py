@@ -69,7 +69,7 @@ SIZES = [0, 1, 2, 4, 8, 1, 2, 4, 8, 4, 8]  # by type
 def table(rng, spoiled=0.2):
     """A small table: fields of any of the ten types, some blocks with sub-blocks; now and then a bit of it is wrong."""
     fields, rows, start = b"", b"", 0
-    marks = {1: [0, 1, 2], 2: [0, 1, 2], 3: [0, 1, 2], 4: [0, 1, 2], 9: [0, 3], 10: [0, 3]}
+    marks = {1: [0, 1, 2], 2: [0, 1, 2, 5, 5], 3: [0, 1, 2], 4: [0, 1, 2], 9: [0, 3], 10: [0, 3]}
     for number in sorted(rng.sample(range(8), rng.randrange(4, 9))):
         highest, bodies, subs = rng.randrange(3), 0, 0
         if rng.random() < 0.4:
@@ -106,7 +106,7 @@ def rows_of(data):
 
 
 EDGES = [b"\xff" * 8, bytes(8), bytes.fromhex("f90295d0"), bytes.fromhex("000000205fa012c2"), bytes.fromhex("0000c07f0100807f"),
-         bytes.fromhex("010000000000f0ff"), bytes.fromhex("0000000000000080"), b"\x80" * 8]
+         bytes.fromhex("010000000000f0ff"), bytes.fromhex("0000000000000080"), b"\x80" * 8, b"\xff\x1f" * 4, b"\x00\x20" * 4]
 
 
 def payload(rng):
@@ -128,7 +128,7 @@ def some_block(rng, numbers):
     return bytes(out)
 
 
-ODD_VALUES = ["-", "u0", "u255", "u65535", "u4294967295", "u18446744073709551615", "i0", "i-0", "i-128", "i-32768", "i-2147483648",
+ODD_VALUES = ["-", "u0", "u255", "u8191", "u8192", "u65535", "u4294967295", "u18446744073709551615", "i0", "i-0", "i-128", "i-32768", "i-2147483648",
               "i-9223372036854775808", "i9223372036854775807", "f0", "f3499426553", "f4294967295", "f4294967296", "d0",
               "d13984416123358019584", "d18446744073709551615"]
 
@@ -140,6 +140,8 @@ def value(rng, field, revision, odd):
         return rng.choice(ODD_VALUES)
     if first > revision or (mark and rng.random() < 0.3):
         return "-"
+    if mark == 5:
+        return "u%d" % rng.choice([rng.randrange(8192, 65536), 8192, 65535])
     half = 2 ** (8 * SIZES[kind] - 1)
     n = rng.choice([rng.randrange(2 * half), rng.randrange(2 * half), 1, half - 1, half + 1])
     return "uuuuiiiifd"[kind - 1] + str(n - half if 5 <= kind <= 8 else n)

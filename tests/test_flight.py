@@ -184,6 +184,11 @@ def block(number, revision, tow, wnc, *fields):
     return b"\x24\x40" + struct.pack("<H", binascii.crc_hqx(sealed, 0)) + sealed
 
 
+def file_of(head):
+    """A table's file: its CRC, and the closing bytes."""
+    return head + struct.pack("<H", binascii.crc_hqx(head, 0)) + b"BT"
+
+
 def bits(kind, value):
     """A float of a `write`: its letter and its bits in decimal."""
     return kind + str(int.from_bytes(struct.pack("<" + kind, value), "little"))
@@ -213,6 +218,14 @@ def refused(number):
     return line(f"refused {number}", IN_RUN)
 
 
+def cartesian(info):
+    """PVTCartesian of revision 1: Mode 4, Error 0, PPPInfo, and all between them as unset."""
+    return block(4006, 1, 5, 6, ("B", 4), ("B", 0), *[UNSET8] * 3, *[UNSET4] * 5, UNSET8, UNSET4, *[("B", 255)] * 3, ("B", 0), *[("H", 65535)] * 2,
+                 ("I", 0), *[("B", 0)] * 2, ("H", info))
+
+
+CARTESIAN = "4006 1 5 6 u4 u0" + " -" * 19  # and PPPInfo, field 21
+
 # Blocks that the rows shipped allow, with their bytes.
 WRITTEN = [
     ("a block without fields", "5943 0 1000 2100", END), ("the largest TOW and WNc", "5943 0 4294967294 65534", block(5943, 0, 4294967294, 65534)),
@@ -223,6 +236,8 @@ WRITTEN = [
     ("ExtEvent, revision 1", "5924 1 5 6 u1 u2 f0 - u65535", block(5924, 1, 5, 6, ("B", 1), ("B", 2), ("f", 0), UNSET8, ("H", 65535))),
     ("a NaN, bit for bit", "5924 0 5 6 u1 u2 f2143289345 d9221120237041090561",
      block(5924, 0, 5, 6, ("B", 1), ("B", 2), ("I", 0x7fc00001), ("Q", 0x7ff8000000000001))),
+    ("PPPInfo unset", CARTESIAN + " -", cartesian(0)), ("PPPInfo left out", CARTESIAN, cartesian(0)),
+    ("PPPInfo, the lowest with a seed", CARTESIAN + " u8192", cartesian(0x2000)), ("PPPInfo, the largest", CARTESIAN + " u65535", cartesian(0xffff)),
     ("AttEuler, a list that is shorter than the rows", f"5938 0 5 6 - u0 u2 u0 {bits('f', 182.5)}",
      block(5938, 0, 5, 6, ("B", 255), ("B", 0), ("H", 2), ("H", 0), ("f", 182.5), *[UNSET4] * 5)),
     ("BaseVectorCart without sub-blocks", "4043 0 5 6", block(4043, 0, 5, 6, ("B", 0), ("B", 0))),
@@ -245,6 +260,8 @@ REFUSED = [
     ("an i for a u", 11, "5924 0 5 6 i1 u2 f0 -"), ("a u for an f", 11, "5924 0 5 6 u1 u2 u0 -"), ("a d for an f", 11, "5924 0 5 6 u1 u2 d0 -"),
     ("an f for a d", 11, "5924 0 5 6 u1 u2 f0 f0"), ("an f over 32 bits", 11, "5924 0 5 6 u1 u2 f4294967296 -"),
     ("the largest f", 11, "5924 0 5 6 u1 u2 f18446744073709551615 -"), ("the mark of a d", 11, f"5924 0 5 6 u1 u2 f0 d{0xC212A05F20000000}"),
+    ("PPPInfo, 0", 11, CARTESIAN + " u0"), ("PPPInfo, an age without a seed", 11, CARTESIAN + " u4095"),
+    ("PPPInfo, the largest without a seed", 11, CARTESIAN + " u8191"), ("PPPInfo over its range", 11, CARTESIAN + " u65536"),
     ("a value in the body of a row with sub-fields", 11, "4043 0 5 6 u1"), ("the largest i", 11, "5924 0 5 6 i9223372036854775807"),
     ("the lowest i", 11, "5924 0 5 6 i-9223372036854775808"), ("256 sub-blocks", 11, "4043 0 5 6" + " /" * 256),
 ]
@@ -255,6 +272,12 @@ def writes():
         yield f"write: {why}", f"{OPENED}write {words}\n", OPENING + wrote(made), ""
     for why, number, words in REFUSED:
         yield f"write, refused: {why}", f"{OPENED}write {words}\n", OPENING + refused(number), ""
+    for info, read in ((0, None), (1, None), (0x0FFF, None), (0x1FFF, None), (0x2000, 8192), (0x2FFF, 12287), (0xFFFF, 65535)):
+        yield f"PPPInfo read: {info:#06x}", f"{OPENED}body 21 {cartesian(info).hex()}\n", OPENING + line(f"unsigned {read}" if read else "do-not-use", IN_RUN), ""
+    for kind, answer in ((2, "staged 9"), (1, None), (3, None), (6, None)):
+        table = file_of(bytes((14, kind, 0, 5)) + struct.pack("<HBBHBB", 7, 0, 1, 0, 0, 0) + struct.pack("<HHHH", 9, 1, 20, 24))
+        stored = crcs(waiting=over(table, WAITING)) if answer else crcs()
+        yield f"a table with mark 5 on type {kind}", f"stage {table.hex()}\n", line(answer or "refused 4", f"0 0 {24 if answer else 0} 0 0 0 0 0", stored), ""
     assert len(END) == 16
     long = [made for why, words, made in WRITTEN if why == "BaseVectorCart with two sub-blocks"][0]
     words = [words for why, words, made in WRITTEN if made is long][0]

@@ -14,7 +14,7 @@
 Standard output and standard error are compared byte for byte.  At the first
 difference it says where and stops.  The last line is `N passed, M failed`; N
 counts the samples of the model's own test, the scripts and runs compared, and
-the answer kinds that had to be met.
+the answer kinds and the cases of mark 5 that had to be met.
 """
 
 import collections
@@ -241,8 +241,38 @@ WORDS_ONE = WORDS + b" - - - - i-100 u1"
 WORDS_TWO = (WORDS_ONE + b" / u1 u2 u3 u255 - - - - - f4294967295 u65534"
              b" - u65535 u0 u4294967295")
 
+# PVTCartesian (request M-101): the CRC is left open, and PPPInfo, which ends
+# the block in revision 1; in revision 0 its two bytes are padding.
+CARTESIAN = ("E8030000 3408 0A 00 0000000000005041 000000205FA012C2"
+             "000000000000F0BF 00003A42 00000000 0000C0BF F90295D0 F90295D0"
+             "000000000000E03F F90295D0 00 1E 0C 00 FFFF 0A00 01000000 01 00")
+CARTESIAN_0 = "2440 %s A60F 5800" + CARTESIAN + "%s"
+CARTESIAN_1 = "2440 %s A62F 5800" + CARTESIAN + "%s"
+CARTESIAN_2 = "2440 %s A64F 6000" + CARTESIAN + "%s FFFF 7B00 FEFF 81 00"
+WORDS_1 = (b" 1000 2100 u10 u0 d4706261610602168320 - d13830554455654793216"
+           b" f1111097344 f0 f3217031168 - - d4602678819172646912 - u0 u30"
+           b" u12 - - u10 u1 u1 -")
+WORDS_2 = b" - u123 u65534 u129"
+PPP_INFO = 21    # its number among the fields
+
 # (line, the block's bytes in hex, or the answer)
 WRITE_LINES = (
+    (b"write 4006 1" + WORDS_1, CARTESIAN_1 % ("2713", "0000")),
+    (b"write 4006 1" + WORDS_1 + b" -", CARTESIAN_1 % ("2713", "0000")),
+    (b"write 4006 1" + WORDS_1 + b" u0", "refused 11"),
+    (b"write 4006 1" + WORDS_1 + b" u1", "refused 11"),
+    (b"write 4006 1" + WORDS_1 + b" u4095", "refused 11"),
+    (b"write 4006 1" + WORDS_1 + b" u8191", "refused 11"),
+    (b"write 4006 1" + WORDS_1 + b" u8192", CARTESIAN_1 % ("4537", "0020")),
+    (b"write 4006 1" + WORDS_1 + b" u65535", CARTESIAN_1 % ("280E", "FFFF")),
+    (b"write 4006 1" + WORDS_1 + b" u65536", "refused 11"),
+    (b"write 4006 1" + WORDS_1 + b" i8192", "refused 11"),
+    (b"write 4006 0" + WORDS_1 + b" u8192", "refused 11"),
+    (b"write 4006 2" + WORDS_1 + b" -" + WORDS_2,
+     CARTESIAN_2 % ("16B2", "0000")),
+    (b"write 4006 2" + WORDS_1 + b" u0" + WORDS_2, "refused 11"),
+    (b"write 4006 2" + WORDS_1 + b" u12264" + WORDS_2,
+     CARTESIAN_2 % ("D668", "E82F")),
     (b"write 5943 0 1000 2100", END_OF_ATT),
     (b"write 5943 0 01000 2100 - - -", END_OF_ATT),
     (b"write 5938 0 345600000 2200 u12 u0 u4 u0 f1119092736 f3217031168"
@@ -276,6 +306,91 @@ WRITE_LINES = (
     (b"write 4043 0 - - /", "refused 11"),
     (b"write 4043 0 - - / u0 u0 u0 u0 - - - - - - - i-32768 u0",
      "refused 11"))
+
+
+# (block, what PPPInfo answers), by the rows shipped
+READ_BLOCKS = (
+    (CARTESIAN_1 % ("06F3", "FF1F"), "do-not-use"),
+    (CARTESIAN_1 % ("37E1", "FF0F"), "do-not-use"),
+    (CARTESIAN_1 % ("2713", "0000"), "do-not-use"),
+    (CARTESIAN_1 % ("4537", "0020"), "unsigned 8192"),
+    (CARTESIAN_1 % ("280E", "FFFF"), "unsigned 65535"),
+    (CARTESIAN_2 % ("B814", "FF1F"), "do-not-use"),
+    (CARTESIAN_2 % ("4647", "FF0F"), "do-not-use"),
+    (CARTESIAN_2 % ("EA15", "0020"), "unsigned 8192"),
+    (CARTESIAN_0 % ("1412", "FFFF"), "not-in-this-revision"))
+
+
+def sample_s13():
+    """S13, of a u2 alone: the border, and every number."""
+    def read(number):
+        return model.value(number.to_bytes(2, "little"), 0, 2, 5)
+    return (read(0x1FFF) == read(0x0FFF) == read(0) == ("do-not-use",)
+            and read(0x2000) == ("unsigned", 8192)
+            and [n for n in range(65536) if read(n) == ("do-not-use",)]
+            == list(range(8192))
+            and model.mark_bits(model.Field(14, 2, 0, 5)) == 0)
+
+
+def sample_s13_blocks(player):
+    """S13, of blocks: those above."""
+    player.line(b"stage " + scripts.hexed(model.shipped_table(1)))
+    player.line(b"open")
+    for block, want in READ_BLOCKS:
+        line = b"body %d %s" % (PPP_INFO, block.replace(" ", "").encode())
+        told = player.line(line).split(" | ")[0]
+        if told != want:
+            print("  %s: %s" % (shown(line), told))
+            return False
+    return True
+
+
+def sample_before():
+    """The table tells, not the block's number: by the rows of before the
+    request PPPInfo reads as mark 2 has it."""
+    player = model.Player()
+    table = model.make_table(1, content.UNSEEDED)
+    player.line(b"stage " + scripts.hexed(table))
+    player.line(b"open")
+    told = [player.call(b"body", [PPP_INFO, bytes.fromhex(block)])
+            for block, _ in READ_BLOCKS[:4]]
+    return told == [("unsigned", 0x1FFF), ("unsigned", 0x0FFF),
+                    ("do-not-use",), ("unsigned", 0x2000)]
+
+
+def sample_s13_tables(player):
+    """S13, of tables: mark 5 stands on u2 and on no other type; a mark 6 on
+    none."""
+    for kind, mark, body in [(k, m, b) for k in range(1, 11) for m in (5, 6)
+                             for b in (True, False)]:
+        field = model.Field(14 if body else 0, kind, 0, mark)
+        row = (model.Row(9, 0, (field,), ()) if body
+               else model.Row(9, 0, content.PAIR, (field,)))
+        line = b"stage " + scripts.hexed(model.make_table(3, (row,)))
+        want = "staged 3" if (kind, mark) == (2, 5) else "refused 4"
+        if player.line(line).split(" | ")[0] != want:
+            return False
+    return True
+
+
+def sample_watched():
+    """What a Watcher counts of the samples of mark 5."""
+    player = Watcher()
+    held = sample_s13_blocks(player) and sample_s13_tables(player)
+    for line, _ in WRITE_LINES:
+        player.line(line)
+    want = {("mark 5", "stage refused, type %d" % kind): 2
+            for kind in model.SIZES if kind != 2}
+    for answer, count in (("unsigned", 3), ("do-not-use", 1),
+                          ("do-not-use, bits not 0", 4),
+                          ("not-in-this-revision", 1)):
+        want["mark 5", "body " + answer] = count
+        want["PPPInfo", answer] = count
+    for kind, count in (("unset", 3), ("8192", 1), ("more", 2),
+                        ("refused, 0", 2), ("refused, 8191", 1),
+                        ("refused, other", 2)):
+        want["mark 5", "write " + kind] = count
+    return held and player.met == want
 
 
 def sample_lines():
@@ -524,26 +639,38 @@ def faults_refused():
 
 
 def values_allowed():
-    """W5 in other words: a value may be given where some bits of the field
-    read as it, and none where some bits read as Do-Not-Use."""
-    near = {sign * 2 ** power + off for power in (7, 8, 15, 16, 31, 32, 63, 64)
+    """W5 in other words: a value may be given exactly where some bits of the
+    field read as it, and none at all (unset) exactly where some bits read as
+    Do-Not-Use.  With mark 5 every number of its type is tried."""
+    powers = (7, 8, 12, 13, 15, 16, 31, 32, 63, 64)
+    near = {sign * 2 ** power + off for power in powers
             for off in (-1, 0, 1) for sign in (1, -1)}
     near |= {0, 1, -1, 0xD09502F9, 0xD09502F8, 0xC212A05F20000000}
     words = [(word, number) for number in sorted(near)
              for word in ("unsigned", "signed", "single", "double")
              if word == "signed" or number >= 0]
+    every = [("unsigned", number) for number in range(65536)]
     for mark, kind in [(m, k) for m in model.MARKED for k in model.MARKED[m]]:
-        field, size = model.Field(0, kind, 0, mark), model.SIZES[kind]
-        for given in words:
-            raw = (given[1] % 2 ** (8 * size)).to_bytes(size, "little")
-            reads = model.value(raw, 0, kind, mark) == given
-            bits = model.bits_given(field, given)
-            if bits != (int.from_bytes(raw, "little") if reads else None):
-                return False
+        field = model.Field(0, kind, 0, mark)
+        if not agreed(field, words + every if mark == 5 else words):
+            return False
         bits = model.bits_given(field, None)
         if (bits is None) != (mark == 0):
             return False
         if mark and not model.marked(bits, kind, mark):
+            return False
+    return True
+
+
+def agreed(field, words):
+    """Of each of these values: is it allowed, with the bits that read as it,
+    or are there none?  A value has only one pattern of bits that could."""
+    size = model.SIZES[field.type]
+    for given in words:
+        raw = (given[1] % 2 ** (8 * size)).to_bytes(size, "little")
+        reads = model.value(raw, 0, field.type, field.mark) == given
+        bits = model.bits_given(field, given)
+        if bits != (int.from_bytes(raw, "little") if reads else None):
             return False
     return True
 
@@ -598,7 +725,11 @@ def samples():
          and value(kept.to_bytes(4, "little"), 0, 9, 3) == ("single", kept)),
         ("S9", value(b"\xff\xff", 0, 2, 1) == ("do-not-use",)
          and value(b"\xfe\xff", 0, 2, 1) == ("unsigned", 65534)),
-        ("S10", sample_s10()),
+        ("S10", sample_s10()), ("S13", sample_s13()),
+        ("S13, blocks", sample_s13_blocks(model.Player())),
+        ("S13, before", sample_before()),
+        ("S13, tables", sample_s13_tables(model.Player())),
+        ("S13, counted", sample_watched()),
         ("lister", model.list_run(lister) == b"block 1 0 0 8\nend 10 1 2\n"),
         ("crc", crcs_agree()), ("feed", feeds_agree()),
         ("cuts", cuts_agree()), ("moved", moved_agree()),
@@ -689,13 +820,13 @@ def report(name, stream, number, call, want, got, status):
 
 def compare_script(name):
     """One script through both; (name, counts, bad lines, report or None)."""
-    data = material(name)
-    printed, bad = model.play_lines(data)
+    data, player = material(name), Watcher()
+    printed, bad = model.play_lines(data, player)
     assert len(printed) >= 100, "a script has 100 calls and more"
     want_out, want_err = model.join_play(printed, bad)
     out, err, status = run_program(REPLAY, data)
     lines = model.split_lines(data)
-    counts = collections.Counter()
+    counts = collections.Counter(player.met)
     for number, text in printed:
         word = lines[number - 1].split(b" ")[0].decode()
         counts[word, kind_of(text)] += 1
@@ -745,6 +876,111 @@ def compare(name):
                                                 traceback.format_exc()))
 
 
+# --------------------------------------------------- what mark 5 came to
+# Request M-101.  No line of output tells by which mark a field was read, or
+# which of its reasons a refusal has; so the model's player looks at the calls
+# themselves, with the rows in force and the bytes of the script.
+
+
+class Watcher(model.Player):
+    """A player that counts what comes up of mark 5, as MARK_5 has it."""
+
+    def __init__(self):
+        super().__init__()
+        self.met = collections.Counter()
+
+    def call(self, word, arguments):
+        state, force = self.state, self.lent("force")
+        answer = super().call(word, arguments)
+        if word in (b"body", b"sub") and answer[0] != "refused":
+            row = row_in(state, force, model.block_of(arguments[-1], 0)[0])
+            self.met.update(fields_met(row, arguments, answer))
+        elif word == b"write" and answer[0] == "written":
+            row = row_in(state, force, arguments[0])
+            self.met.update(written_met(row, arguments))
+        elif word == b"write" and answer == ("refused", 11):
+            self.met.update(refused_met(state, force, arguments))
+        elif word == b"stage" and answer == ("refused", 4):
+            self.met.update(tables_met(*arguments))
+        return answer
+
+
+def row_in(state, force, number):
+    """The row of this number in the table in force."""
+    table = model.read_table(bytes(force[:state.force]))
+    return model.row_numbered(table, number)
+
+
+def fields_met(row, arguments, answer):
+    """Of a body call (its arguments are two) or a sub call that answered."""
+    data, index = arguments[-1], arguments[-2]
+    word = "body" if len(arguments) == 2 else "sub"
+    field = (row.body if word == "body" else row.subs)[index]
+    if field.mark != 5:
+        return
+    at = field.offset + (16 + arguments[0] * data[15] if word == "sub" else 0)
+    kind = answer[0]
+    if kind == "do-not-use" and any(data[at:at + 2]):
+        kind += ", bits not 0"
+    yield "mark 5", "%s %s" % (word, kind)
+    if row == content.SHIPPED[0] and index == PPP_INFO:
+        yield "PPPInfo", kind
+
+
+def seeds_given(row, revision, body, subs):
+    """[(list, index, value)] of the carried fields with mark 5."""
+    return [(values, at, values[at] if at < len(values) else None)
+            for fields, values in [(row.body, body)]
+            + [(row.subs, values) for values in subs]
+            for at, field in enumerate(fields)
+            if field.mark == 5 and model.carried(field, revision)]
+
+
+def written_met(row, arguments):
+    """Of a block that was written."""
+    kinds = {None: "unset", ("unsigned", 8192): "8192"}
+    given = seeds_given(row, arguments[1], *arguments[-2:])
+    return {("mark 5", "write " + kinds.get(value, "more"))
+            for _, _, value in given}
+
+
+def refused_met(state, force, arguments):
+    """Of a Write refused with 11: the numbers below 8,192, if it is not
+    refused so once these are left unset.  The buffer has no room, so nothing
+    is written then."""
+    body, subs = list(arguments[-2]), [list(v) for v in arguments[-1]]
+    row = row_in(state, force, arguments[0])
+    low = []
+    for values, at, given in seeds_given(row, arguments[1], body, subs):
+        if given and given[0] == "unsigned" and given[1] < 8192:
+            low.append(given[1])
+            values[at] = None
+    again = model.call_write(state, force, bytearray(), *arguments[:-2],
+                             body, subs)
+    if again[0] == ("refused", 11):
+        return set()
+    return {("mark 5", "write refused, %s" % (
+        number if number in (0, 8191) else "other")) for number in low}
+
+
+def tables_met(table):
+    """Of a table refused with 4: the types other than u2 that had mark 5, if
+    it is right once they have a mark of their own, and its CRC was.  Mark 0
+    would not do: it could mend N or SBLength too."""
+    if len(table) < 20 or content.recrc(table) != table:
+        return set()
+    mended = bytearray(table)
+    rows = range(0, max(0, len(table) - content.u2(table, -8)), 4)
+    wrong = [at for at in rows if table[at + 1] != 2 and table[at + 3] == 5]
+    for at in wrong:
+        mended[at + 3] = max((mark for mark in model.MARKED if table[at + 1]
+                              in model.MARKED[mark]), default=0)
+    if not model.read_table(content.recrc(mended)):
+        return set()
+    return {("mark 5", "stage refused, type %d" % table[at + 1])
+            for at in wrong}
+
+
 # --------------------------------------------------------- what must be met
 
 REFUSALS = {"open": (1, 2, 4, 5), "feed": (1, 2, 3), "finish": (1, 2),
@@ -762,6 +998,19 @@ ANSWERS = {"open": ("opened",), "feed": ("fed block", "fed more"),
            "body": VALUES, "sub": VALUES, "subbytes": ("part",),
            "tow": ("unsigned", "do-not-use"),
            "wnc": ("unsigned", "do-not-use"), "write": ("written",)}
+# What a Watcher counts: each answer of a field with mark 5 (do-not-use alone
+# has all bits 0), PPPInfo of the rows shipped once more by itself, and what
+# Write and Stage do with the mark.
+SEED_KINDS = ("unsigned", "do-not-use", "do-not-use, bits not 0",
+              "not-in-this-revision")
+MARK_5 = {
+    "mark 5": tuple("body " + kind for kind in SEED_KINDS)
+    + tuple("sub " + kind for kind in SEED_KINDS)
+    + ("write unset", "write 8192", "write more", "write refused, 0",
+       "write refused, 8191", "write refused, other")
+    + tuple("stage refused, type %d" % kind for kind in range(1, 11)
+            if kind != 2),
+    "PPPInfo": SEED_KINDS}
 
 
 def must_be_met():
@@ -769,12 +1018,14 @@ def must_be_met():
     for word in ANSWERS:
         out += [(word, kind) for kind in ANSWERS[word]]
         out += [(word, "refused %d" % n) for n in REFUSALS[word]]
+    for word in MARK_5:
+        out += [(word, kind) for kind in MARK_5[word]]
     return out
 
 
 def print_counts(counts):
     """The table of what was met."""
-    for word in ANSWERS:
+    for word in list(ANSWERS) + list(MARK_5):
         kinds = sorted(k for w, k in counts if w == word)
         print("  %-9s %s" % (word, ", ".join(
             "%s: %d" % (kind, counts[word, kind]) for kind in kinds)))
@@ -793,7 +1044,7 @@ def check_counts(tally, times):
     for word, kind in strange:
         failed += 1
         print("NOT EXPECTED: %s of %s" % (kind, word))
-    calls = sum(n for (word, _), n in counts.items() if word != "lister")
+    calls = sum(n for (word, _), n in counts.items() if word in ANSWERS)
     records = sum(n for (word, _), n in counts.items()
                   if word in RECORD_WORDS)
     written = counts["write", "written"]

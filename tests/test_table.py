@@ -107,6 +107,7 @@ def round_trips():
         for name, body in {
             "the smallest table": "version 0\nblock 0 A highest 0\n",
             "numbers at their limits": "version 65535\nblock 8191 A highest 7\n  body B u8 255 rev 7 mark ones\n",
+            "the mark of seeds": "version 1\nblock 1 A highest 0\n  body B u2 14 rev 0 mark seed\n",
             "a byte order mark": "\ufeffversion 3\nblock 1 A highest 0\n",
             "a comment, a blank line": "# c\n\nversion 3 # d\nblock 1 A highest 0\n",
             "the largest table": "version 1\n" + "".join("block %d A highest 0\n" % n for n in range(1022)),
@@ -171,13 +172,14 @@ TEXTS = [
     (PAIR.replace("sub C", "body B u1 16 rev 0 mark none\nsub C"), 5, PAIR_RULE),
     (PAIR + "body B u1 16 rev 0 mark none\n", 6, "T10: a block's body rows come before its sub-field rows"),
     (BLOCK + "body B u3 14 rev 0 mark none\n", 3, "T15: there is no type 'u3'; there are u1 u2 u4 u8 i1 i2 i4 i8 f4 f8"),
-    (BLOCK + "body B u1 14 rev 0 mark no\n", 3, "T15: there is no mark 'no'; there are none ones zero minus2e10 least"),
+    (BLOCK + "body B u1 14 rev 0 mark no\n", 3, "T15: there is no mark 'no'; there are none ones zero minus2e10 least seed"),
     (BLOCK + "body B i1 14 rev 0 mark ones\n", 3, "T15: the type does not allow the mark: ones on i1"),
     (BLOCK + "body B f4 14 rev 0 mark zero\n", 3, "T15: the type does not allow the mark: zero on f4"),
     (BLOCK + "body B u4 14 rev 0 mark minus2e10\n", 3, "T15: the type does not allow the mark: minus2e10 on u4"),
-    (BLOCK + "body B u1 14 rev 0 mark least\n", 3, "T15: the type does not allow the mark: least on u1"),
+    (BLOCK + "body B u1 14 rev 0 mark least\n", 3, "T15: the type does not allow the mark: least on u1; it stands on i1 i2 i4 i8"),
     ("version 1\n" + "".join("block %d A highest 0\n" % n for n in range(1023)), 1024, "T1: a file has 20 to 8192 bytes"),
-]
+] + [(BLOCK + "body B %s 14 rev 0 mark seed\n" % kind, 3, "T15: the type does not allow the mark: seed on %s; it stands on u2" % kind)
+     for kind in ("u1", "u4", "u8", "i1", "i2", "i4", "i8", "f4", "f8")]
 
 
 def refused_texts():
@@ -221,7 +223,8 @@ def refused_files():
             (other(1, 0), "byte 0", "T15: there is no type 0"),
             (other(1, 11), "byte 0", "T15: there is no type 11"),
             (other(2, 1), "byte 0", "T14: no first revision is above the block's highest"),
-            (other(3, 5), "byte 0", "T15: there is no mark 5"),
+            (other(3, 6), "byte 0", "T15: there is no mark 6"),
+            (other(3, 5), "byte 0", "T15: the type does not allow the mark: seed on u1; it stands on u2"),
             (other(3, 4), "byte 0", "T15: the type does not allow the mark: least on u1"),
         ]:
             status, out, err = show(data, folder)
@@ -420,7 +423,7 @@ def changed_rows():
         with open(given, "w", encoding="utf-8") as f:
             f.write(re.sub(r"PPPInfo u2 (\d+)", r"PPP u2 \1", text))
         status, out, err = tool("rattle", given, crate)
-        expect("an edit that no longer applies is told", "pppinfo_of_another_mark.edit: its line" in out and "stands in specs/Rows.antt 0 times" in out, out)
+        expect("an edit that no longer applies is told", "pppinfo_still_marked_zero.edit: its line" in out and "stands in specs/Rows.antt 0 times" in out, out)
         expect("another name asks for no other version", status == 0 and "raise it" not in out, out)
 
 

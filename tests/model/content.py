@@ -13,6 +13,10 @@ from model import (Field, MARKED, Row, SIGNED, SIZES, crc, kind_read,
 
 SHIPPED = shipped_rows()
 OLDER = shipped_rows(reserved=False)
+# The rows of before request M-101: PPPInfo has mark 2.
+UNSEEDED = tuple(
+    row._replace(body=tuple(f._replace(mark=2) if f.mark == 5 else f
+                            for f in row.body)) for row in SHIPPED)
 HUGE = (255, 256, 257, 65535, 65536, 2 ** 31, 2 ** 32 - 1, 2 ** 32,
         2 ** 32 + 1, 2 ** 63, 2 ** 64 - 1)
 
@@ -26,10 +30,29 @@ DOUBLE = (0x7FF8000000000000, 0x7FF0000000000001, 0xFFF0000000000001,
           0x7FF0000000000000, 0xFFF0000000000000, 1 << 63, 1,
           0xC212A05F1FFFFFFF, 0xC212A05F20000001, 0x4212A05F20000000,
           0xD09502F9, 0xC212A05F20000000)
+# For a u2 with mark 5: bits that are Do-Not-Use, and bits that are not.
+NO_SEED = (0, 1, 0x0FFF, 0x1000, 0x1FFF)
+SEEDS = (0x2000, 0x2FFF, 0x4000, 0x8000, 0xE000, 0xFFFF)
+
+
+def no_seed_bits(rng):
+    """Bits, or a number, that mark 5 makes Do-Not-Use."""
+    return rng.choice(NO_SEED + (0, rng.getrandbits(13)))
+
+
+def seed_bits(rng):
+    """Bits for a u2 with mark 5, of either side of its border."""
+    draw = rng.random()
+    if draw < 0.4:
+        return no_seed_bits(rng)
+    return rng.choice(SEEDS) if draw < 0.8 else rng.getrandbits(16)
 
 
 def field_bits(rng, kind, mark):
-    """Bits for a field: limits, Do-Not-Use patterns and neighbours, NaNs."""
+    """Bits for a field: limits, Do-Not-Use patterns and neighbours, NaNs.
+    Those that matter by mark 5 come up in other u2 fields too."""
+    if mark == 5 or kind == 2 and rng.random() < 0.25:
+        return seed_bits(rng)
     width = 8 * SIZES[kind]
     full, half = (1 << width) - 1, 1 << (width - 1)
     dnu = {0: 0, 1: full, 2: 0, 4: half,
@@ -44,6 +67,12 @@ def field_bits(rng, kind, mark):
     if draw < 0.7:
         return rng.choice((0, 1, full, full - 1, half, half - 1, half + 1))
     return rng.getrandbits(width)
+
+
+def seed_like(field):
+    """Has the field mark 5, or the mark that PPPInfo had before it?  The
+    table in force tells which."""
+    return field.type == 2 and field.mark in (2, 5)
 
 
 def set_fields(rng, data, base, fields):
@@ -301,15 +330,18 @@ def big_block(rng):
 
 
 def random_mark(rng, kind):
+    """A mark that may stand on the type: mark 5, which has but one type to
+    stand on, twice as often as another."""
     marks = [mark for mark in MARKED if kind in MARKED[mark]]
-    return rng.choice(marks)
+    return rng.choice(marks + [5] * (5 in marks))
 
 
 def random_fields(rng, start, count, highest):
-    """Valid field rows from `start` on; as many as fit below 256."""
+    """Valid field rows from `start` on; as many as fit below 256.  u2 is
+    twice as often as another type, again for mark 5."""
     rows, at, first = [], start, 0
     for _ in range(count):
-        kind = rng.randrange(1, 11)
+        kind = rng.choice(tuple(SIZES) + (2,))
         at += rng.choice((0, 0, 0, 1, 2, 5))
         if at > 255:
             break
@@ -363,9 +395,9 @@ def valid_table(rng):
     if draw < 0.45:
         rows = SHIPPED
     elif draw < 0.65:
-        rows = OLDER
+        rows = rng.choice((OLDER, UNSEEDED))
     elif draw < 0.97:
-        rows = random_rows(rng)
+        rows = rng.choice((random_rows, random_rows, write_rows))(rng)
     else:
         rows = great_rows(rng, rng.choice((8192, 8188, 20, 4096)))
     return make_table(version, rows)
@@ -402,11 +434,14 @@ def bad_fields(rng):
     out = []
     for bad in (0, 11, 12, 255):
         out += both("type %d" % bad, (0, bad, 0, 0))
-    for bad in (5, 6, 255):
+    for bad in (6, 7, 255):
         out += both("mark %d" % bad, (0, kind, 0, bad))
+    out += both("mark 6 on u2", (0, 2, 0, 6))
     for mark in (1, 2, 3, 4):
         wrong = rng.choice([k for k in SIZES if k not in MARKED[mark]])
         out += both("mark %d on type %d" % (mark, wrong), (0, wrong, 0, mark))
+    for wrong in [k for k in SIZES if k not in MARKED[5]]:
+        out += both("mark 5 on type %d" % wrong, (0, wrong, 0, 5))
     out += both("overlap", (0, kind, 0, 0), (size - 1, 1, 0, 0))
     out += both("same place", (0, kind, 0, 0), (0, kind, 0, 0))
     out += both("falling place", (20, 1, 0, 0), (2, 1, 0, 0))
@@ -455,6 +490,20 @@ def broken_by_row(rng):
     low = [row for row in rows if row.number < 4000]
     high = [row for row in rows if row.number > 4002]
     return make_table(1, low + [bad] + high)
+
+
+def broken_by_seed(rng):
+    """A table valid but for a mark 5 on another type than u2.  N and
+    SBLength keep their mark 0, or another rule would be broken as well."""
+    rows = rng.choice((SHIPPED, OLDER, random_rows(rng)))
+    fields = [field for row in rows for field in row.body + row.subs]
+    spots = [at for at, field in enumerate(fields)
+             if field.type not in MARKED[5] and field not in PAIR]
+    if not spots:
+        return broken_by_row(rng)
+    kind = rng.choice(sorted({fields[at].type for at in spots}))
+    at = rng.choice([at for at in spots if fields[at].type == kind])
+    return patched(make_table(1, rows), 4 * at + 3, b"\x05")
 
 
 def broken_numbers(rng):
@@ -535,8 +584,8 @@ def recrc_total(data):
 
 def broken_table(rng):
     make = rng.choice((broken_by_row, broken_by_row, broken_by_row,
-                       broken_numbers, broken_block_row, broken_trailer,
-                       broken_size))
+                       broken_by_seed, broken_numbers, broken_block_row,
+                       broken_trailer, broken_size))
     return make(rng)
 
 
@@ -666,7 +715,7 @@ def value_word(given):
 
 def given_for(rng, field):
     """A value that the field may have, or None where the bits drawn are
-    those of its mark."""
+    Do-Not-Use by its mark."""
     bits = field_bits(rng, field.type, field.mark)
     raw = bits.to_bytes(SIZES[field.type], "little")
     answer = value(raw, 0, field.type, field.mark)
@@ -791,7 +840,7 @@ def fault_range(rng, wanted):
 
 
 def fault_mark(rng, wanted):
-    """The number that reads as Do-Not-Use by the field's mark."""
+    """A number that reads as Do-Not-Use by the field's mark."""
     place = pick_place(rng, wanted, lambda field: wanted.carries(field)
                        and field.mark)
     if not place:
@@ -799,8 +848,20 @@ def fault_mark(rng, wanted):
     values, index, field = place
     least, most = range_of(field.type)
     float_bits = 0xD09502F9 if field.type == 9 else 0xC212A05F20000000
-    number = {1: most, 2: 0, 3: float_bits, 4: least}[field.mark]
+    number = {1: most, 2: 0, 3: float_bits, 4: least,
+              5: no_seed_bits(rng)}[field.mark]
     put_value(values, index, (kind_read(field.type), number))
+    return True
+
+
+def fault_seed(rng, wanted):
+    """A number below 8,192 in a field with mark 5."""
+    place = pick_place(rng, wanted, lambda field: wanted.carries(field)
+                       and field.mark == 5)
+    if not place:
+        return False
+    values, index, _ = place
+    put_value(values, index, ("unsigned", no_seed_bits(rng)))
     return True
 
 
@@ -900,9 +961,10 @@ def fault_number(rng, wanted):
 
 
 FAULTS = (fault_kind, fault_kind, fault_range, fault_range, fault_mark,
-          fault_mark, fault_unset, fault_unset, fault_carried, fault_carried,
-          fault_past, fault_subs, fault_pair, fault_count, fault_revision,
-          fault_stamp, fault_stamp, fault_number, fault_number)
+          fault_mark, fault_seed, fault_seed, fault_unset, fault_unset,
+          fault_carried, fault_carried, fault_past, fault_subs, fault_pair,
+          fault_count, fault_revision, fault_stamp, fault_stamp, fault_number,
+          fault_number)
 
 
 def spoil(rng, wanted):

@@ -5,7 +5,8 @@ papers alone that docs/RULES.md restates, and before it did: the rule that each
 part names was put in later, the code is as it was.  Write came with request
 M-100, again without a look at the code: from the request, from section W of
 docs/RULES.md and from docs/REPLAY.md, whose text language is at the end of
-this file.  Choices between readings are in CHOICES.md.
+this file.  Mark 5 came with request M-101, in the same way.  Choices between
+readings are in CHOICES.md.
 
 Run as a program it behaves like `replay`: python3 model.py < script
 """
@@ -242,7 +243,7 @@ SIZES = {1: 1, 2: 2, 3: 4, 4: 8, 5: 1, 6: 2, 7: 4, 8: 8, 9: 4, 10: 8}
 UNSIGNED, SIGNED, FLOAT = (1, 2, 3, 4), (5, 6, 7, 8), (9, 10)
 # V3: the types that each mark may stand on.
 MARKED = {0: UNSIGNED + SIGNED + FLOAT, 1: UNSIGNED, 2: UNSIGNED, 3: FLOAT,
-          4: SIGNED}
+          4: SIGNED, 5: (2,)}
 
 
 def fields_right(fields, least, highest):
@@ -487,7 +488,7 @@ def row_for(state, force, data):
 
 
 def marked(bits, kind, mark):
-    """Is this value the field's Do-Not-Use value (V3, V4)?"""
+    """Are these bits Do-Not-Use by the field's mark (V3, V4, V10)?"""
     width = 8 * SIZES[kind]
     if mark == 1:
         return bits == (1 << width) - 1
@@ -497,6 +498,8 @@ def marked(bits, kind, mark):
         return bits == (0xD09502F9 if width == 32 else 0xC212A05F20000000)
     if mark == 4:
         return bits == 1 << (width - 1)
+    if mark == 5:
+        return bits >> 13 == 0
     return False
 
 
@@ -578,6 +581,8 @@ def call_wnc(state, data):
 BLOCK_MOST, SUBS_MOST, SUB_MOST, REVISION_MOST = 65532, 255, 255, 7
 # V8: what every block has, and every revision carries.
 TOW, WNC = Field(8, 3, 0, 1), Field(12, 2, 0, 1)
+# V10: the least number that mark 5 lets stand.
+SEED_LEAST = 8192
 
 
 def kind_read(kind):
@@ -603,7 +608,7 @@ def mark_bits(field):
     width = 8 * SIZES[field.type]
     if field.mark == 1:
         return 2 ** width - 1
-    if field.mark == 2:
+    if field.mark in (2, 5):
         return 0
     if field.mark == 3:
         # -2e10, packed from the number, where `marked` has its bits
@@ -612,6 +617,15 @@ def mark_bits(field):
     if field.mark == 4:
         return 2 ** (width - 1)
     return None
+
+
+def reads_unset(field, bits):
+    """W5: would the field read as Do-Not-Use?  By mark 5 many bits do, told
+    by number here where `marked` looks at the three bits; by each other mark
+    only those that an unset field is written with."""
+    if field.mark == 5:
+        return bits < SEED_LEAST
+    return bits == mark_bits(field)
 
 
 def bits_given(field, given):
@@ -624,7 +638,7 @@ def bits_given(field, given):
     if word != kind_read(field.type) or not least <= number <= most:
         return None
     bits = number % (1 << 8 * SIZES[field.type])
-    return None if bits == mark_bits(field) else bits
+    return None if reads_unset(field, bits) else bits
 
 
 def cells_given(fields, revision, values):
@@ -767,7 +781,7 @@ def pvt_cartesian():
         (U1, 1, 0), (U1, 1, 0), (U1, 1, 0),              # TimeSystem..NrSV
         (U1, 2, 0), (U2, 1, 0), (U2, 1, 0),              # WACorr, RefID, Age
         (U4, 2, 0), (U1, 2, 0),                          # SignalInfo, Alert
-        (U1, 2, 1), (U2, 2, 1),                          # NrBases, PPPInfo
+        (U1, 2, 1), (U2, 5, 1),                          # NrBases, PPPInfo
         (U2, 1, 2), (U2, 1, 2), (U2, 1, 2), (U1, 0, 2)])  # Latency..Misc
 
 
@@ -1015,9 +1029,10 @@ def split_lines(script):
     return lines
 
 
-def play_lines(script):
-    """([(line number, line printed)], [number of each bad line])"""
-    player, printed, bad = Player(), [], []
+def play_lines(script, player=None):
+    """([(line number, line printed)], [number of each bad line]); by a new
+    player where none is given."""
+    player, printed, bad = player or Player(), [], []
     for number, line in enumerate(split_lines(script), 1):
         try:
             text = player.line(line)

@@ -16,6 +16,7 @@ import model
 from content import HUGE, SHIPPED
 
 NAMES = model.State._fields
+NO_ROW = model.Row(0, 0, (), ())
 
 
 def hexed(data):
@@ -190,13 +191,24 @@ class Maker:
 
     # ------------------------------------------------- record calls
 
+    def record_row(self):
+        """A row in force: seldom one without fields, and more often than by
+        chance one that has mark 5, or could be taken to have it."""
+        rng, rows = self.rng, self.rows()
+        seeded = [row for row in rows
+                  if any(map(content.seed_like, row.body + row.subs))]
+        if seeded and rng.random() < 0.2:
+            return rng.choice(seeded)
+        row = rng.choice(rows)
+        if not row.body and rng.random() < 0.7:
+            row = rng.choice(rows)
+        return row
+
     def record_bytes(self):
         """Bytes for a record call: good, misfitting, or no frame."""
         rng, rows = self.rng, self.rows()
         draw = rng.random()
-        row = rng.choice(rows)
-        if not row.body and rng.random() < 0.7:
-            row = rng.choice(rows)
+        row = self.record_row()
         if draw < 0.2 and 0 < len(self.block) < 3000:
             return self.block
         if draw < 0.58:
@@ -223,9 +235,15 @@ class Maker:
             b"\x24\x40\x00\x00\x00\x00\x04\x00", bytes(8),
             content.bad_length_block(rng), content.bad_length_block(rng)))
 
-    def field_number(self, count):
-        """A number in range, one past, or far out."""
+    def field_number(self, count, fields=()):
+        """A number in range, one past, or far out.  Where some of the fields
+        have mark 5, or could be taken to have it, now and then one of
+        theirs."""
         rng = self.rng
+        seeds = [at for at, field in enumerate(fields)
+                 if content.seed_like(field)]
+        if seeds and rng.random() < 0.25:
+            return rng.choice(seeds)
         draw = rng.random()
         if draw < 0.78 and count:
             return rng.randrange(count)
@@ -237,6 +255,7 @@ class Maker:
         rng = self.rng
         data = self.record_bytes() if data is None else data
         bodies, subs, count = self.shape(data)
+        row = self.row_of(data) or NO_ROW
         word = rng.choice(("body", "body", "body", "sub", "sub", "subbytes",
                            "tow", "wnc"))
         if subs and rng.random() < 0.6:
@@ -246,23 +265,28 @@ class Maker:
         if word in ("tow", "wnc"):
             return self.call(word, hexed(data))
         if word == "body":
-            return self.call(word, self.field_number(bodies), hexed(data))
+            return self.call(word, self.field_number(bodies, row.body),
+                             hexed(data))
         if word == "subbytes":
             return self.call(word, self.field_number(count), hexed(data))
         return self.call(word, self.field_number(count),
-                         self.field_number(subs), hexed(data))
+                         self.field_number(subs, row.subs), hexed(data))
+
+    def row_of(self, data):
+        """The row of a block's number, None where there is none."""
+        if len(data) < 6:
+            return None
+        number = (data[4] | data[5] << 8) % 8192
+        return model.row_numbered(model.Table(0, self.rows()), number)
 
     def shape(self, data):
         """Count of body fields, of sub-fields and of sub-blocks, as far as
         the bytes tell."""
-        if len(data) < 6:
-            return 1, 0, 0
-        number = (data[4] | data[5] << 8) % 8192
-        for row in self.rows():
-            if row.number == number:
-                count = data[14] if row.subs and len(data) > 14 else 0
-                return len(row.body), len(row.subs), count
-        return 3, 0, 0
+        row = self.row_of(data)
+        if row is None:
+            return 1 if len(data) < 6 else 3, 0, 0
+        count = data[14] if row.subs and len(data) > 14 else 0
+        return len(row.body), len(row.subs), count
 
     def sweep(self):
         """All fields of one block, one past the last too."""

@@ -1,4 +1,4 @@
--- The samples of records, S4 and S8 to S10, and the limits of the rules, as one table of cases.
+-- The samples of records, S4, S8 to S10 and the values of S13, and the limits of the rules, as one table of cases.
 -- Assumes nothing.
 use Prim.Native.Nat.{ℕ}
 use mathlib.Core.Path.{_≡_}
@@ -8,7 +8,7 @@ use lib.IntN.{pos, negsuc}
 use Rattle.wire.specs.Little.{littleAt}
 use Rattle.frame.specs.Frame.{numberOf, revisionOf}
 use Rattle.kinds.specs.Types.{u1, u2, u4, u8, i1, i2, i4, i8, f4, f8}
-use Rattle.kinds.specs.Marks.{unmarked, ones, zeroes, minus2e10, least}
+use Rattle.kinds.specs.Marks.{unmarked, ones, zeroes, minus2e10, least, seed}
 use Rattle.rows.specs.declared.FieldRow.{FieldRow}
 use Rattle.table.specs.Rows.{Table}
 use Rattle.value.specs.Said.{FieldSaid, unsigned, signed, single, double, doNotUse, notInRevision, fieldRefused}
@@ -144,6 +144,10 @@ recordCases =
     -- S9
     ∷ case (ofValue (0xFF ∷ 0xFF ∷ []) u2 ones) (says doNotUse)
     ∷ case (ofValue (0xFE ∷ 0xFF ∷ []) u2 ones) (says (unsigned 65534))
+    -- S13: an age without a seed, the last number without one, the first with one
+    ∷ case (ofValue (0xFF ∷ 0x0F ∷ []) u2 seed) (says doNotUse)
+    ∷ case (ofValue (0xFF ∷ 0x1F ∷ []) u2 seed) (says doNotUse)
+    ∷ case (ofValue (0x00 ∷ 0x20 ∷ []) u2 seed) (says (unsigned 0x2000))
     -- S10
     ∷ case (ofBody sampleB 0) (says (fieldRefused 7))
     -- R7: the same of 12 bytes, to Tow and Wnc too

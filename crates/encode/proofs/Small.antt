@@ -48,10 +48,10 @@ two-small n h = both-true (lt-ltb (n % 256) 256 (omega arith)) (both-true (lt-lt
 -- Field rows.
 
 mark-small : (kind mark : ℕ) → markFits kind mark ≡ true → mark < 256
-mark-small kind mark e = by (ltb 4 mark) refl where
-  by : (b : Bool) → ltb 4 mark ≡ b → mark < 256
-  by true h = absurd (false≢true (fits-none kind mark (ltb-true 4 mark h) ∙ e))
-  by false h = let l : mark ≤ 4 = ltb-false 4 mark h in omega arith
+mark-small kind mark e = by (ltb 5 mark) refl where
+  by : (b : Bool) → ltb 5 mark ≡ b → mark < 256
+  by true h = absurd (false≢true (fits-none kind mark (ltb-true 5 mark h) ∙ e))
+  by false h = let l : mark ≤ 5 = ltb-false 5 mark h in omega arith
 
 each-small : (top : ℕ) → top ≤ 7 → (fs : List FieldRow) → every offsetFits fs ≡ true → every (firstOk top) fs ≡ true → every typeOk fs ≡ true
     → every markOk fs ≡ true → every isByte (fieldBytes fs) ≡ true

@@ -9,8 +9,8 @@ use Prim.Native.Nat.{ℕ, _+_}
 use Prim.Native.String.{String}
 use lib.ListN.{set, take, drop}
 use Rattle.crc.specs.Crc.{crcOf}
-use Rattle.kinds.specs.Types.{u1, u2, u4, u8, i1, i8, f8}
-use Rattle.kinds.specs.Marks.{unmarked, ones, least}
+use Rattle.kinds.specs.Types.{u1, u2, u4, u8, i1, i2, i8, f8}
+use Rattle.kinds.specs.Marks.{unmarked, ones, least, seed}
 use Rattle.kinds.specs.Grid.{GridRow, marksTried, grid}
 use Rattle.rows.specs.declared.FieldRow.{FieldRow}
 use Rattle.table.specs.Rows.{BlockRow, Table}
@@ -88,7 +88,11 @@ types =
     ∷ bad "type 11" (bears 11 unmarked)
     ∷ ok "a mark that the type may bear" (bears i8 least)
     ∷ bad "a mark that it may not bear" (bears u8 least)
-    ∷ bad "a mark that is none" (bears u8 5)
+    ∷ ok "the mark of seeds on u2" (bears u2 seed)
+    ∷ bad "the mark of seeds on u1" (bears u1 seed)
+    ∷ bad "the mark of seeds on u4" (bears u4 seed)
+    ∷ bad "the mark of seeds on i2" (bears i2 seed)
+    ∷ bad "a mark that is none" (bears u8 6)
     ∷ []
 
 -- a field of the type at 14, and the next one here

@@ -3,3 +3,4 @@ pub mod Keys
 pub mod Types
 pub mod Marks
 pub mod Unset
+pub mod Seed

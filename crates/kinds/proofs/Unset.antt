@@ -20,7 +20,7 @@ abbrev right : ℕ → ℕ → Bool
 right kind mark = cond (listed kind && markFits kind mark) (reads mark kind (unsetOf mark kind)) true
 
 abbrev rightAll : ℕ → Bool
-rightAll kind = allBelow (right kind) 5
+rightAll kind = allBelow (right kind) 6
 
 all-right : allBelow rightAll 11 ≡ true
 unfolding sizeOf markFits isDoNotUse unsetOf
@@ -37,15 +37,15 @@ premise a b c p q e =
     subst (λ (y : Bool). cond y c true ≡ true) q (subst (λ (x : Bool). cond (x && b) c true ≡ true) p e)
 
 -- a mark that fits is listed
-few : (kind mark : ℕ) (c : Bool) → leb mark 4 ≡ c → markFits kind mark ≡ true → mark < 5
-few kind mark true e f = let l = leb-true mark 4 e in omega arith
+few : (kind mark : ℕ) (c : Bool) → leb mark 5 ≡ c → markFits kind mark ≡ true → mark < 6
+few kind mark true e f = let l = leb-true mark 5 e in omega arith
 few kind mark false e f =
-    let z : _≡_ {A = ℕ} 0 1 = ap (λ (b : Bool). cond b 1 0) (fits-none kind mark (leb-false mark 4 e) ∙ f) in
+    let z : _≡_ {A = ℕ} 0 1 = ap (λ (b : Bool). cond b 1 0) (fits-none kind mark (leb-false mark 5 e) ∙ f) in
     omega arith
 
 pub unset-is-told : UnsetIsTold
 unset-is-told kind mark l f =
     let k = leb-true kind 10 (both (leb 1 kind) (leb kind 10) l .1) in
     let h : kind < 11 = omega arith in
-    let e = at (right kind) 5 (at rightAll 11 all-right kind h) mark (few kind mark (leb mark 4) refl f) in
+    let e = at (right kind) 6 (at rightAll 11 all-right kind h) mark (few kind mark (leb mark 5) refl f) in
     reads-it mark kind (unsetOf mark kind) (premise (listed kind) (markFits kind mark) (reads mark kind (unsetOf mark kind)) l f e)

@@ -1,3 +1,4 @@
 pub mod Types
 pub mod Marks
 pub mod Grid
+pub mod Seed

@@ -1,15 +1,15 @@
--- The marks, one list (rules V3, V4, W6): the types that may bear each, its test for Do-Not-Use, and what an unset field is written
+-- The marks, one list (rules V3, V4, V10, W6): the types that may bear each, its test for Do-Not-Use, and what an unset field is written
 -- with.
 -- Assumes nothing.
 use mathlib.Core.Bool.{Bool, true, false, cond}
 use mathlib.Core.List.{List, [], _∷_}
 use mathlib.Core.Option.{Option, none, some}
 use mathlib.Core.Path.{_≡_}
-use Prim.Native.Nat.{ℕ, _-_, _^_, _<_}
+use Prim.Native.Nat.{ℕ, _-_, _/_, _^_, _<_}
 use lib.Dec.{eqb}
 use lib.ListN.{getD}
 use Rattle.kinds.specs.declared.UnsetAs.{UnsetAs}
-use Rattle.kinds.specs.Types.{sizeOf, listed, isUnsigned, isSigned, isFloat, half}
+use Rattle.kinds.specs.Types.{u2, sizeOf, listed, isUnsigned, isSigned, isFloat, half}
 
 -- V3: the numbers of the marks
 abbrev pub unmarked : ℕ
@@ -26,6 +26,9 @@ minus2e10 = 3
 
 abbrev pub least : ℕ
 least = 4
+
+abbrev pub seed : ℕ
+seed = 5
 
 -- of a type: whether it may bear the mark; of a size and bits of so many bytes: whether they are Do-Not-Use; of a size: the bits
 -- that an unset field is written with, none where a field cannot be unset
@@ -51,6 +54,13 @@ equals bits size x = eqb x (bits size)
 abbrev pub written : (ℕ → ℕ) → ℕ → Option ℕ
 written bits size = some (bits size)
 
+-- V10, mark 5: the bits of a u2 from 13 up, the type of PPPInfo's last seed; Do-Not-Use where it is 0, whatever the bits below are
+abbrev pub seedType : ℕ → ℕ
+seedType x = x / 8192
+
+abbrev pub noSeed : ℕ → ℕ → Bool
+noSeed size x = eqb (seedType x) 0
+
 -- V3, mark 0: the field is never Do-Not-Use, and cannot be unset
 abbrev pub noTest : ℕ → ℕ → Bool
 noTest size x = false
@@ -66,6 +76,7 @@ marks =
     ∷ record { fits = isUnsigned; test = equals nought; unset = written nought }
     ∷ record { fits = isFloat; test = equals minus; unset = written minus }
     ∷ record { fits = isSigned; test = equals half; unset = written half }
+    ∷ record { fits = λ kind. eqb kind u2; test = noSeed; unset = written nought }
     ∷ []
 
 -- V3: there is no other mark, so no type may bear one

@@ -1,11 +1,12 @@
-// The types of fields with their sizes (rule V1), and the marks: which types may bear each, which bits are its Do-Not-Use (V3, V4),
+// The types of fields with their sizes (rule V1), and the marks: which types may bear each, which bits are its Do-Not-Use (V3, V4, V10),
 // and what an unset field is written with (W6).
 ghost use mathlib.Core.Path.{_≡_};
 ghost use mathlib.Core.Option.{some};
 ghost use Prim.Native.Nat.{_≤_};
 ghost use Rattle.kinds.specs.Types.{sizeOf, half};
-ghost use Rattle.kinds.specs.Marks.{allOnes, minus, markFits, isDoNotUse, unsetOf, unsetSays, UnsetIsTold};
+ghost use Rattle.kinds.specs.Marks.{allOnes, minus, seedType, markFits, isDoNotUse, unsetOf, unsetSays, UnsetIsTold};
 ghost use Rattle.kinds.specs.Grid.{GridHolds};
+ghost use Rattle.kinds.specs.Seed.{SeedHolds};
 
 // D7: entry k is the size of type k + 1. Table check, field reader and writer look sizes up here. They are bytes: a constant array is
 // stored anew wherever it is named, and ten bytes are two stores.
@@ -36,6 +37,7 @@ pub fn mark_fits(kind: u8, mark: u8) -> bool
         2 => (1 <= kind) & (kind <= 4),
         3 => (9 <= kind) & (kind <= 10),
         4 => (5 <= kind) & (kind <= 8),
+        5 => kind == 2,
         _ => false,
     }
 }
@@ -76,6 +78,13 @@ fn least_bits(kind: u8) -> u64
     }
 }
 
+// V10: the bits that mark 5 looks at, from 13 up: the seed type of PPPInfo.
+fn seed_type(x: u64) -> u64
+    ensures { λ r. ⌜ r ≡ seedType x ⌝ }
+{
+    x >> 13
+}
+
 // Whether the bits of a type are its mark's Do-Not-Use.
 pub fn is_do_not_use(mark: u8, kind: u8, x: u64) -> bool
     ensures { λ r. ⌜ r ≡ isDoNotUse mark kind x ⌝ }
@@ -85,6 +94,7 @@ pub fn is_do_not_use(mark: u8, kind: u8, x: u64) -> bool
         2 => x == 0,
         3 => x == minus_2e10(kind),
         4 => x == least_bits(kind),
+        5 => seed_type(x) == 0,
         _ => false,
     }
 }
@@ -110,6 +120,7 @@ pub fn unset_bits(mark: u8, kind: u8) -> UnsetAs
         2 => can_be(0),
         3 => can_be(minus_2e10(kind)),
         4 => can_be(least_bits(kind)),
+        5 => can_be(0),
         _ => UnsetAs {
             can: false,
             bits: 0,
@@ -125,4 +136,9 @@ pub fn unset_is_told()
 // Of each type: its size, the marks that it may bear, and which bits are then Do-Not-Use.
 pub fn grid_holds()
     ensures { λ _. ⌜ GridHolds ⌝ }
+{}
+
+// Mark 5 tells the numbers without a seed, and by the marks before it no type may bear it.
+pub fn seed_holds()
+    ensures { λ _. ⌜ SeedHolds ⌝ }
 {}

@@ -1,3 +1,4 @@
 pub mod Transcript
 pub mod Samples
+pub mod PppInfo
 pub mod Flight

@@ -2,7 +2,7 @@
 -- Assumes nothing.
 use mathlib.Core.List.{List, [], _∷_}
 use Rattle.kinds.specs.Types.{u1, u2, u4, u8, i1, i2, i4, i8, f4, f8}
-use Rattle.kinds.specs.Marks.{unmarked, ones, zeroes, minus2e10, least}
+use Rattle.kinds.specs.Marks.{unmarked, ones, zeroes, minus2e10, least, seed}
 use Rattle.table.specs.Rows.{Table}
 use Rattle.shipped.specs.Words.{NamedBlock, block, field, tableOf}
 
@@ -30,7 +30,7 @@ pvtcartesian =
     ∷ field "SignalInfo" u4 80 0 zeroes
     ∷ field "AlertFlag" u1 84 0 zeroes
     ∷ field "NrBases" u1 85 1 zeroes
-    ∷ field "PPPInfo" u2 86 1 zeroes
+    ∷ field "PPPInfo" u2 86 1 seed
     ∷ field "Latency" u2 88 2 ones
     ∷ field "HAccuracy" u2 90 2 ones
     ∷ field "VAccuracy" u2 92 2 ones

@@ -87,7 +87,7 @@ pub const TABLE: [u8; 380] = [
     0x56,
     0x02,
     0x01,
-    0x02,
+    0x05,
     0x58,
     0x02,
     0x02,
@@ -376,8 +376,8 @@ pub const TABLE: [u8; 380] = [
     0x00,
     0x7c,
     0x01,
-    0xa0, // the CRC, low
-    0xe4, // the CRC, high
+    0x3f, // the CRC, low
+    0x32, // the CRC, high
     0x42,
     0x54,
 ];

@@ -15,6 +15,9 @@ minus-2e10-requires c κs = search needs
 least-bits-requires : tie.Need-least-bits-requires
 least-bits-requires c κs = search needs
 
+seed-type-requires : tie.Need-seed-type-requires
+seed-type-requires c κs = search needs
+
 returns : tie.Need-returns
 unfolding isDoNotUse
 returns c = rw (c .before .match .keys1, c .all-ones .ensures)
@@ -32,9 +35,13 @@ unfolding isDoNotUse
 returns-4 c = rw (c .before .match .keys4, c .least-bits .ensures)
 
 returns-5 : tie.Need-returns-5
-returns-5 c = let r = c .match .rest in marks-nothing _ _ _ (r .0 .0 .0 .1) (r .0 .0 .1) (r .0 .1) (r .1)
+unfolding isDoNotUse
+returns-5 c = rw (c .before .match .keys5, c .seed-type .ensures)
+
+returns-6 : tie.Need-returns-6
+returns-6 c = let r = c .match .rest in marks-nothing _ _ _ (r .0 .0 .0 .0 .1) (r .0 .0 .0 .1) (r .0 .0 .1) (r .0 .1) (r .1)
 
 pub is-do-not-use-spec : {M : Type 1} → statement M
 is-do-not-use-spec =
     tie.close
-    (tie.spec all-ones-requires minus-2e10-requires least-bits-requires returns returns-2 returns-3 returns-4 returns-5)
+    (tie.spec all-ones-requires minus-2e10-requires least-bits-requires seed-type-requires returns returns-2 returns-3 returns-4 returns-5 returns-6)

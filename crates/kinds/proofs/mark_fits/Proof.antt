@@ -27,7 +27,11 @@ unfolding markFits
 returns-5 c = rw (c .match .keys5)
 
 returns-6 : tie.Need-returns-6
-returns-6 c = fits-none _ _ (omega arith)
+unfolding markFits
+returns-6 c = rw (c .match .keys6)
+
+returns-7 : tie.Need-returns-7
+returns-7 c = fits-none _ _ (omega arith)
 
 pub mark-fits-spec : {M : Type 1} → statement M
-mark-fits-spec = tie.close (tie.spec returns returns-2 returns-3 returns-4 returns-5 returns-6)
+mark-fits-spec = tie.close (tie.spec returns returns-2 returns-3 returns-4 returns-5 returns-6 returns-7)

@@ -29,6 +29,9 @@ least-bits-requires c κs = search needs
 can-be-requires-4 : tie.Need-can-be-requires-4
 can-be-requires-4 c κs = search needs
 
+can-be-requires-5 : tie.Need-can-be-requires-5
+can-be-requires-5 c κs = search needs
+
 returns : tie.Need-returns
 unfolding unsetOf
 returns c = rw (c .before .before .match .keys1) (c .can-be .ensures ∙ ap some (c .before .all-ones .ensures))
@@ -46,7 +49,11 @@ unfolding unsetOf
 returns-4 c = rw (c .before .before .match .keys4) (c .can-be4 .ensures ∙ ap some (c .before .least-bits .ensures))
 
 returns-5 : tie.Need-returns-5
-returns-5 c = let r = c .match .rest in unset-nothing _ _ (r .0 .0 .0 .1) (r .0 .0 .1) (r .0 .1) (r .1)
+unfolding unsetOf
+returns-5 c = rw (c .before .match .keys5) (c .can-be5 .ensures)
+
+returns-6 : tie.Need-returns-6
+returns-6 c = let r = c .match .rest in unset-nothing _ _ (r .0 .0 .0 .0 .1) (r .0 .0 .0 .1) (r .0 .0 .1) (r .0 .1) (r .1)
 
 pub unset-bits-spec : {M : Type 1} → statement M
 unset-bits-spec =
@@ -59,8 +66,10 @@ unset-bits-spec =
     can-be-requires-3
     least-bits-requires
     can-be-requires-4
+    can-be-requires-5
     returns
     returns-2
     returns-3
     returns-4
-    returns-5)
+    returns-5
+    returns-6)
