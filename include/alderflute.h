@@ -108,9 +108,10 @@
  *     0, and those too many are not looked at.
  *   - Which values are allowed. For a field that the revision carries: unset, where the row has a Do-Not-Use value for it,
  *     which is written then; or a value of the kind that the field reads as, in the range of its type, and none that reads as
- *     Do-Not-Use: of PPPInfo by the table shipped, whose three highest bits are the type of the seed, no number below 8192
- *     (V10). A field without a Do-Not-Use value has to be given, a reserved one too. For a field that the revision does not
- *     carry, and past the last row: unset. TOW is a u4 and WNc a u2, of any revision, with all ones for Do-Not-Use.
+ *     Do-Not-Use: of PPPInfo by the table shipped, whose three highest bits are the type of the seed, no number below 8192,
+ *     and 0 is written where it is unset (V10, W6). A field without a Do-Not-Use value has to be given, a reserved one too.
+ *     For a field that the revision does not carry, and past the last row: unset. TOW is a u4 and WNc a u2, of any revision,
+ *     with all ones for Do-Not-Use.
  *   - The buffer is yours, of any length, and none of the reader's three. The block stands at its start, and what follows the
  *     block is as it was; a refused write leaves every byte. Gaps and padding in the block are 0. Nothing is kept of a write:
  *     the next one needs no other state, and the block may be fed or read at once, like any other.

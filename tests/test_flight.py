@@ -52,7 +52,8 @@ def bad(*numbers):
 
 
 def flight():
-    """samples/flight-line.script: the output file, and that the script's tables are those of the texts."""
+    """samples/flight-line.script: the output file, and that the script's tables are those of the texts. They are from before
+    request M-101, and PPPInfo is read by mark 2 there."""
     def text(name):
         with open(os.path.join(TOP, "samples", name), encoding="ascii") as f:
             return f.read()
@@ -70,6 +71,12 @@ def flight():
                             os.path.join(TOP, "samples", f"flight-line-v{version}.table.txt"), made], check=True)
             with open(made, "rb") as f:
                 yield f"the script's table {version} is that of its text", None, f.read().hex(), given
+            older = bytes.fromhex(given)
+            opening = line(f"staged {version}", f"0 0 {len(older)} 0 0 0 0 0", crcs(waiting=over(older, WAITING))) \
+                + line(f"opened {version}", f"1 {len(older)} 0 0 0 0 0 0", crcs(force=over(older, FORCE), waiting=over(older, WAITING)))
+            for info, read in ((0, "do-not-use"), (0x0FFF, "unsigned 4095")):
+                yield f"PPPInfo read by the script's table {version}: {info:#06x}", f"stage {given}\nopen\nbody 21 {cartesian(info).hex()}\n", \
+                    opening + line(read, f"1 {len(older)} 0 0 0 0 0 0"), ""
 
 
 # A line that is no call, with why; each is tried alone and between two good lines.

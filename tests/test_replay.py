@@ -389,7 +389,7 @@ def sample_watched():
     for kind, count in (("unset", 3), ("8192", 1), ("more", 2),
                         ("refused, 0", 2), ("refused, 8191", 1),
                         ("refused, other", 2)):
-        want["mark 5", "write " + kind] = count
+        want["mark 5", "write body " + kind] = count
     return held and player.met == want
 
 
@@ -928,10 +928,11 @@ def fields_met(row, arguments, answer):
 
 
 def seeds_given(row, revision, body, subs):
-    """[(list, index, value)] of the carried fields with mark 5."""
-    return [(values, at, values[at] if at < len(values) else None)
-            for fields, values in [(row.body, body)]
-            + [(row.subs, values) for values in subs]
+    """[(body or sub, list, index, value)] of the carried fields with mark
+    5."""
+    return [(word, values, at, values[at] if at < len(values) else None)
+            for word, fields, values in [("body", row.body, body)]
+            + [("sub", row.subs, values) for values in subs]
             for at, field in enumerate(fields)
             if field.mark == 5 and model.carried(field, revision)]
 
@@ -940,8 +941,8 @@ def written_met(row, arguments):
     """Of a block that was written."""
     kinds = {None: "unset", ("unsigned", 8192): "8192"}
     given = seeds_given(row, arguments[1], *arguments[-2:])
-    return {("mark 5", "write " + kinds.get(value, "more"))
-            for _, _, value in given}
+    return {("mark 5", "write %s %s" % (word, kinds.get(value, "more")))
+            for word, _, _, value in given}
 
 
 def refused_met(state, force, arguments):
@@ -951,16 +952,17 @@ def refused_met(state, force, arguments):
     body, subs = list(arguments[-2]), [list(v) for v in arguments[-1]]
     row = row_in(state, force, arguments[0])
     low = []
-    for values, at, given in seeds_given(row, arguments[1], body, subs):
+    for word, values, at, given in seeds_given(row, arguments[1], body, subs):
         if given and given[0] == "unsigned" and given[1] < 8192:
-            low.append(given[1])
+            low.append((word, given[1]))
             values[at] = None
     again = model.call_write(state, force, bytearray(), *arguments[:-2],
                              body, subs)
     if again[0] == ("refused", 11):
         return set()
-    return {("mark 5", "write refused, %s" % (
-        number if number in (0, 8191) else "other")) for number in low}
+    return {("mark 5", "write %s refused, %s" % (
+        word, number if number in (0, 8191) else "other"))
+        for word, number in low}
 
 
 def tables_met(table):
@@ -1006,8 +1008,9 @@ SEED_KINDS = ("unsigned", "do-not-use", "do-not-use, bits not 0",
 MARK_5 = {
     "mark 5": tuple("body " + kind for kind in SEED_KINDS)
     + tuple("sub " + kind for kind in SEED_KINDS)
-    + ("write unset", "write 8192", "write more", "write refused, 0",
-       "write refused, 8191", "write refused, other")
+    + tuple("write %s %s" % (word, kind) for word in ("body", "sub")
+            for kind in ("unset", "8192", "more", "refused, 0",
+                         "refused, 8191", "refused, other"))
     + tuple("stage refused, type %d" % kind for kind in range(1, 11)
             if kind != 2),
     "PPPInfo": SEED_KINDS}

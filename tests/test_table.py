@@ -417,7 +417,8 @@ def changed_rows():
         expect("a number twice, in the constant too", "T8: block numbers rise" in twice[2], twice)
         with_index = bytes(int(n, 16) for n in re.findall(r"^    0x(..),", edited(crate, "wrong/another_first_index.edit")["src/bytes.rt"], re.M))
         expect("another first index", "T10: the index" in show(closed(with_index[:-4]), folder)[2])
-        hand = ("docs/RULES.md", "docs/PROMISES.md", "docs/DECISIONS.md, 9", "README.md", "CHANGELOG.md", "tests/model/model.py", "rt check shipped lister")
+        hand = ("docs/RULES.md", "docs/PROMISES.md", "docs/DECISIONS.md, 9", "README.md", "CHANGELOG.md", "tests/model/model.py",
+                "crates/samples/specs/PppInfo.antt", "bench/baseline_writer.c", "rt check shipped lister samples")
         expect("what is left is told", all(name in out for name in hand), out)
         expect("nothing is left the second time", tool("rattle", given, crate)[1].endswith("nothing has changed\n"))
         with open(given, "w", encoding="utf-8") as f:
