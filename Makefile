@@ -10,7 +10,7 @@ INCLUDEDIR = $(PREFIX)/include
 LIBDIR = $(PREFIX)/lib
 DATADIR = $(PREFIX)/share
 ARCHIVE = target/staticlib/libalderflute.a
-DATA = example.c write.c shipped-v1.table shipped-v1.table.h shipped-v1.table.txt
+DATA = example.c write.c ranges.c shipped-v1.table shipped-v1.table.h shipped-v1.table.txt
 
 absolute = $(if $(filter /%,$(1)),$(1),$(CURDIR)/$(1))
 override PREFIX := $(call absolute,$(PREFIX))

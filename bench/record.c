@@ -9,11 +9,11 @@ extern int strcmp(const char *a, const char *b);
 
 static uint8_t hold[ALDERFLUTE_HOLD], in_force[ALDERFLUTE_STORE], waiting[ALDERFLUTE_STORE], table[ALDERFLUTE_STORE];
 
-/* N is 1 and SBLength 255, which no row passes. */
+/* N is 1 and SBLength 255, which no row passes; of two levels N2 is 1 and SB2Length 16. */
 static void block(uint8_t *to, unsigned number, unsigned length)
 {
     header(to, number, length);
-    for (size_t i = 8; i < length; i++) to[i] = i < 14 ? 0 : i == 15 ? 255 : 1;
+    for (size_t i = 8; i < length; i++) to[i] = i < 14 ? 0 : i == 15 ? 255 : i == 16 ? 16 : 1;
     mend(to, length);
 }
 
@@ -23,6 +23,9 @@ static unsigned ask(const char *call, alderflute_state s, const uint8_t *b, size
     if (!strcmp(call, "open")) return alderflute_open(s, in_force, sizeof in_force, waiting, sizeof waiting).answer.refusal;
     if (!strcmp(call, "body")) return alderflute_body(s, in_force, sizeof in_force, b, length, 0).refusal;
     if (!strcmp(call, "sub")) return alderflute_sub(s, in_force, sizeof in_force, b, length, 0, 0).refusal;
+    if (!strcmp(call, "sub2")) return alderflute_sub2(s, in_force, sizeof in_force, b, length, 0, 0, 0).refusal;
+    if (!strcmp(call, "range")) return alderflute_range(s, in_force, sizeof in_force, b, length, 0).refusal;
+    if (!strcmp(call, "range2")) return alderflute_range2(s, in_force, sizeof in_force, b, length, 0, 0).refusal;
     if (!strcmp(call, "tow")) return alderflute_tow(s, b, length).refusal;
     return 1;
 }

@@ -4,15 +4,17 @@
  * proved against its definition; crates/capi of the repository has both.
  *
  * RULES. What stands here in short stands in docs/RULES.md of the repository in full, by number: how a run is read F11 to F15,
- * calls and buffers C1 to C15, refusal n as Rn, tables T1 to T18, values V1 to V10, writing W1 to W9. The numbers are named
+ * calls and buffers C1 to C16, refusal n as Rn, tables T1 to T21, values V1 to V12, writing W1 to W9. The numbers are named
  * below.
  *
  * WORDS. A run is the bytes from an open to END; a piece is what one feed is given of it, cut anywhere. A block has a number,
  * which says what it is, and a revision, which grows as fields are added to it. A table has a row for each block number: where
  * its fields stand, their types, from which revision on, and which values mean that there is none. A block of a later revision
  * than its row knows is read by the fields that the row has, and not refused. Body fields stand once in a block; a sub-block
- * repeats its fields. A table's version is only what the table says of itself. Nothing checks that two tables of one version
- * are the same: those of samples/shipped-v1 and samples/flight-line-v1 both say 1, with other field numbers.
+ * repeats its fields. In a block of two levels, as MeasEpoch is one, each first-level sub-block is followed by second-level
+ * ones nested in it, as many as its last field, N2, says; the walk over them goes by that and by the two lengths in the block.
+ * A table's version is only what the table says of itself. Nothing checks that two tables of one version are the same: those
+ * of samples/shipped-v1 and samples/flight-line-v1 both say 1, with other field numbers.
  *
  * CALLS IN ORDER. alderflute_new once; stage a table; open a run; feed it, and after each BLOCK ask for its bytes and fields;
  * finish until END. Then open the next run. Stage and withdraw may come at any time: a staged table waits for the next open.
@@ -20,11 +22,11 @@
  *
  * LINKING. tools/capi, or make, builds target/staticlib/libalderflute.a; `make install PREFIX=..` puts header, archive and
  * alderflute.pc in place, and then `cc .. $(pkg-config --cflags --libs alderflute)` links; PREFIX/share/alderflute has the
- * examples, with the table that they include as a C header. The archive is position-independent code for x86-64 Linux and the
- * System V ABI, about 17 kB with its constants. Of a C library it wants memmove and memset and nothing else, so it links into
- * a freestanding program that has both. It allocates nothing, keeps no variables, calls nothing back and starts no threads.
- * This header includes stddef.h and stdint.h only. At the start compare alderflute_abi() with ALDERFLUTE_ABI, as the example
- * does: where they differ, header and archive do not belong together.
+ * examples, and ranges.c for MeasEpoch, with the table that they include as a C header. The archive is position-independent
+ * code for x86-64 Linux and the System V ABI, about 23 kB with its constants. Of a C library it wants memmove and memset and
+ * nothing else, so it links into a freestanding program that has both. It allocates nothing, keeps no variables, calls nothing
+ * back and starts no threads. This header includes stddef.h and stdint.h only. At the start compare alderflute_abi() with
+ * ALDERFLUTE_ABI, as the example does: where they differ, header and archive do not belong together.
  *
  * BARE METAL. The archive uses the SSE registers: switch SSE on before the first call, and let interrupt handlers that use it
  * save and restore these registers. It uses the red zone, 128 bytes below the stack pointer: an interrupt must not push onto
@@ -41,18 +43,18 @@
  * start with a struct of zeros: today it happens to be the same, but a later version will refuse it (there the state has a
  * ceiling for block lengths, request M-103, and 0 is a bad one). The state goes into every call by value. A call that returns
  * an alderflute_reply returns the next state in it: go on with that one, and with no older one. The others (bytes, body, sub,
- * subbytes, tow, wnc, write) do not change it. The struct has no pointers: keep it where you like, move or save it with the
- * buffers, but write nothing into it. Of made-up states refusal 1 finds those that its line below names, and no others. Any
- * other is taken at its word: five held bytes are a standing block where the state says so, places and the counts of END come
- * from the state, and a count that was close to its bound may pass it, which the next call refuses. But no call reads or
- * writes past the buffers given.
+ * subbytes, sub2, range, range2, tow, wnc, write) do not change it. The struct has no pointers: keep it where you like, move
+ * or save it with the buffers, but write nothing into it. Of made-up states refusal 1 finds those that its line below names,
+ * and no others. Any other is taken at its word: five held bytes are a standing block where the state says so, places and the
+ * counts of END come from the state, and a count that was close to its bound may pass it, which the next call refuses. But no
+ * call reads or writes past the buffers given.
  *
  * BUFFERS (C2 to C4). You own every buffer; a call borrows it until it returns, and no pointer is kept after that. Three
  * buffers belong to one reader from alderflute_new on, and between calls nobody else may write to them:
  *   the hold      ALDERFLUTE_HOLD bytes or more. The bytes that are not decided yet, a reported block first.
  *                 Lent to feed, finish (they write it) and bytes.
  *   in force      ALDERFLUTE_STORE bytes or more. The table that blocks are read by.
- *                 Lent to open (writes it), body, sub, subbytes and write.
+ *                 Lent to open (writes it), body, sub, subbytes, sub2, range, range2 and write.
  *   waiting       ALDERFLUTE_STORE bytes or more. A table that waits for the next open.
  *                 Lent to stage (writes it) and open.
  * Their contents before the first call do not matter. Pieces, tables, blocks and the lists of write are given for one call
@@ -81,19 +83,23 @@
  *    3  RUN_FULL. feed: the run has had its 4,294,967,295 bytes, and no block is left among those held. Only an empty piece
  *       is taken then.
  *    4  BAD_TABLE. The table breaks a rule: the one to be staged, the one to be opened or the one in force.
- *    5  NO_TABLE. open with none waiting and none in force; body, sub, subbytes and write with none in force.
- *    6  NO_ROW. The table has no row for the block's number; of write, for the number that was given.
+ *    5  NO_TABLE. open with none waiting and none in force; body, sub, subbytes, sub2, range, range2 and write with none in
+ *       force.
+ *    6  NO_ROW. The table has no row for the block's number; of write, for the number that was given, or one of two levels,
+ *       which write does not write.
  *    7  TOO_SHORT. The block ends before the body that its revision has by the row, or has fewer than 14 bytes.
  *    8  BAD_SUB_BLOCKS. The block's sub-blocks are shorter than the fields that its revision has by the row, or end past
- *       the block's end.
- *    9  NO_SUCH_FIELD. The row has no field of that number, or the block no such sub-block.
+ *       the block's end. Of two levels: the walk over its sub-blocks ends past the block's end, or the sub-blocks of a level
+ *       that has any are too short for its fields.
+ *    9  NO_SUCH_FIELD. The row has no field of that number in that level, or the block no such sub-block. sub2: the row is of
+ *       one level. range, range2: no MeasEpoch of two levels, or a field that they read is of another type, or no number.
  *   10  NOT_ONE_FRAME. What was given as a block is not exactly one: sync bytes, length and CRC do not all fit it.
  *   11  BAD_VALUES. write: the revision is above 7; there are more than 255 sub-blocks, or any where the row has no
  *       sub-fields; or TOW, WNc or some value is not allowed, as WRITING has it.
  *   12  NO_ROOM. write: the block is longer than the buffer, or than 65,532 bytes, or its sub-blocks than 255 bytes each.
  * Where several hold, open gives the first of 1, 2, 5, 4; feed of 1, 2, 3; finish of 1, 2; bytes and withdraw 1; stage of
- * 1, 4; body, sub and subbytes of 1, 5, 4, 10, 6, 7, 8, 9; tow and wnc of 1, 10, 7; write of 1, 5, 4, 6, 11, 12, where 1
- * does not look at the buffer that is written.
+ * 1, 4; body, sub, subbytes, sub2, range and range2 of 1, 5, 4, 10, 6, 7, 8, 9; tow and wnc of 1, 10, 7; write of 1, 5, 4, 6,
+ * 11, 12, where 1 does not look at the buffer that is written.
  *
  * WRITING (W1 to W9). alderflute_write makes one block from values, through the table in force. It is given the block's number
  * and revision, TOW and WNc, and two lists: kinds, a byte a value, and beside it bits, 64 a value. Value i of the body is for
@@ -118,14 +124,17 @@
  * What is written reads back: by the same table body, sub, tow and wnc answer what was given, DO_NOT_USE where it was unset.
  *
  * TIME. No call waits, and every call ends. How long it takes is measured and not promised: x86-64 instructions, counted by
- * bench/worst and bench/record of the repository with the kit that its README names.
+ * bench/worst and bench/record of the repository with the kit that its README names; by the table shipped as it was before it
+ * had MeasEpoch, 380 bytes long.
  *   feed            1,300 for a block of 44 bytes in one piece, 525,000 for the last byte of a block of 65,532.
  *                   A header in noise holds back as many bytes as its length says, up to 65,532, and the feed that ends it
  *                   decides all of them: 600,000 where they are zeros, but 4,570,000,000 where they are full of such
  *                   headers, the dearest that we could make: 1.4 s on one core of an Intel Xeon. Smaller pieces do not help
  *                   there. Each byte more in its piece can add 131,000. With finish it is the same.
  *   body, sub, subbytes   7,200 to 9,300 by the table shipped and blocks of 44 and 272 bytes, 669,000 by a table of 8,192
- *                   bytes and a block of 65,532: each checks the table in force, and the block's CRC.
+ *                   bytes and a block of 65,532: each checks the table in force, and the block's CRC. By a row of two levels
+ *                   they pass once over its first-level sub-blocks, 255 at the most. So do sub2, range and range2, which are
+ *                   not counted yet.
  *   tow, wnc        820 for a block of 44 bytes, 525,000 for one of 65,532.
  *   write           8,300 for an AttEuler of 44 bytes and 17,000 for a BaseVectorCart of 224 by the table shipped, of which
  *                   the check of the table in force takes 6,300 (bench/writer).
@@ -471,13 +480,30 @@ alderflute_field alderflute_body(alderflute_state state, const uint8_t *in_force
                                  size_t block_length, size_t field);
 
 /* C13, V7. A field of a sub-block, by two numbers from 0. Body fields 0 and 1 of such a block are N and SBLength: how many
-   sub-blocks it has, and how many bytes each. */
+   sub-blocks it has, and how many bytes each. In a block of two levels, as MeasEpoch is one, it is a field of a first-level
+   sub-block, and body fields 0 to 2 are N1, SB1Length and SB2Length. */
 alderflute_field alderflute_sub(alderflute_state state, const uint8_t *in_force, size_t in_force_length, const uint8_t *block,
                                 size_t block_length, size_t sub_block, size_t field);
 
-/* C13, T18. The bytes of a sub-block, as a part of the block. */
+/* C13, T18, T21. The bytes of a sub-block, as a part of the block; of two levels, of a first-level one without those nested in
+   it. */
 alderflute_part alderflute_subbytes(alderflute_state state, const uint8_t *in_force, size_t in_force_length,
                                     const uint8_t *block, size_t block_length, size_t sub_block);
+
+/* C16, V7. A field of a second-level sub-block, by three numbers from 0: of the first-level sub-block, of the one nested in it,
+   and of the field. The first level's last field, N2, is how many are nested in it. */
+alderflute_field alderflute_sub2(alderflute_state state, const uint8_t *in_force, size_t in_force_length, const uint8_t *block,
+                                 size_t block_length, size_t sub_block, size_t nested, size_t field);
+
+/* C16, V11. The pseudorange of a first-level sub-block of a MeasEpoch (4027), SIGNED, in whole millimetres, or DO_NOT_USE. The
+   fields are found by the numbers that the table shipped gives them. */
+alderflute_field alderflute_range(alderflute_state state, const uint8_t *in_force, size_t in_force_length, const uint8_t *block,
+                                  size_t block_length, size_t sub_block);
+
+/* C16, V12. The same of a second-level one, which adds its offset to the first level's: DO_NOT_USE where that is, or where the
+   offset is; a value may be 0 or negative. */
+alderflute_field alderflute_range2(alderflute_state state, const uint8_t *in_force, size_t in_force_length,
+                                   const uint8_t *block, size_t block_length, size_t sub_block, size_t nested);
 
 /* V8. The time of week of a block (TOW), UNSIGNED or DO_NOT_USE; by no table. */
 alderflute_field alderflute_tow(alderflute_state state, const uint8_t *block, size_t block_length);
@@ -502,10 +528,10 @@ static inline const char *alderflute_refusal_text(uint32_t refusal)
     case ALDERFLUTE_REFUSAL_RUN_FULL: return "the run is full: finish it and open the next";
     case ALDERFLUTE_REFUSAL_BAD_TABLE: return "the table breaks a rule: `tools/table show FILE` says which";
     case ALDERFLUTE_REFUSAL_NO_TABLE: return "there is no table: stage one, then open a run";
-    case ALDERFLUTE_REFUSAL_NO_ROW: return "the table has no row for this block: pass it by, or stage a table that has";
+    case ALDERFLUTE_REFUSAL_NO_ROW: return "no row to read or write this block by: pass it by, or stage a table that has";
     case ALDERFLUTE_REFUSAL_TOO_SHORT: return "the block is too short for its row: pass it by";
     case ALDERFLUTE_REFUSAL_BAD_SUB_BLOCKS: return "the sub-blocks do not fit their row or their block: pass it by";
-    case ALDERFLUTE_REFUSAL_NO_SUCH_FIELD: return "no such field or sub-block: see the table, and the block's N";
+    case ALDERFLUTE_REFUSAL_NO_SUCH_FIELD: return "no such field or sub-block: see the table, and N, N1 or N2";
     case ALDERFLUTE_REFUSAL_NOT_ONE_FRAME: return "no whole block: give the part that alderflute_bytes hands back";
     case ALDERFLUTE_REFUSAL_BAD_VALUES: return "what was given does not fit the row: see its types, marks and revisions";
     case ALDERFLUTE_REFUSAL_NO_ROOM: return "the block does not fit: lend a longer buffer; above 65,532 bytes none will do";

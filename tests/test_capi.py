@@ -27,6 +27,7 @@ REPLAY = os.path.join(TOP, "target", "bin", "replay")
 HEADER = os.path.join(TOP, "include", "alderflute.h")
 EXAMPLE = os.path.join(TOP, "samples", "example.c")
 WRITE = os.path.join(TOP, "samples", "write.c")
+RANGES = os.path.join(TOP, "samples", "ranges.c")
 TABLE = os.path.join(TOP, "samples", "shipped-v1.table")
 # relative to TOP, where every command is run: the flags pass through a shell variable, and a path may have spaces
 CFLAGS = ["-Wall", "-Wextra", "-Werror", "-pedantic", "-nostdinc", "-isystem", os.path.join("tests", "capi", "include"),
@@ -173,6 +174,7 @@ NUMBERS = [0, 1, 2, 7, 8, 9, 380, 8191, 8192, 8193, 65531, 65532, 65533, 4294967
 BAD = ["opens", "open ", " open", "feed", "feed 0", "feed 0g", "feed 24 40", "body 0", "body x 24", "poke phase 3", "poke held -1",
        "poke held 18446744073709551616", "poke nothing 1", "put hold 65535 0000", "put hold 65537 -", "put nowhere 0 00", "size hold",
        "size nowhere 1", "sub 0 24", "subbytes 24", "open\r", "bytes 1", "withdraw -", "tow", "wnc 2", "feed  24",
+       "sub2 0 0 24", "sub2 0 0 0 0 24", "range 24", "range 0 0 24", "range2 0 24",
        "write", "write 5943 0 1", "write 5943 0 1 2 ", "write 5943 0 1 2  -", "write -1 0 1 2", "write 5943 - 1 2",
        "write 5943 0 u1 2", "write 5943 0 1 2 u", "write 5943 0 1 2 u-1", "write 5943 0 1 2 u18446744073709551616", "write 5943 0 1 2 i",
        "write 5943 0 1 2 i-", "write 5943 0 1 2 i9223372036854775808", "write 5943 0 1 2 i-9223372036854775809", "write 5943 0 1 2 f1.5",
@@ -201,13 +203,14 @@ def script(seed):
         return ["feed " + hexed(data[:cut]), "bytes"] + (["feed " + hexed(data[cut:])] if cut < len(data) else [])
 
     def record():
-        data = rng.choice([last] * 20 + [some_block(rng, numbers), last[:-1], last + b"\0", b""])
+        data = rng.choice([last] * 20 + [some_block(rng, numbers), last[:-1], last + b"\0", b""] + [some_epoch(rng)] * 9)
         out = []
         for _ in range(3):
             far = rng.choice([30, 255, 256, 2 ** 32, 2 ** 64 - 1])
             i, j = rng.choice([0, 0, 0, 1, 1, 2, far]), rng.choice([0, 0, 1, 1, 2, 2, 3, 4, rng.choice([5, 9, 20, 22]), far])
             out += rng.choice([[f"body {j} {hexed(data)}"], [f"body {j} {hexed(data)}"], [f"sub {i} {j} {hexed(data)}"],
                                [f"sub {i} {j} {hexed(data)}"], [f"subbytes {i} {hexed(data)}"], ["tow " + hexed(data)], ["wnc " + hexed(data)]])
+            out += [rng.choice([f"sub2 {i} {rng.choice([0, 1, far])} {j} ", f"range {i} ", f"range2 {i} {rng.choice([0, 1, far])} "]) + hexed(data)]
         return out
 
     def write(number, revision, count, odd):
@@ -265,7 +268,7 @@ def build(env):
     if not expect("tools/capi builds the archive", status == 0 and os.path.exists(ARCHIVE), error.decode(errors="replace")[-2000:]):
         return False
     os.makedirs(BUILT, exist_ok=True)
-    for source in [EXAMPLE, WRITE] + [os.path.join(TOP, "tests", "capi", name + ".c") for name in ("play", "odd", "stack", "full")]:
+    for source in [EXAMPLE, WRITE, RANGES] + [os.path.join(TOP, "tests", "capi", name + ".c") for name in ("play", "odd", "stack", "full")]:
         if not compiled(env, source, os.path.join(BUILT, os.path.basename(source)[:-2]), CFLAGS, [ARCHIVE]):
             return False
     return True
@@ -297,7 +300,7 @@ def header(env):
     for language, standard in [("c", "c11"), ("c++", "c++11")]:
         said = syntax(env, os.path.join(TOP, "tests", "capi", "sizes.c"), language, standard)
         expect(f"the structs' sizes in {standard}", said == "", said)
-        for source in (EXAMPLE, WRITE):
+        for source in (EXAMPLE, WRITE, RANGES):
             said = syntax(env, source, language, standard)
             expect(f"{os.path.basename(source)} is {standard}", said == "", said)
     text = read(HEADER)
@@ -318,7 +321,7 @@ def header(env):
     expect("the header's sentences name them", [(name, n) for n, name in told] == wanted, told)
     exported = exports()
     declared = set(re.findall(r"^\w+ (alderflute_\w+)\(", text, re.M))
-    expect("the header declares what the crate exports", exported == declared and len(exported) == 14, exported ^ declared)
+    expect("the header declares what the crate exports", exported == declared and len(exported) == 17, exported ^ declared)
 
 
 def exports():
@@ -494,6 +497,37 @@ def att_euler():
 WRITTEN = att_euler().hex().encode() + b" roll -2.250\n"
 
 
+def some_epoch(rng):
+    """A MeasEpoch of a few satellites, some of it at the edges of V11 and V12, now and then cut."""
+    nests = [(k, rng.choice([0, 0xF0, rng.randrange(256)]), rng.choice([0, 1, rng.randrange(2 ** 32)]),
+              [(rng.choice([4, rng.randrange(256)]), rng.choice([0, rng.randrange(65536)])) for _ in range(rng.choice([0, 1, 2]))])
+             for k in range(rng.choice([0, 1, 1, 2, 3]))]
+    return epoch(nests, rng.choice([0] * 9 + [4, 8]) if nests else 0)
+
+
+def epoch(nests, cut=0):
+    """A MeasEpoch of these first-level sub-blocks: SVID, Misc, CodeLSB, and OffsetsMSB and CodeOffsetLSB of each nested one. Sub-blocks
+    are longer than their rows; `cut` bytes are missing at the end."""
+    body = struct.pack("<IH6B", 1000, 2100, len(nests), 24, 16, 0, 0, 0)
+    for svid, misc, lsb, nested in nests:
+        body += bytes([0, 0, svid, misc]) + struct.pack("<I", lsb) + bytes(11) + bytes([len(nested)]) + b"\xff" * 4
+        body += b"".join(bytes([0, 0, 0, high, 0, 0]) + struct.pack("<H", low) + bytes(8) for high, low in nested)
+    body = body[:len(body) - cut]
+    rest = struct.pack("<HH", 4027, 8 + len(body)) + body
+    return b"$@" + struct.pack("<H", binascii.crc_hqx(rest, 0)) + rest
+
+
+def ranges(env):
+    """samples/ranges.c: pseudoranges of both levels, one below zero, what is Do-Not-Use, and a block that is refused."""
+    stream = epoch([(7, 0xF0, 20000000, [(0, 5), (0xFF, 65535), (4, 0)]), (9, 0x31, 1, [])]) + epoch([(7, 0, 3, [(4, 1)])])
+    wanted = b"1000 7 20000000 + 20000005 + 19999999 + unknown\n1000 9 4294967297\n1000 7 3 + -262140\n"
+    status, out, error = ran([os.path.join(TOP, "tools", "x86run"), os.path.join(BUILT, "ranges")], env, stream)
+    expect("ranges.c prints the pseudoranges of two epochs", (status, out, error) == (0, wanted, b""), (status, out, error))
+    stream = epoch([(7, 0xF0, 0, [(0, 5)])]) + epoch([(7, 0, 3, [(0, 1)])], 4)
+    status, out, error = ran([os.path.join(TOP, "tools", "x86run"), os.path.join(BUILT, "ranges")], env, stream)
+    expect("ranges.c tells of a cut epoch", (status, out) == (0, b"1000 7 unknown + unknown\n") and b"block at 60: the sub-blocks" in error, (status, out, error))
+
+
 def example(env):
     status, out, error = ran([os.path.join(TOP, "tools", "x86run"), os.path.join(BUILT, "example")], env, flight())
     expect("the example lists the flight line", (status, out, error) == (0, listed(), b""), out[-300:])
@@ -560,6 +594,7 @@ def main():
         archive(env)
         example(env)
         write_example(env)
+        ranges(env)
         installed(env)
         not_installed(env)
         called(env)

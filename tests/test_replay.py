@@ -2,19 +2,21 @@
 """Compares the programs `replay` and `lister` with the independent model (model/model.py).
 
     test_replay.py            the gate's amount: 220 scripts of about 100
-                              calls, 110 of about 200 record calls, 60 of
-                              about 100 blocks to be written, 20 runs
+                              calls, 110 of about 200 record calls, 40 of
+                              about 150 on blocks of two levels, 60 of about
+                              100 blocks to be written, 20 runs
     test_replay.py N          N times as many seeds
     test_replay.py --model    the model's own samples alone; no program is run
     test_replay.py --seed S   writes the script S to standard output: 17 a
-                              script, r17 a script of record calls, w17 one
-                              of blocks to be written, l17 the bytes of a run
-                              for the lister
+                              script, r17 a script of record calls, m17 one
+                              of blocks of two levels, w17 one of blocks to
+                              be written, l17 the bytes of a run for the
+                              lister
 
 Standard output and standard error are compared byte for byte.  At the first
 difference it says where and stops.  The last line is `N passed, M failed`; N
 counts the samples of the model's own test, the scripts and runs compared, and
-the answer kinds and the cases of mark 5 that had to be met.
+the answer kinds and the cases of mark 5 and of two levels that had to be met.
 """
 
 import collections
@@ -22,6 +24,7 @@ import concurrent.futures
 import functools
 import os
 import random
+import struct
 import subprocess
 import sys
 import time
@@ -39,10 +42,11 @@ TOP = programs.TOP
 RUNNER = os.path.join(TOP, "tools", "x86run")
 REPLAY = os.path.join(TOP, "target", "bin", "replay")
 LISTER = os.path.join(TOP, "target", "bin", "lister")
-SCRIPTS, RECORDS, WRITES, RUNS = 220, 110, 60, 20
+SCRIPTS, RECORDS, LEVELS, WRITES, RUNS = 220, 110, 40, 60, 20
 LEAST_RECORD_ANSWERS = 20000
 LEAST_WRITTEN = 2500    # blocks
-RECORD_WORDS = ("body", "sub", "subbytes", "tow", "wnc")
+RECORD_WORDS = ("body", "sub", "subbytes", "tow", "wnc", "sub2", "range",
+                "range2")
 SECONDS = 300
 
 # -------------------------------------------------- the model's own samples
@@ -213,11 +217,14 @@ def tables_agree():
             and not any(model.read_table(content.broken_table(rng))
                         for _ in range(300))
             and not any(model.read_table(model.make_table(1, (row,)))
-                        for _, row in content.bad_rows(rng, 9)))
+                        for _, row in content.bad_rows(rng, 9)
+                        + content.bad_levels(rng, 9))
+            and all(model.read_table(model.make_table(1, content.level_rows(
+                rng))) for _ in range(100)))
 
 
 def shipped_agree():
-    """T30 to T36: the model's rows, made without samples/, are those there."""
+    """T30 to T37: the model's rows, made without samples/, are those there."""
     with open(os.path.join(TOP, "samples", "shipped-v1.table"), "rb") as file:
         return model.shipped_table(1) == file.read()
 
@@ -489,7 +496,7 @@ def made():
     while len(out) < 400:
         reader = in_force(content.write_rows(rng))
         rows = model.read_table(reader[1][:reader[0].force]).rows
-        for row in rows:
+        for row in [row for row in rows if not row.c]:
             wanted = content.allowed(rng, row, rng.randrange(6))
             buffer = bytearray(content.noise(rng, 4000))
             before = bytes(buffer)
@@ -627,7 +634,7 @@ def faults_refused():
         while tried < 25 and fault is not content.fault_number:
             rows = content.write_rows(rng)
             wanted = content.allowed(rng, rng.choice(rows), rng.randrange(4))
-            if not fault(rng, wanted):
+            if wanted.row.c or not fault(rng, wanted):
                 continue
             tried += 1
             buffer = bytearray(rng.choice((0, 8, 66000)))
@@ -697,6 +704,180 @@ def widest():
             == ("refused", 12))
 
 
+# --------------------------------------------- samples of blocks of two levels
+# Request M-102.  A MeasEpoch block by hand: two satellites, sub-blocks two and
+# one byte longer than their rows.  The first has two slave signals, one 4.321
+# m above it and one 1 mm below it; the second has one that is not measured.
+
+EPOCH_HEAD = "2440 %s BB2F 6800 E8030000 3408 02 16 0D 04 07 00"
+EPOCH_ONE = ("01 00 05 F5 39300000 E8030000 0100 FF B4 FFFF 00 02 AAAA"
+             "02 0A 5A F8 00 00 E110 0000 0000 AA 03 FF 60 07 80 00"
+             "FFFF 0000 0000 AA")
+EPOCH_TWO = ("02 60 07 F0 00000000 00000080 0000 80 FF 0500 00 01 AAAA"
+             "03 05 50 04 01 00 0000 0000 0000 AA AA")
+EPOCH = EPOCH_HEAD + EPOCH_ONE + EPOCH_TWO
+EPOCH_RANGE = 5 * 2 ** 32 + 12345
+# (line without the block, the answer)
+EPOCH_LINES = (
+    ("tow", "unsigned 1000"), ("wnc", "unsigned 2100"),
+    ("body 0", "unsigned 2"), ("body 1", "unsigned 22"),
+    ("body 2", "unsigned 13"),
+    ("body 4", "unsigned 7"), ("body 5", "refused 9"),
+    ("sub 0 0", "unsigned 1"), ("sub 0 4", "unsigned 12345"),
+    ("sub 0 5", "signed 1000"), ("sub 0 7", "signed -1"),
+    ("sub 0 9", "do-not-use"), ("sub 0 11", "unsigned 2"),
+    ("sub 0 12", "refused 9"), ("sub 1 0", "unsigned 2"),
+    ("sub 1 5", "do-not-use"), ("sub 1 8", "do-not-use"),
+    ("sub 1 11", "unsigned 1"), ("sub 2 0", "refused 9"),
+    ("sub2 0 0 0", "unsigned 2"), ("sub2 0 0 6", "unsigned 4321"),
+    ("sub2 0 1 0", "unsigned 3"), ("sub2 0 1 1", "do-not-use"),
+    ("sub2 0 1 4", "signed -128"), ("sub2 0 1 8", "unsigned 0"),
+    ("sub2 0 1 9", "refused 9"), ("sub2 0 2 0", "refused 9"),
+    ("sub2 1 0 0", "unsigned 3"), ("sub2 1 0 4", "signed 1"),
+    ("sub2 1 1 0", "refused 9"), ("sub2 2 0 0", "refused 9"),
+    ("range 0", "signed %d" % EPOCH_RANGE), ("range 1", "do-not-use"),
+    ("range 2", "refused 9"),
+    ("range2 0 0", "signed %d" % (EPOCH_RANGE + 4321)),
+    ("range2 0 1", "signed %d" % (EPOCH_RANGE - 1)),
+    ("range2 0 2", "refused 9"), ("range2 1 0", "do-not-use"),
+    ("range2 1 1", "refused 9"), ("range2 2 0", "refused 9"))
+
+
+def hand_block(text):
+    """A block of these hex digits; its CRC is put in."""
+    return content.seal(bytes.fromhex(text.replace("%s", "0000")))
+
+
+def sample_epoch():
+    """The lines above, and Write's answer for the row."""
+    player = model.Player()
+    player.line(b"stage " + scripts.hexed(model.shipped_table(1)))
+    player.line(b"open")
+    data = hand_block(EPOCH)
+    for line, want in EPOCH_LINES:
+        told = player.line(line.encode() + b" " + scripts.hexed(data))
+        if told.split(" | ")[0] != want:
+            print("  %s: %s" % (line, told))
+            return False
+    parts = [player.call(b"subbytes", [at, data])[1] for at in (0, 1)]
+    return (parts == [data[20:42], data[68:90]]
+            and player.call(b"write", [4027, 1, None, None, [], []])
+            == ("refused", 6))
+
+
+def sample_eights():
+    """The same block with one byte changed, and what Body answers: where the
+    walk ends, which lengths are too short, and which say nothing.  At 14 to
+    16 the counts and lengths, at 39 and 87 the two N2."""
+    reader = in_force(model.shipped_rows())
+    plain = hand_block(EPOCH)
+    fine, eight = ("unsigned", 4), ("refused", 8)
+    for changes, want in (
+            ({}, fine), ({39: 3}, fine), ({39: 4}, eight), ({87: 0}, fine),
+            ({87: 2}, eight), ({14: 1}, fine), ({14: 3}, eight),
+            ({14: 0, 15: 0, 16: 255}, fine), ({15: 19}, eight),
+            ({16: 11}, eight), ({14: 1, 39: 0, 16: 0}, fine),
+            ({14: 1, 39: 0, 15: 84}, fine), ({14: 1, 39: 0, 15: 85}, eight),
+            ({14: 1, 16: 31}, fine), ({14: 1, 16: 32}, eight)):
+        data = bytearray(plain)
+        for at, byte in changes.items():
+            data[at] = byte
+        told = model.call_body(*reader, 3, content.seal(data))[0]
+        if told != want:
+            print("  %s: %s" % (changes, told))
+            return False
+    return True
+
+
+def taken_apart(row, data):
+    """The sub-blocks of a block of two levels, cut off its bytes one by one:
+    [(first-level bytes, [second-level bytes])], and what is left over."""
+    out, rest = [], data[20:]
+    for _ in range(data[14]):
+        one, rest = rest[:data[15]], rest[data[15]:]
+        n2 = one[row.subs[row.c - 1].offset]
+        ends = [at * data[16] for at in range(n2 + 1)]
+        out.append((one, [rest[a:b] for a, b in zip(ends, ends[1:])]))
+        rest = rest[ends[-1]:]
+    return out, rest
+
+
+def levels_agree():
+    """Every answer of blocks of two levels is that of its own sub-block's
+    bytes; one number further is 9."""
+    rng, good = random.Random(9), 0
+    while good < 150:
+        rows = content.level_rows(rng)
+        row = next((row for row in rows if row.c), None)
+        data = content.row_block(rng, row) if row else b""
+        if not row or len(data) > 800 or model.layout_fault(row, data):
+            continue
+        good += 1
+        parts, _ = taken_apart(row, data)
+        reader = in_force(rows)
+        if not all(one_agrees(reader, row, data, block, *part)
+                   for block, part in enumerate(parts)):
+            return False
+        if model.call_subbytes(*reader, len(parts), data)[0][0] != "refused":
+            return False
+    return True
+
+
+def one_agrees(reader, row, data, block, one, nested):
+    """Of one first-level sub-block, and of those nested in it."""
+    def read(fields, part):
+        revision = model.block_of(data, 0)[1]
+        return [model.value(part, f.offset, f.type, f.mark) if f.first
+                <= revision else ("not-in-this-revision",)
+                for f in fields] + [("refused", 9)]
+    first, second = row.subs[:row.c], row.subs[row.c:]
+    told = [model.call_sub(*reader, block, at, data)[0]
+            for at in range(len(first) + 1)]
+    if told != read(first, one):
+        return False
+    if model.call_subbytes(*reader, block, data)[0] != ("part", one):
+        return False
+    for number, part in enumerate(nested):
+        told = [model.call_sub2(*reader, block, number, at, data)[0]
+                for at in range(len(second) + 1)]
+        if told != read(second, part):
+            return False
+    return model.call_sub2(*reader, block, len(nested), 0, data)[0] == (
+        "refused", 9)
+
+
+def sample_ranges():
+    """V11 and V12 over the limits of their fields, by struct."""
+    reader = in_force(model.shipped_rows())
+    head = bytes(4) + struct.pack("<HHIHBBBBH", 4027, 52, 0, 0, 1, 20, 12, 0,
+                                  0)
+    for misc, low, offsets, more, want, want2 in (
+            (0, 0, 0, 0, None, None), (0xF0, 0, 0, 5, None, None),
+            (0, 1, 4, 0, 1, None), (0, 1, 0xFC, 0, 1, None),
+            (0, 1, 4, 1, 1, 2 - 262144), (0, 1, 5, 0, 1, 1 - 196608),
+            (1, 0, 7, 65535, 2 ** 32, 2 ** 32 - 1),
+            (0xFF, 2 ** 32 - 1, 3, 65535, 2 ** 36 - 1, 2 ** 36 + 262142),
+            (0, 262144, 4, 0, 262144, None), (0, 262143, 4, 1, 262143, 0)):
+        data = content.seal(
+            head + struct.pack("<BBBBIiHbBHBB", 0, 0, 1, misc, low, 0, 0, 0,
+                               0, 0, 0, 1)
+            + struct.pack("<BBBBbBHHH", 0, 0, 0, offsets, 0, 0, more, 0, 0))
+        told = (model.call_range(*reader, 0, data)[0],
+                model.call_range2(*reader, 0, 0, data)[0])
+        if told != tuple(("do-not-use",) if n is None else ("signed", n)
+                         for n in (want, want2)):
+            print("  %s: %s" % ((misc, low, offsets, more), told))
+            return False
+    return True
+
+
+def level_samples():
+    return [("two levels, by hand", sample_epoch()),
+            ("two levels, R8", sample_eights()),
+            ("two levels, T21", levels_agree()),
+            ("two levels, V11 and V12", sample_ranges())]
+
+
 def write_samples():
     return [
         ("write lines", sample_lines()), ("write sizes", sample_sizes()),
@@ -734,16 +915,19 @@ def samples():
         ("crc", crcs_agree()), ("feed", feeds_agree()),
         ("cuts", cuts_agree()), ("moved", moved_agree()),
         ("tables", tables_agree()), ("shipped", shipped_agree())
-    ] + write_samples()
+    ] + write_samples() + level_samples()
 
 
 # ------------------------------------------------------- one script compared
 
 
 def material(name):
-    """The script, or the run, of a seed's name: 17, r17, w17 or l17."""
+    """The script, or the run, of a seed's name: 17, r17, m17, w17 or
+    l17."""
     if name.startswith("r"):
         return scripts.record_script(int(name[1:]))
+    if name.startswith("m"):
+        return scripts.level_script(int(name[1:]))
     if name.startswith("w"):
         return scripts.write_script(int(name[1:]))
     if name.startswith("l"):
@@ -883,7 +1067,8 @@ def compare(name):
 
 
 class Watcher(model.Player):
-    """A player that counts what comes up of mark 5, as MARK_5 has it."""
+    """A player that counts what comes up of mark 5, as MARK_5 has it, and of
+    two levels, as TWO_LEVELS has it."""
 
     def __init__(self):
         super().__init__()
@@ -892,7 +1077,9 @@ class Watcher(model.Player):
     def call(self, word, arguments):
         state, force = self.state, self.lent("force")
         answer = super().call(word, arguments)
-        if word in (b"body", b"sub") and answer[0] != "refused":
+        self.met.update(levels_met(state, force, word.decode(), arguments,
+                                   answer))
+        if word in (b"body", b"sub", b"sub2") and answer[0] != "refused":
             row = row_in(state, force, model.block_of(arguments[-1], 0)[0])
             self.met.update(fields_met(row, arguments, answer))
         elif word == b"write" and answer[0] == "written":
@@ -912,13 +1099,19 @@ def row_in(state, force, number):
 
 
 def fields_met(row, arguments, answer):
-    """Of a body call (its arguments are two) or a sub call that answered."""
+    """Of a body, sub or sub2 call that answered: its arguments are two, three
+    or four."""
     data, index = arguments[-1], arguments[-2]
-    word = "body" if len(arguments) == 2 else "sub"
-    field = (row.body if word == "body" else row.subs)[index]
+    word = {2: "body", 3: "sub", 4: "sub2"}[len(arguments)]
+    first, second = model.levels(row)
+    field = {"body": row.body, "sub": first, "sub2": second}[word][index]
     if field.mark != 5:
         return
-    at = field.offset + (16 + arguments[0] * data[15] if word == "sub" else 0)
+    at = field.offset
+    if word == "sub":
+        at += model.sub_start(row, arguments[0], data)
+    elif word == "sub2":
+        at += model.nested_start(row, *arguments[:2], data)
     kind = answer[0]
     if kind == "do-not-use" and any(data[at:at + 2]):
         kind += ", bits not 0"
@@ -983,6 +1176,256 @@ def tables_met(table):
             for at in wrong}
 
 
+# ------------------------------------------------ what two levels came to
+# Request M-102.  Here too the output does not tell why a call was refused.  A
+# cause counts where it is the only one.
+
+
+def levels_met(state, force, word, arguments, answer):
+    """What a call came to, as TWO_LEVELS and MEAS_EPOCH have it."""
+    if word == "stage":
+        return stages_met(arguments[0], answer)
+    if word not in RECORD_WORDS + ("write",) or answer in [
+            ("refused", n) for n in (1, 4, 5, 7, 10, 11, 12)]:
+        return set()
+    if word in ("tow", "wnc"):
+        # these two are lent no table: it may be none, or a bad one
+        table = model.read_table(bytes(force[:state.force]))
+        row = table and model.row_numbered(
+            table, model.block_of(arguments[0], 0)[0])
+        eight = row and row.c and len(arguments[0]) >= 20 and causes_of_8(
+            row, arguments[0])
+        return {("two levels", word + " answered, 8 elsewhere")} if eight \
+            else set()
+    number = (arguments[0] if word == "write"
+              else model.block_of(arguments[-1], 0)[0])
+    row = row_in(state, force, number)
+    if word == "write" or row is None:
+        return {("two levels", "write refused 6")} if row and row.c else set()
+    if answer == ("refused", 8):
+        why = causes_of_8(row, arguments[-1]) if row.c else []
+    elif answer == ("refused", 9):
+        why = causes_of_9(row, word, arguments)
+    else:
+        return answered_met(row, word, arguments, answer)
+    if len(why) != 1:
+        return set()
+    return {("two levels", "%s refused %d, %s" % (word, answer[1], why[0]))}
+
+
+def causes_of_8(row, data):
+    """Every cause of 8 in a block of two levels."""
+    places, end = model.walk(row, data)
+    revision, causes = model.block_of(data, 0)[1], []
+    first, second = [content.fields_end(fields, revision)
+                     for fields in model.levels(row)]
+    if end > len(data):
+        causes.append("the walk's end")
+    if places and first > data[15]:
+        causes.append("the first level")
+    if any(n2 for _, n2 in places) and second > data[16]:
+        causes.append("the second level")
+    return causes
+
+
+def causes_of_9(row, word, arguments):
+    """Every cause of 9, as far as one does not hide the next."""
+    data, first = arguments[-1], model.levels(row)[0]
+    if word == "sub":
+        there = row.c and arguments[0] < data[14]
+        later = there and len(first) <= arguments[1] < len(row.subs)
+        return ["a second-level field"] if later else []
+    if word not in ("sub2", "range", "range2"):
+        return []
+    if word != "sub2" and row.number != model.MEAS_EPOCH:
+        return ["another number"] if row.c else []
+    if not row.c:
+        return ["one level"]
+    places, _ = model.walk(row, data)
+    if arguments[0] >= len(places):
+        return ["no first-level one"]
+    start, n2 = places[arguments[0]]
+    missing = word != "range" and arguments[1] >= n2
+    if word == "sub2":
+        return ["no second-level one"] if missing else ["no field"]
+    causes = pair_causes(row, 0, data, start)
+    if missing:
+        unset = not causes and model.first_range(row, arguments[0], data)[1]
+        causes.append("no second-level one, " + (
+            "no Do-Not-Use" if unset else "first level Do-Not-Use"))
+    elif word == "range2":
+        causes += pair_causes(row, 1, data, start + data[15]
+                              + arguments[1] * data[16])
+    return causes
+
+
+def pair_causes(row, level, data, start):
+    """What is wrong with the two fields of a level that a pseudorange is read
+    from."""
+    causes, fields = [], model.levels(row)[level]
+    for index, kind in ((model.MISC, model.CODE_LSB),
+                        (model.OFFSETS_MSB, model.CODE_OFFSET_LSB))[level]:
+        if index >= len(fields):
+            causes.append("no field")
+        elif fields[index].type != kind:
+            causes.append("another type")
+        else:
+            kind = model.answer_field(fields, index, data, start)[0]
+            causes += [kind] * (kind != "unsigned")
+    return sorted(set(causes))
+
+
+def answered_met(row, word, arguments, answer):
+    """Of a call that was not refused."""
+    if not row.c:
+        return set()
+    data, out = arguments[-1], set()
+    places, end = model.walk(row, data)
+    nested = [n2 for _, n2 in places]
+    lengths = [content.fields_end(fields, model.block_of(data, 0)[1])
+               for fields in model.levels(row)]
+    for name, met in (
+            ("first level empty", not nested and lengths[0] > data[15]),
+            ("second level empty", nested and not any(nested)
+             and lengths[1] > data[16]),
+            ("ends at L", nested and end == len(data)),
+            ("first level longer", nested and lengths[0] < data[15]),
+            ("second level longer", any(nested) and lengths[1] < data[16]),
+            ("SB2Length 0", any(nested) and data[16] == 0),
+            ("N1 255", len(nested) == 255), ("N2 255", 255 in nested),
+            ("N2 differ", word != "body" and arguments[0] * nested[0]
+             != sum(nested[:arguments[0]]))):
+        if met:
+            out.add(("two levels", "%s answered, %s" % (word, name)))
+    if word in ("range", "range2"):
+        kinds = ranges_met(row, places, arguments, answer)
+        out |= {("two levels", "%s %s" % (word, kind)) for kind in kinds}
+    if row == EPOCH_ROW:
+        out.add(("MeasEpoch", "%s %s" % (word, answer[0])))
+    return out
+
+
+def ranges_met(row, places, arguments, answer):
+    """Of a pseudorange, or of its Do-Not-Use."""
+    data, kind = arguments[-1], answer[0]
+    start = places[arguments[0]][0]
+    first, second = model.levels(row)
+    misc = data[start + first[3].offset]
+    low = data[start + first[4].offset:][:4]
+    if len(arguments) == 2:
+        yield kind + (", high bits of Misc" if misc > 15 else "")
+        if kind == "signed" and (misc % 16 == 0 or not any(low)):
+            yield "signed, %s 0" % ("CodeLSB" if misc % 16 else "CodeMSB")
+        return
+    start += data[15] + arguments[1] * data[16]
+    offsets = data[start + second[3].offset]
+    more = data[start + second[6].offset:][:2]
+    if kind == "do-not-use":
+        yield "do-not-use, " + ("first level" if misc % 16 == 0
+                                and not any(low) else "-4 and 0")
+        return
+    yield "signed, offset %s" % ("below 0" if offsets % 8 > 3 else "not below")
+    if answer[1] < 0:
+        yield "signed, below 0"
+    if offsets % 8 == 4 and any(more):
+        yield "signed, -4 and not 0"
+    if offsets > 7:
+        yield "signed, high bits of OffsetsMSB"
+
+
+def loose_rows(table):
+    """The rows of a table as its counts have them, whatever rules they keep.
+    None where the file itself is not right."""
+    if len(table) < 20 or content.recrc(table) != table:
+        return None
+    start = len(table) - content.u2(table, -8)
+    fields = [model.Field(*table[at:at + 4]) for at in range(0, start, 4)]
+    rows, used = [], 0
+    for at in range(start, len(table) - 12, 8):
+        bodies, subs, c = table[at + 3], table[at + 6], table[at + 7]
+        middle = used + bodies
+        rows.append(model.Row(content.u2(table, at), table[at + 2], tuple(
+            fields[used:middle]), tuple(fields[middle:middle + subs]), c))
+        used = middle + subs
+    same = start >= 0 and model.make_table(content.u2(table, -12), rows)
+    return rows if same == table else None
+
+
+def stages_met(table, answer):
+    """Of a table that was staged, the shapes of its rows of two levels; of
+    one that was refused with 4, the rule, where one row alone breaks one
+    alone."""
+    rows = loose_rows(table) if answer != ("refused", 1) else None
+    if rows is None:
+        return set()
+    if answer[0] == "staged":
+        return {("two levels", "staged, " + shape) for row in rows if row.c
+                for shape in shapes(row)}
+    bad = [row for row in rows if not model.row_right(row)]
+    if len(bad) != 1 or not bad[0].c:
+        return set()
+    faults = sorted(level_faults(bad[0]))
+    return {("two levels", "stage refused, " + faults[0])} if len(
+        faults) == 1 else set()
+
+
+def shapes(row):
+    """What is told of a valid row of two levels."""
+    second = row.subs[row.c:]
+    ends = [f.offset + model.SIZES[f.type] for f in row.body]
+    return [name for name, holds in (
+        ("c 1", row.c == 1), ("c all", not second),
+        ("three in the body", len(ends) == 3),
+        ("a body to 20", ends[-1] == 20),
+        ("rising revisions", len({f.first for f in second}) > 1),
+        ("4027 otherwise", row.number == model.MEAS_EPOCH
+         and row != EPOCH_ROW)) if holds]
+
+
+def level_faults(row):
+    """The names of the rules that a row of two levels breaks."""
+    out = set()
+    head = (row.body + (model.Field(0, 0, 0, 0),) * 3)[:3]
+    for name, cells, right in (
+            ("triple's places", [f.offset for f in head], [14, 15, 16]),
+            ("triple's types", [f.type for f in head], [1] * 3),
+            ("triple's revisions", [f.first for f in head], [0] * 3),
+            ("triple's marks", [f.mark for f in head], [0] * 3)):
+        if cells != right:
+            out.add(name)
+    if len(row.body) < 3:
+        out = {"triple's count"}
+    if row.c > len(row.subs):
+        out.add("c above the count")
+    elif row.subs[row.c - 1].type != 1:
+        out.add("N2's type")
+    elif row.subs[row.c - 1].mark != 0:
+        out.add("N2's mark")
+    elif row.subs[row.c - 1].first != 0:
+        out.add("N2's revision")
+    if any(f.offset + model.SIZES.get(f.type, 0) > 20 for f in row.body):
+        out.add("body past 20")
+    for name, fields in (("body", row.body), ("first level", row.subs[:row.c]),
+                         ("second level", row.subs[row.c:])):
+        out |= {"%s, %s" % (name, fault)
+                for fault in list_faults(fields, row.highest)}
+    return out
+
+
+def list_faults(fields, highest):
+    """T13 to T15, of the rows of a body or of a level."""
+    sizes = [model.SIZES.get(f.type, 0) for f in fields]
+    pairs = list(zip(fields, fields[1:]))
+    return [name for name, holds in (
+        ("places", any(b.offset < a.offset + size for (a, b), size
+                       in zip(pairs, sizes))),
+        ("falling revisions", any(b.first < a.first for a, b in pairs)),
+        ("revision above the highest", any(f.first > highest
+                                           for f in fields)),
+        ("types and marks", any(f.type not in model.MARKED.get(f.mark, ())
+                                for f in fields))) if holds]
+
+
 # --------------------------------------------------------- what must be met
 
 REFUSALS = {"open": (1, 2, 4, 5), "feed": (1, 2, 3), "finish": (1, 2),
@@ -990,6 +1433,9 @@ REFUSALS = {"open": (1, 2, 4, 5), "feed": (1, 2, 3), "finish": (1, 2),
             "body": (1, 4, 5, 6, 7, 8, 9, 10),
             "sub": (1, 4, 5, 6, 7, 8, 9, 10),
             "subbytes": (1, 4, 5, 6, 7, 8, 9, 10),
+            "sub2": (1, 4, 5, 6, 7, 8, 9, 10),
+            "range": (1, 4, 5, 6, 7, 8, 9, 10),
+            "range2": (1, 4, 5, 6, 7, 8, 9, 10),
             "tow": (1, 7, 10), "wnc": (1, 7, 10),
             "write": (1, 4, 5, 6, 11, 12)}
 VALUES = ("unsigned", "signed", "single", "double", "do-not-use",
@@ -998,6 +1444,8 @@ ANSWERS = {"open": ("opened",), "feed": ("fed block", "fed more"),
            "finish": ("block", "end"), "bytes": ("part",),
            "stage": ("staged",), "withdraw": ("withdrawn 0", "withdrawn 1"),
            "body": VALUES, "sub": VALUES, "subbytes": ("part",),
+           "sub2": VALUES, "range": ("signed", "do-not-use"),
+           "range2": ("signed", "do-not-use"),
            "tow": ("unsigned", "do-not-use"),
            "wnc": ("unsigned", "do-not-use"), "write": ("written",)}
 # What a Watcher counts: each answer of a field with mark 5 (do-not-use alone
@@ -1008,6 +1456,7 @@ SEED_KINDS = ("unsigned", "do-not-use", "do-not-use, bits not 0",
 MARK_5 = {
     "mark 5": tuple("body " + kind for kind in SEED_KINDS)
     + tuple("sub " + kind for kind in SEED_KINDS)
+    + tuple("sub2 " + kind for kind in SEED_KINDS)
     + tuple("write %s %s" % (word, kind) for word in ("body", "sub")
             for kind in ("unset", "8192", "more", "refused, 0",
                          "refused, 8191", "refused, other"))
@@ -1016,21 +1465,94 @@ MARK_5 = {
     "PPPInfo": SEED_KINDS}
 
 
+EPOCH_ROW = model.meas_epoch()
+LEVEL_WORDS = ("body", "sub", "subbytes", "sub2", "range", "range2")
+READS = {"subbytes": ("part",), "range": ("signed", "do-not-use"),
+         "range2": ("signed", "do-not-use")}
+# What can be met by each call on a block of two levels, or by Stage: each
+# cause of 8 and of 9 alone, and what must not be refused.
+TWO_LEVELS = {
+    "refused 8": [word + " refused 8, " + why for word in LEVEL_WORDS
+                  for why in ("the walk's end", "the first level",
+                              "the second level")],
+    "refused 9": ["sub refused 9, a second-level field"] + [
+        "sub2 refused 9, " + why for why in (
+            "one level", "no first-level one", "no second-level one",
+            "no field")] + [
+        word + " refused 9, " + why for word in ("range", "range2")
+        for why in ("another number", "one level", "no first-level one",
+                    "no field", "another type", "do-not-use")] + [
+        "range2 refused 9, " + why for why in (
+            "not-in-this-revision", "no second-level one, no Do-Not-Use",
+            "no second-level one, first level Do-Not-Use")],
+    "answered": ["body answered, first level empty"] + [
+        word + " answered, second level empty"
+        for word in ("body", "sub", "subbytes", "range")] + [
+        word + " answered, " + what for word in LEVEL_WORDS
+        for what in ("ends at L", "first level longer",
+                     "second level longer")] + [
+        word + " answered, " + what for word in LEVEL_WORDS[:3]
+        for what in ("SB2Length 0", "N1 255", "N2 255")] + [
+        "sub2 answered, N2 255", "range2 answered, N2 255"] + [
+        word + " answered, N2 differ" for word in LEVEL_WORDS[1:]] + [
+        word + " answered, 8 elsewhere" for word in ("tow", "wnc")],
+    "ranges": ["range signed", "range signed, high bits of Misc",
+               "range do-not-use", "range do-not-use, high bits of Misc",
+               "range signed, CodeMSB 0", "range signed, CodeLSB 0"] + [
+        "range2 " + kind for kind in (
+            "do-not-use, first level", "do-not-use, -4 and 0",
+            "signed, offset below 0", "signed, offset not below",
+            "signed, below 0", "signed, -4 and not 0",
+            "signed, high bits of OffsetsMSB")],
+    "tables": ["write refused 6"] + ["staged, " + shape for shape in (
+        "c 1", "c all", "three in the body", "a body to 20",
+        "rising revisions", "4027 otherwise")] + [
+        "stage refused, " + rule for rule in (
+            "c above the count", "N2's type", "N2's mark", "N2's revision",
+            "triple's count", "triple's places", "triple's types",
+            "triple's revisions", "triple's marks", "body past 20",
+            "body, places", "body, falling revisions",
+            "body, revision above the highest", "body, types and marks",
+            "first level, places", "first level, falling revisions",
+            "first level, types and marks", "second level, places",
+            "second level, falling revisions",
+            "second level, revision above the highest",
+            "second level, types and marks")]}
+# MeasEpoch by the row shipped, whose sub-blocks have no floats and no field
+# of a later revision.
+SHIPPED_EPOCH = {
+    "body": ("unsigned", "not-in-this-revision"),
+    "sub": ("unsigned", "signed", "do-not-use"),
+    "sub2": ("unsigned", "signed", "do-not-use"), **READS}
+LEVEL_KINDS = {
+    "two levels": tuple(kind for group in TWO_LEVELS.values()
+                        for kind in group),
+    "MeasEpoch": tuple("%s %s" % (word, kind) for word, kinds
+                       in SHIPPED_EPOCH.items() for kind in kinds)}
+
+
 def must_be_met():
     out = []
     for word in ANSWERS:
         out += [(word, kind) for kind in ANSWERS[word]]
         out += [(word, "refused %d" % n) for n in REFUSALS[word]]
-    for word in MARK_5:
-        out += [(word, kind) for kind in MARK_5[word]]
+    for kinds in (MARK_5, LEVEL_KINDS):
+        for word in kinds:
+            out += [(word, kind) for kind in kinds[word]]
     return out
+
+
+# What may come up besides: nothing is held to it.
+MAY_BE_MET = {("two levels", "%s answered, %s" % (word, what))
+              for word in LEVEL_WORDS for what in (
+                  "SB2Length 0", "N1 255", "N2 255")}
 
 
 def print_counts(counts):
     """The table of what was met."""
-    for word in list(ANSWERS) + list(MARK_5):
+    for word in list(ANSWERS) + list(MARK_5) + list(LEVEL_KINDS):
         kinds = sorted(k for w, k in counts if w == word)
-        print("  %-9s %s" % (word, ", ".join(
+        print("  %-10s %s" % (word, ", ".join(
             "%s: %d" % (kind, counts[word, kind]) for kind in kinds)))
 
 
@@ -1043,7 +1565,8 @@ def check_counts(tally, times):
         else:
             failed += 1
             print("NOT MET: %s of %s" % (kind, word))
-    strange = sorted(set(counts) - set(must_be_met()) - {("lister", "line")})
+    strange = sorted(set(counts) - set(must_be_met()) - MAY_BE_MET
+                     - {("lister", "line")})
     for word, kind in strange:
         failed += 1
         print("NOT EXPECTED: %s of %s" % (kind, word))
@@ -1057,7 +1580,7 @@ def check_counts(tally, times):
               counts["lister", "line"]))
     print_counts(counts)
     for name, have, least in (("scripts", tally.scripts,
-                               SCRIPTS + RECORDS + WRITES),
+                               SCRIPTS + RECORDS + LEVELS + WRITES),
                               ("record answers", records,
                                LEAST_RECORD_ANSWERS),
                               ("blocks written", written, LEAST_WRITTEN),
@@ -1092,6 +1615,7 @@ def names_of(times):
     """The seeds' names, those of one kind rising."""
     return (["%d" % n for n in range(1, SCRIPTS * times + 1)]
             + ["r%d" % n for n in range(1, RECORDS * times + 1)]
+            + ["m%d" % n for n in range(1, LEVELS * times + 1)]
             + ["w%d" % n for n in range(1, WRITES * times + 1)]
             + ["l%d" % n for n in range(1, RUNS * times + 1)])
 

@@ -88,7 +88,7 @@ def agreement():
     expect("the CRC by long division", data == closed(data[:-4]))
     field = re.compile(r'field "(\S+)" (\S+) (\d+) (\d+) (\S+?)\)?$', re.M)
     listed = [(m[0], m[1], m[2], m[3]) for m in field.findall(read(os.path.join(CRATE, "specs", "Rows.antt")))]
-    lines = [l.split() for l in read(TEXT).split("\n") if l.split()[:1] in (["body"], ["sub"])]
+    lines = [l.split() for l in read(TEXT).split("\n") if l.split()[:1] in (["body"], ["sub"], ["sub2"])]
     expect("the readable list has the text's fields", listed == [(w[1], w[2], w[3], w[5]) for w in lines])
     blocks = read(TEXT).count("\nblock ")
     for page, words in [("README.md", "its file of %d bytes" % len(data)),
@@ -102,12 +102,18 @@ def round_trips():
         status, text, _ = show(data, folder)
         expect("show takes the file", status == 0)
         expect("make of show gives the file back", make(text, folder)[2] == data)
-        nameless = re.sub(r"(block \d+|body|sub) \S+", r"\1 -", re.sub(r"#.*\n", "", read(TEXT)))
+        nameless = re.sub(r"(block \d+|\bbody|\bsub2?) \S+", r"\1 -", re.sub(r"#.*\n", "", read(TEXT)))
         expect("show gives the text back, but for names", text.split() == nameless.split())
         for name, body in {
             "the smallest table": "version 0\nblock 0 A highest 0\n",
             "numbers at their limits": "version 65535\nblock 8191 A highest 7\n  body B u8 255 rev 7 mark ones\n",
             "the mark of seeds": "version 1\nblock 1 A highest 0\n  body B u2 14 rev 0 mark seed\n",
+            "a second level": NEST,
+            "a second level without fields": NEST.replace("sub2 D u2 0 rev 0 mark none\n", ""),
+            "two levels at their limits": NEST.replace("sub C", "body B u1 17 rev 0 mark none\nbody B u2 18 rev 3 mark none\nsub C") + "sub2 E f8 255 rev 3 mark none\n",
+            "N2 alone": NEST.replace("sub C u4 0 rev 0 mark none\n", "").replace("N2 u1 4", "N2 u1 255"),
+            "two levels between blocks of one": NEST.replace("block 1", "block 0 Z highest 0\nbody B u1 14 rev 0 mark none\nblock 1")
+            + PAIR.replace("version 1\nblock 1", "block 2"),
             "a byte order mark": "\ufeffversion 3\nblock 1 A highest 0\n",
             "a comment, a blank line": "# c\n\nversion 3 # d\nblock 1 A highest 0\n",
             "the largest table": "version 1\n" + "".join("block %d A highest 0\n" % n for n in range(1022)),
@@ -115,6 +121,11 @@ def round_trips():
             status, err, made = make(body, folder)
             expect("%s is made" % name, status == 0, err)
             expect("%s is shown and made again" % name, made and make(show(made, folder)[1], folder)[2] == made)
+        made = make(NEST, folder)[2]
+        expect("the last byte of its row is the count of first-level rows", made[4 * 6 + 6] == 3 and made[4 * 6 + 7] == 2, made)
+        expect("the first level's rows stand before the second's", made[4 * 3 : 4 * 6] == bytes([0, 3, 0, 0, 4, 1, 0, 0, 0, 2, 0, 0]), made)
+        expect("two levels are shown", show(made, folder)[1].split() == re.sub(r"(block 1|\bbody|\bsub2?) \S+", r"\1 -", NEST).split())
+        expect("one level is shown as before", "levels" not in show(make(PAIR, folder)[2], folder)[1])
         status, err, made = make("version 1\n\ufeffblock 1 A highest 0\n", folder)
         expect("a mark in the middle is none", status == 1 and made is None and "line 2: " in err, err)
 
@@ -140,6 +151,11 @@ def own_text():
 
 BLOCK = "version 1\nblock 1 A highest 3\n"
 PAIR = BLOCK + "body N u1 14 rev 0 mark none\nbody SBLength u1 15 rev 0 mark none\nsub C u1 0 rev 0 mark none\n"
+NEST = ("version 1\nblock 1 A highest 3 levels 2\n" + "".join("body %s u1 %d rev 0 mark none\n" % row for row in (("N1", 14), ("SB1Length", 15), ("SB2Length", 16)))
+        + "sub C u4 0 rev 0 mark none\nsub N2 u1 4 rev 0 mark none\nsub2 D u2 0 rev 0 mark none\n")
+NEST_RULE = "T20: of two levels, the first level's last row is N2: u1, first revision 0, mark none"
+TRIPLE_RULE = "T20: of two levels, a body begins with N1, SB1Length and SB2Length: u1 14, 15 and 16, first revision 0, mark none"
+EARLY_RULE = "T20: of two levels, no body field ends past 20, where the sub-blocks start: this ends at %d"
 PAIR_RULE = "T16: next to sub-fields a body is N and SBLength alone: u1 14 and u1 15, first revision 0, mark none"
 
 # A text that breaks one rule, the line that the tool names, and words of the rule.
@@ -149,8 +165,13 @@ TEXTS = [
     ("version 65536\n", 1, "T2: the version is 0 to 65535"),
     ("version 1\n", 1, "T3: a table has 1 block row or more"),
     ("version 1\nversion 1\n", 2, "a line starts with version (once, first)"),
-    ("version 1\nbody A u1 14 rev 0 mark none\n", 2, "body or sub (after a block)"),
+    ("version 1\nbody A u1 14 rev 0 mark none\n", 2, "body, sub or sub2 (after a block)"),
+    ("version 1\nsub2 A u1 14 rev 0 mark none\n", 2, "body, sub or sub2 (after a block)"),
     ("version 1\nblock 1 A\n", 2, "a block's line is:"),
+    (NEST.replace("levels 2", "levels 1"), 2, "a block's line is: block NUMBER NAME highest REVISION, and with sub-blocks of two levels it ends in: levels 2"),
+    (NEST.replace("levels 2", "levels"), 2, "a block's line is:"),
+    (NEST.replace("levels 2", "levels 2 3"), 2, "a block's line is:"),
+    (NEST.replace("highest 3 levels 2", "levels 2"), 2, "a block's line is:"),
     ("version 1\nblock x A highest 0\n", 2, "a block number is a number"),
     ("version 1\nblock 8192 A highest 0\n", 2, "T8: a block number is 0 to 8191"),
     ("version 1\nblock 1 A highest 0\nblock 1 B highest 0\n", 3, "T8: block numbers rise from row to row: 1 after 1"),
@@ -158,13 +179,40 @@ TEXTS = [
     ("version 1\nblock 1 A highest 8\n", 2, "T9: a highest revision is 0 to 7"),
     (BLOCK + "".join("body F u1 14 rev 0 mark none\n" for _ in range(256)), 2, "T7: a count of body rows is 0 to 255"),
     (PAIR + "sub F u1 0 rev 0 mark none\n" * 255, 2, "T7: a count of sub-field rows is 0 to 255"),
+    (NEST + "sub2 F u1 0 rev 0 mark none\n" * 253, 2, "T7: a count of sub-field rows is 0 to 255"),
     (BLOCK + "body B u1 14 rev 0\n", 3, "a field's line is:"),
+    (NEST + "sub2 B u1 14 rev 0\n", 9, "a field's line is: body|sub|sub2 NAME"),
     (BLOCK + "body B u1 256 rev 0 mark none\n", 3, "T11: an offset is 0 to 255"),
     (BLOCK + "body B u1 13 rev 0 mark none\n", 3, "T12: no body offset is below 14"),
     (BLOCK + "body B u2 14 rev 0 mark none\nbody C u1 15 rev 0 mark none\n", 4, "T13: each field starts where the one before it ends or later"),
     (PAIR + "sub D u1 0 rev 0 mark none\n", 6, "T13: each field starts where the one before it ends or later"),
+    (NEST.replace("N2 u1 4", "N2 u1 3"), 7, "T13: each field starts where the one before it ends or later: this starts at 3, that ends at 4"),
+    (NEST + "sub2 E u1 1 rev 0 mark none\n", 9, "T13: each field starts where the one before it ends or later: this starts at 1, that ends at 2"),
     (BLOCK + "body B u1 14 rev 1 mark none\nbody C u1 15 rev 0 mark none\n", 4, "T14: first revisions do not go down"),
     (BLOCK + "body B u1 14 rev 4 mark none\n", 3, "T14: no first revision is above the block's highest"),
+    (NEST.replace("D u2 0 rev 0", "D u2 0 rev 1") + "sub2 E u1 2 rev 0 mark none\n", 9, "T14: first revisions do not go down: 0 after 1"),
+    (NEST.replace("D u2 0 rev 0", "D u2 0 rev 4"), 8, "T14: no first revision is above the block's highest: 4 is above 3"),
+    (NEST.replace("C u4 0 rev 0", "C u4 0 rev 1"), 7, "T14: first revisions do not go down: 0 after 1"),
+    (NEST.replace("D u2 0 rev 0 mark none", "D u2 0 rev 0 mark least"), 8, "T15: the type does not allow the mark: least on u2"),
+    (NEST.replace(" levels 2", ""), 8, "T17: a sub2 line is of the second level, and this block has one level; with two its line ends in: levels 2"),
+    (NEST + "sub E u1 5 rev 0 mark none\n", 9, "T17: a block's first-level rows come before its second-level rows"),
+    (NEST + "body E u1 17 rev 0 mark none\n", 9, "T10: a block's body rows come before its sub-field rows"),
+    (BLOCK.replace("highest 3", "highest 3 levels 2") + "sub2 E u1 0 rev 0 mark none\nbody F u1 14 rev 0 mark none\n", 4, "T10: a block's body rows come before"),
+    (BLOCK.replace("highest 3", "highest 3 levels 2"), 2, NEST_RULE),
+    (re.sub("sub [CN].*\n", "", NEST), 2, NEST_RULE),
+    (NEST.replace("N2 u1", "N2 u2"), 7, NEST_RULE),
+    (NEST.replace("N2 u1", "N2 i1"), 7, NEST_RULE),
+    (NEST.replace("N2 u1 4 rev 0 mark none", "N2 u1 4 rev 0 mark ones"), 7, NEST_RULE),
+    (NEST.replace("N2 u1 4 rev 0", "N2 u1 4 rev 1"), 7, NEST_RULE),
+    (NEST.replace("sub N2 u1 4 rev 0 mark none\n", ""), 6, NEST_RULE),
+    (re.sub("body .*\n", "", NEST), 2, TRIPLE_RULE),
+    (NEST.replace("body SB2Length u1 16 rev 0 mark none\n", ""), 2, TRIPLE_RULE),
+    (NEST.replace("SB2Length u1 16", "SB2Length u1 17"), 5, TRIPLE_RULE),
+    (NEST.replace("SB1Length u1", "SB1Length i1"), 4, TRIPLE_RULE),
+    (NEST.replace("N1 u1 14 rev 0 mark none", "N1 u1 14 rev 0 mark ones"), 3, TRIPLE_RULE),
+    (NEST.replace("SB2Length u1 16 rev 0", "SB2Length u1 16 rev 1"), 5, TRIPLE_RULE),
+    (NEST.replace("sub C", "body B u4 17 rev 0 mark none\nsub C"), 6, EARLY_RULE % 21),
+    (NEST.replace("sub C", "body B u1 17 rev 0 mark none\nbody E u1 20 rev 0 mark none\nsub C"), 7, EARLY_RULE % 21),
     (BLOCK + "sub C u1 0 rev 0 mark none\n", 2, PAIR_RULE),
     (BLOCK + "body N u2 14 rev 0 mark none\nbody B u1 16 rev 0 mark none\nsub C u1 0 rev 0 mark none\n", 3, PAIR_RULE),
     (PAIR.replace("SBLength u1", "SBLength i1"), 4, PAIR_RULE),
@@ -195,10 +243,16 @@ def refused_files():
     with tempfile.TemporaryDirectory() as folder:
         good = make(text, folder)[2]
 
-        def other(place, byte):
-            head = bytearray(good[:-4])
+        # body rows at 0, first-level rows at 12 and 16, a second-level row at 20, the block row at 24
+        levels = make(NEST.replace("D u2 0", "D u2 5"), folder)[2]
+
+        def other(place, byte, data=good):
+            head = bytearray(data[:-4])
             head[place] = byte
             return closed(bytes(head))
+
+        def nested(place, byte):
+            return other(place, byte, levels)
 
         for data, place, rule in [
             (good[:19], "the file", "T1: a file has 20 to 8192 bytes"),
@@ -212,7 +266,14 @@ def refused_files():
             (read(os.path.join(ROOT, "samples", "flight.sbf"), "rb"), "byte 3517", "this is no table file (T6"),
             (8193 * b"B", "the file", "this is no table file (T1"),
             (closed(good[:4] + b"\0" + good[4:26] + b"\x21\0"), "byte 0", "T1: field rows (4 bytes each), block rows (8 each) and the trailer (12) make up the file"),
-            (other(11, 1), "byte 11", "T17: the last byte of a block row is 0"),
+            (other(11, 1), "byte 11", "T19: the count of first-level rows is not above the count of sub-field rows: 1 is above 0"),
+            (nested(31, 4), "byte 31", "T19: the count of first-level rows is not above the count of sub-field rows: 4 is above 3"),
+            (nested(31, 3), "byte 20", NEST_RULE),
+            (nested(31, 1), "byte 12", NEST_RULE),
+            (nested(31, 0), "byte 8", PAIR_RULE),
+            (nested(12, 2), "byte 16", "T13: each field starts where the one before it ends or later: this starts at 4, that ends at 6"),
+            (nested(17, 2), "byte 16", NEST_RULE),
+            (nested(8, 17), "byte 8", TRIPLE_RULE),
             (other(16, 0), "byte 16", "T10: the index is the number of field rows claimed by earlier block rows"),
             (other(15, 1), "byte 12", "T10: the block rows claim more field rows than there are, 2 of 1"),
             (closed(good[:7] + b"\0" + good[8:16] + b"\0" + good[17:28]), "byte 4", "T10: the block rows claim fewer field rows than there are, 0 of 1"),
@@ -235,17 +296,19 @@ def refused_files():
 
 def named(text):
     """Each number of a text by its name in C, worked out from the lines alone."""
-    numbers, block, bodies, subs = {}, "", 0, 0
+    numbers, block, bodies, subs, subs2 = {}, "", 0, 0, 0
     for words in (line.split("#")[0].split() for line in text.split("\n")):
         if words[:1] == ["version"]:
             numbers["ALDERFLUTE_NAMES_VERSION"] = int(words[1])
         elif words[:1] == ["block"]:
-            block, bodies, subs = "ALDERFLUTE_" + words[2].upper(), 0, 0
+            block, bodies, subs, subs2 = "ALDERFLUTE_" + words[2].upper(), 0, 0, 0
             numbers[block] = int(words[1])
         elif words[:1] == ["body"]:
             numbers[block + "_" + words[1].upper()], bodies = bodies, bodies + 1
         elif words[:1] == ["sub"]:
             numbers[block + "_SUB_" + words[1].upper()], subs = subs, subs + 1
+        elif words[:1] == ["sub2"]:
+            numbers[block + "_SUB2_" + words[1].upper()], subs2 = subs2, subs2 + 1
     return numbers
 
 
@@ -294,6 +357,8 @@ def headers():
             "the rows shipped": read(TEXT),
             "names with digits and _": BLOCK.replace(" A ", " 3D_a1 ") + "body _ u1 14 rev 0 mark none\nbody 4 i8 15 rev 3 mark least\n",
             "a sub-field that is called as a body field": PAIR.replace("sub C", "sub N"),
+            "fields of three kinds that are called alike": NEST.replace("sub C", "sub N1").replace("sub2 D", "sub2 N1"),
+            "a second level without fields": NEST.replace("sub2 D u2 0 rev 0 mark none\n", ""),
             "a name that stands in the example only": BLOCK.replace(" A ", " AttEuler "),
             "the largest table": "version 65535\n" + "".join("block %d B%d highest 0\n" % (n, n) for n in range(1022)),
         }.items():
@@ -321,6 +386,9 @@ NAMELESS = [
     (BLOCK + "body B.1 u1 14 rev 0 mark none\n", 3, "letters, digits and _ only, and 'B.1' has not"),
     (PAIR.replace("sub C", "sub C*/"), 5, "letters, digits and _ only, and 'C*/' has not"),
     (BLOCK + "body B u1 14 rev 0 mark none\nbody b u1 15 rev 0 mark none\n", 4, "ALDERFLUTE_A_B, which stands at line 3 already"),
+    (NEST.replace("sub2 D", "sub2 D-"), 8, "letters, digits and _ only, and 'D-' has not"),
+    (NEST + "sub2 d u2 2 rev 0 mark none\n", 9, "ALDERFLUTE_A_SUB2_D, which stands at line 8 already"),
+    (NEST.replace("sub C", "body sub2_D u1 17 rev 0 mark none\nsub C"), 9, "ALDERFLUTE_A_SUB2_D, which stands at line 6 already"),
     (BLOCK + "block 2 a highest 0\n", 3, "ALDERFLUTE_A, which stands at line 2 already"),
     (BLOCK + "body B u1 14 rev 0 mark none\nblock 2 A_B highest 0\n", 4, "ALDERFLUTE_A_B, which stands at line 3 already"),
     (BLOCK.replace(" A ", " Hold "), 2, "ALDERFLUTE_HOLD, which stands in alderflute.h already"),
@@ -351,6 +419,7 @@ NAMES = [
     ("block 1 ABc highest 0\nblock 2 AbC highest 0", "'ABc' and 'AbC' do not"),
     ('block 1 A highest 0\nbody B"C u1 14 rev 0 mark none', "a field's name in the readable list is letters, digits and '_'"),
     ("block 1 A highest 0\nbody B\\ u1 14 rev 0 mark none", "a field's name in the readable list is letters, digits and '_'"),
+    (NEST[10:-1].replace("sub2 D", "sub2 D-"), "a field's name in the readable list is letters, digits and '_'"),
     ("block 1 A highest 0\nbody - u1 14 rev 0 mark none", "a field's name in the readable list is letters, digits and '_'"),
 ]
 
@@ -388,7 +457,7 @@ def changed_rows():
             place = "%s: line %d: " % (given, 2 + lines.count("\n"))
             expect("refused name: %r" % lines, status == 1 and out == "" and place in err and words in err and all_of(crate) == before, err)
         size, version = len(read(FILE, "rb")), int(re.search(r"(?m)^version (\d+)$", read(TEXT))[1])
-        rows = "  body Spare u1 14 rev 0 mark ones\nblock 6000 MyBlock highest 1\n"
+        rows = "  body Spare u1 14 rev 0 mark ones\n" + NEST[10:].replace("block 1 A", "block 6000 MyBlock")
         with open(given, "w", encoding="utf-8") as f:
             f.write(read(TEXT) + rows)
         status, out, err = tool("rattle", given, crate)
@@ -400,7 +469,7 @@ def changed_rows():
             f.write("old\n")
         status, out, err = tool("rattle", given, crate)
         data = make(text, folder)[2]
-        expect("rattle takes a changed row", (status, err) == (0, "") and len(data) == size + 12 and "raise it" not in out, (status, err, out))
+        expect("rattle takes a changed row", (status, err) == (0, "") and len(data) == size + 4 + 8 + 4 * 6 and "raise it" not in out, (status, err, out))
         expect("the C header beside the text", read(given[:-4] + ".h") == tool("c", given)[1])
         expect("the table file beside the text", read(given[:-4], "rb") == data)
         lib, constant, rows = (read(os.path.join(crate, name)) for name in ("src/lib.rt", "src/bytes.rt", "specs/Rows.antt"))
@@ -408,10 +477,15 @@ def changed_rows():
         expect("the version in the first line", lib.startswith("// The rows shipped, version %d " % (version + 6)), lib[:80])
         expect("the constant", "[u8; %d]" % len(data) in constant and bytes(int(n, 16) for n in re.findall(r"^    0x(..),", constant, re.M)) == data)
         expect("the readable list", 'field "Spare" u1 14 0 ones' in rows and "endofatt ∷ myblock ∷ []" in rows and "tableOf %d (" % (version + 6) in rows)
+        nest = [[line.split()[1] for line in NEST.split("\n") if line.startswith(word + " ")] for word in ("body", "sub", "sub2")]
+        lists = rows.partition('    twoLevels "MyBlock" 6000 3\n')[2].partition("\n\n")[0].split("[])\n")
+        expect("two levels in the readable list", [re.findall(r'field "(\w+)"', part) for part in lists] == nest, lists)
+        expect("their count of first-level rows in the constant",
+               all("    0x%02x, // %s: first-level rows\n" % row in constant for row in ((2, "MyBlock"), (12, "MeasEpoch"), (0, "EndOfAtt"))))
         expect("all edits apply", "has to once" not in out, out)
         wrong = edited(crate, "wrong/a_number_twice.edit")
         with_twice = bytes(int(n, 16) for n in re.findall(r"^    0x(..),", wrong["src/bytes.rt"], re.M))
-        numbers = re.findall(r'block "\w+" (\d+) ', wrong["specs/Rows.antt"])
+        numbers = re.findall(r'(?:block|twoLevels) "\w+" (\d+) ', wrong["specs/Rows.antt"])
         expect("a number twice, with the right CRC", with_twice == closed(with_twice[:-4]) != data and len(set(numbers)) == len(numbers) - 1, numbers)
         twice = show(with_twice, folder)
         expect("a number twice, in the constant too", "T8: block numbers rise" in twice[2], twice)

@@ -211,7 +211,7 @@ def scribed(stand):
         ("many bad lines", "printf block; seq -f 'scribe: line %.0f: refused 6: no row' 12 >&2", "run.txt", some, True),
         ("a read that fails", "printf block; echo 'scribe: cannot read standard input' >&2", "run.txt", "cannot be read to its end", False),
         ("a bad line, then a read that fails", "echo 'scribe: line 1: is not' >&2; echo 'scribe: cannot read standard input' >&2", "run.txt", "to its end", False),
-        ("a table that breaks a rule", "echo 'scribe: the table breaks one of the rules T1 to T17' >&2", "my.table", "breaks one of the rules T1 to T17", False),
+        ("a table that breaks a rule", "echo 'scribe: the table breaks one of the rules T1 to T20' >&2", "my.table", "breaks one of the rules T1 to T20", False),
         ("a table that cannot be read", "echo 'scribe: the table: Input/output error' >&2", "my.table", "Input/output error", False),
         ("a status", "printf block; exit 3", "run.txt", "ended with status 3", False),
         ("a signal", "printf block; kill -9 $$", "run.txt", "ended with status 137", False),

@@ -9,7 +9,7 @@ extern void *memset(void *to, int byte, size_t count);
 
 static uint8_t hold[ALDERFLUTE_HOLD], in_force[ALDERFLUTE_STORE], waiting[ALDERFLUTE_STORE], out[32], before[ALDERFLUTE_HOLD];
 static const uint8_t sample[8] = {0x24, 0x40, 0xa9, 0x89, 0, 0, 8, 0};
-/* The smallest table that T1 to T17 allow: version 7, one row, block 0, no fields. */
+/* The smallest table that T1 to T20 allow: version 7, one row, block 0, no fields. */
 static const uint8_t table[20] = {0, 0, 0, 0, 0, 0, 0, 0, 7, 0, 1, 0, 20, 0, 20, 0, 0x59, 0x9c, 0x42, 0x54};
 static const alderflute_value tow = {ALDERFLUTE_GIVE_UNSIGNED, 0x04030201}, wnc = {ALDERFLUTE_GIVE_UNSIGNED, 0x0605};
 static unsigned passed, failed;
@@ -63,6 +63,9 @@ static void unknown(uint64_t phase)
     check(no_part(alderflute_subbytes(s, in_force, sizeof in_force, sample, sizeof sample, 0), 1), "subbytes", phase);
     check(no_field(alderflute_body(s, in_force, sizeof in_force, sample, sizeof sample, 0), 1), "body", phase);
     check(no_field(alderflute_sub(s, in_force, sizeof in_force, sample, sizeof sample, 0, 0), 1), "sub", phase);
+    check(no_field(alderflute_sub2(s, in_force, sizeof in_force, sample, sizeof sample, 0, 0, 0), 1), "sub2", phase);
+    check(no_field(alderflute_range(s, in_force, sizeof in_force, sample, sizeof sample, 0), 1), "range", phase);
+    check(no_field(alderflute_range2(s, in_force, sizeof in_force, sample, sizeof sample, 0, 0), 1), "range2", phase);
     check(no_field(alderflute_tow(s, sample, sizeof sample), 1), "tow", phase);
     check(no_field(alderflute_wnc(s, sample, sizeof sample), 1), "wnc", phase);
     check(no_block(alderflute_write(s, in_force, sizeof in_force, 0, 0, tow, wnc, NULL, 0, NULL, 0, out, sizeof out), 1), "write",
@@ -82,6 +85,9 @@ static void nothing_lent(void)
     check(no_part(alderflute_subbytes(s, NULL, 0, NULL, 0, 0), 1), "subbytes, nothing lent", 0);
     check(no_field(alderflute_body(s, NULL, 0, NULL, 0, 0), 1), "body, nothing lent", 0);
     check(no_field(alderflute_sub(s, NULL, 0, NULL, 0, 0, 0), 1), "sub, nothing lent", 0);
+    check(no_field(alderflute_sub2(s, NULL, 0, NULL, 0, 0, 0, 0), 1), "sub2, nothing lent", 0);
+    check(no_field(alderflute_range(s, NULL, 0, NULL, 0, 0), 1), "range, nothing lent", 0);
+    check(no_field(alderflute_range2(s, NULL, 0, NULL, 0, 0, 0), 1), "range2, nothing lent", 0);
     check(no_field(alderflute_tow(s, NULL, 0), 10), "tow of nothing", 0);
     check(no_field(alderflute_wnc(s, NULL, 0), 10), "wnc of nothing", 0);
     check(no_block(alderflute_write(s, NULL, 0, 0, 0, tow, wnc, NULL, 0, NULL, 0, NULL, 0), 1), "write, nothing lent", 0);

@@ -313,7 +313,7 @@ static int write_call(const char *line, size_t length, size_t at)
 static int call(const span *w, int words)
 {
     size_t n;
-    uint64_t i, j;
+    uint64_t i, j, k;
     if (words == 1 && is(w[0], "open"))
         return reply(alderflute_open(state, force.bytes, force.lent, waiting.bytes, waiting.lent), "opened", 0), 1;
     if (words == 1 && is(w[0], "finish")) return reply(alderflute_finish(state, hold.bytes, hold.lent), "", 0), 1;
@@ -333,20 +333,26 @@ static int call(const span *w, int words)
         return part(alderflute_subbytes(state, force.bytes, force.lent, pointer(n), n, i), given, n), 1;
     if (words == 4 && is(w[0], "sub") && decimal(w[1], &i) && decimal(w[2], &j))
         return field(alderflute_sub(state, force.bytes, force.lent, pointer(n), n, i, j)), 1;
+    if (words == 5 && is(w[0], "sub2") && decimal(w[1], &i) && decimal(w[2], &j) && decimal(w[3], &k))
+        return field(alderflute_sub2(state, force.bytes, force.lent, pointer(n), n, i, j, k)), 1;
+    if (words == 3 && is(w[0], "range") && decimal(w[1], &i))
+        return field(alderflute_range(state, force.bytes, force.lent, pointer(n), n, i)), 1;
+    if (words == 4 && is(w[0], "range2") && decimal(w[1], &i) && decimal(w[2], &j))
+        return field(alderflute_range2(state, force.bytes, force.lent, pointer(n), n, i, j)), 1;
     if (words == 4 && is(w[0], "put") && decimal(w[2], &i)) return put(w[1], i, n);
     return 0;
 }
 
 static int line(const char *at, size_t length)
 {
-    span w[5];
+    span w[6];
     int words = 0;
     size_t first = 0;
     if (length == 0 || *at == '#') return 1;
     if (is(next(at, length, &first), "write")) return write_call(at, length, first);
     for (size_t start = 0, i = 0; i <= length; i++)
         if (i == length || at[i] == ' ') {
-            if (words == 4) return 0;
+            if (words == 5) return 0;
             w[words].at = at + start;
             w[words++].length = i - start;
             start = i + 1;

@@ -16,6 +16,9 @@ static uint8_t out[256];
 /* Block 4043 with one sub-block: all is 0 but the header, N and SBLength. */
 static const uint8_t block[68] = {0x24, 0x40, 0xcb, 0x99, 0xcb, 0x0f, 68, 0, 0, 0, 0, 0, 0, 0, 1, 52};
 
+/* Block 4027 with one first-level sub-block and one nested in it. */
+static const uint8_t epoch[52] = {0x24, 0x40, 0x28, 0x74, 0xbb, 0x0f, 52, 0, 0, 0, 0, 0, 0, 0, 1, 20, 12, 0, 0, 0, 0, 0, 0, 1, 5, 0, 0, 0, 0, 0, 0, 0, 0, 0, 0, 0, 0, 0, 0, 1, 0, 0, 0, 0, 0, 0, 0, 0, 0, 0, 0, 0};
+
 /* One sub-block for block 4043, with a value in each field. */
 static const uint8_t kinds[] = {ALDERFLUTE_GIVE_SUB_BLOCK, 1, 1, 1, 1, 4, 4, 4, 3, 3, 3, 1, 2, 1, 1, 1};
 static const uint64_t bits[sizeof kinds] = {0, 1, 1, 1, 1, 1, 1, 1, 1, 1, 1, 1, 1, 1, 1, 1};
@@ -33,6 +36,9 @@ static void bytes(void) { part = alderflute_bytes(r.state, hold, sizeof hold); }
 static void body(void) { field = alderflute_body(r.state, in_force, sizeof in_force, block, sizeof block, 0); }
 static void sub(void) { field = alderflute_sub(r.state, in_force, sizeof in_force, block, sizeof block, 0, 4); }
 static void subbytes(void) { part = alderflute_subbytes(r.state, in_force, sizeof in_force, block, sizeof block, 0); }
+static void sub2(void) { field = alderflute_sub2(r.state, in_force, sizeof in_force, epoch, sizeof epoch, 0, 0, 6); }
+static void range(void) { field = alderflute_range(r.state, in_force, sizeof in_force, epoch, sizeof epoch, 0); }
+static void range2(void) { field = alderflute_range2(r.state, in_force, sizeof in_force, epoch, sizeof epoch, 0, 0); }
 static void tow(void) { field = alderflute_tow(r.state, block, sizeof block); }
 static void wnc(void) { field = alderflute_wnc(r.state, block, sizeof block); }
 static void write(void)
@@ -47,7 +53,7 @@ static const struct {
     const char *name;
     void (*call)(void);
 } calls[] = {{"new", new}, {"stage", stage}, {"withdraw", withdraw}, {"open", open}, {"feed", feed}, {"bytes", bytes}, {"body", body},
-             {"sub", sub}, {"subbytes", subbytes}, {"tow", tow}, {"wnc", wnc}, {"write", write}, {"feed", hold_back}, {"finish", finish}};
+             {"sub", sub}, {"subbytes", subbytes}, {"sub2", sub2}, {"range", range}, {"range2", range2}, {"tow", tow}, {"wnc", wnc}, {"write", write}, {"feed", hold_back}, {"finish", finish}};
 
 /* Paints the stack below this frame, makes the call, and looks how far down the paint is gone. */
 __attribute__((noinline)) static unsigned long depth(void (*call)(void))

@@ -1,15 +1,17 @@
 """Seeded content for the replay scripts: field values, blocks, streams and
-block tables, good ones and ones with exactly one rule broken; and blocks to
-be written, allowed ones and ones with a fault.
+block tables, good ones and ones with exactly one rule broken, of one level
+and of two; and blocks to be written, allowed ones and ones with a fault.
 
 Every function draws only from the random.Random it is given.
 """
 
 import binascii
+import re
 import struct
 
-from model import (Field, MARKED, Row, SIGNED, SIZES, crc, kind_read,
-                   make_table, range_of, shipped_rows, value)
+from model import (CODE_LSB, CODE_OFFSET_LSB, Field, MARKED, MEAS_EPOCH, MISC,
+                   OFFSETS_MSB, Row, SIGNED, SIZES, UNSIGNED, crc, kind_read,
+                   levels, make_table, range_of, shipped_rows, value, walk)
 
 SHIPPED = shipped_rows()
 OLDER = shipped_rows(reserved=False)
@@ -173,7 +175,7 @@ def row_block(rng, row, revision=None, slack=None):
     if slack is None:
         slack = rng.choice((0, 0, 0, 0, 4, 8, 40))
     make = sub_block if row.subs else body_block
-    return make(rng, row, revision, slack)
+    return (level_block if row.c else make)(rng, row, revision, slack)
 
 
 def short_block(rng, row):
@@ -185,17 +187,184 @@ def short_block(rng, row):
     set_fields(rng, data, 0, row.body)
     if row.subs and len(data) >= 16:
         data[14:16] = bytes((rng.choice((0, 1, 255)), rng.randrange(256)))
+    if row.c and len(data) >= 20:
+        data[16] = rng.choice((0, 1, 255))
     return seal(data)
 
 
 def misfit_block(rng, row):
     """A sealed block with sub-blocks that end one or more past its length, or
     N changed by one."""
-    data = bytearray(sub_block(rng, row, pick_revision(rng, row), 0))
+    data = bytearray(row_block(rng, row, slack=0))
     if len(data) >= 16:
-        at = rng.choice((14, 15))
+        at = rng.choice((14, 15, 16) if row.c else (14, 15))
         data[at] = (data[at] + rng.choice((1, 255, 2, 4))) % 256
     return seal(data)
+
+
+# ------------------------------------------------ blocks of two levels (T21)
+
+
+def code_bits(rng):
+    """Misc and CodeLSB: both 0 but for Misc's high bits, one of them 0, so
+    small that an offset makes it negative, the largest, or any."""
+    high = rng.choice((0, 0, 0x10, 0xF0, rng.randrange(16) << 4))
+    msb, lsb = rng.choice((
+        (0, 0), (0, 0), (0, 1), (0, rng.randrange(1, 262144)),
+        (rng.randrange(1, 16), 0), (15, 2 ** 32 - 1), (0, 2 ** 32 - 1),
+        (5, rng.getrandbits(32)), (rng.randrange(16), rng.getrandbits(32))))
+    return high | msb, lsb
+
+
+def offset_bits(rng):
+    """OffsetsMSB and CodeOffsetLSB: -4 and 0, one of them so, the limits, or
+    any; the bits above the three lowest are any."""
+    high = rng.choice((0, 0, 0xF8, rng.randrange(32) << 3))
+    msb, lsb = rng.choice((
+        (4, 0), (4, 0), (4, 1), (4, 65535), (0, 0), (7, 0), (7, 65535),
+        (3, 65535),
+        (rng.randrange(8), 0), (rng.randrange(8), rng.getrandbits(16)),
+        (rng.randrange(4, 8), rng.getrandbits(16))))
+    return high | msb, lsb
+
+
+def set_pair(data, fields, wanted, numbers):
+    """Puts two numbers into the fields that a pseudorange is read from, where
+    both are there with their types and within the bytes."""
+    if any(index >= len(fields) or fields[index].type != kind
+           for index, kind in wanted):
+        return
+    for (index, kind), number in zip(wanted, numbers):
+        at, size = fields[index].offset, SIZES[kind]
+        if at + size <= len(data):
+            data[at:at + size] = number.to_bytes(size, "little")
+
+
+def level_parts(rng, count, fields, size, pair, draw):
+    """The bytes of so many sub-blocks of a level, where they are many 20 over
+    and over; a pseudorange now and then stays as its fields drew it."""
+    parts = []
+    for _ in range(min(count, 20)):
+        part = bytearray(noise(rng, size))
+        set_fields(rng, part, 0, fields)
+        if rng.random() < 0.85:
+            set_pair(part, fields, pair, draw(rng))
+        parts.append(part)
+    return [bytearray(parts[index % 20]) for index in range(count)]
+
+
+def level_counts(rng):
+    """N1, and N2 of each: mostly a few that differ, seldom 255 and near it,
+    often none at all at the one level or the other."""
+    count = rng.choice((0, 1, 1, 2, 2, 3, 3, 4, rng.randrange(8)))
+    draw = rng.random()
+    if draw < 0.2:
+        return [0] * count
+    if draw < 0.21:
+        return [0] * rng.choice((100, 254, 255))
+    if draw < 0.22:
+        return [rng.choice((0, 1)) for _ in range(rng.choice((50, 255)))]
+    nested = [rng.choice((0, 0, 1, 1, 2, 3, rng.randrange(6)))
+              for _ in range(count)]
+    if nested and draw < 0.25:
+        nested[rng.randrange(count)] = rng.choice((60, 254, 255))
+    return nested
+
+
+def level_length(rng, fields, revision, used):
+    """A length that the block gives the sub-blocks of a level: that of its
+    carried rows, or longer; where none is there also anything else."""
+    end = fields_end(fields, revision)
+    if not used and rng.random() < 0.8:
+        return rng.choice((0, max(0, end - 1), 1, 255, rng.randrange(256)))
+    size = end + rng.choice((0, 0, 0, 0, 1, 2, 4, 8, rng.randrange(40)))
+    if rng.random() < 0.02:
+        size = 255
+    return min(255, size)
+
+
+def level_spoiled(rng, row, revision, nested, sizes):
+    """One of the lengths made too short for the rows of its level, where the
+    level has a sub-block and its rows have a length."""
+    for which in rng.sample((0, 1), 2):
+        end = fields_end(levels(row)[which], revision)
+        if end and (any(nested) if which else nested):
+            sizes[which] = rng.choice((end - 1, end - 1, 0,
+                                       rng.randrange(end))) % 256
+            return
+
+
+def level_bytes(rng, row, revision, nested, sizes):
+    """The unsealed bytes of a block of two levels, up to where the walk ends:
+    `nested` has the N2 of each first-level sub-block."""
+    first, second = levels(row)
+    data = bytearray(blank(rng, row.number, revision, 20))
+    set_fields(rng, data, 0, row.body)
+    data[14:17] = bytes((len(nested), *sizes))
+    outer = level_parts(rng, len(nested), first, sizes[0], (MISC, CODE_LSB),
+                        code_bits)
+    for n2, part in zip(nested, outer):
+        if first[-1].offset < len(part):
+            part[first[-1].offset] = n2
+        data += part
+        data += b"".join(level_parts(
+            rng, n2, second, sizes[1], (OFFSETS_MSB, CODE_OFFSET_LSB),
+            offset_bits))
+    return data
+
+
+def level_block(rng, row, revision, slack):
+    """A sealed block of a row of two levels: mostly one whose walk ends in
+    it, often exactly at its end; else cut, or a length too short."""
+    nested = level_counts(rng)
+    first, second = levels(row)
+    sizes = [level_length(rng, first, revision, bool(nested)),
+             level_length(rng, second, revision, any(nested))]
+    draw = rng.random()
+    if draw < 0.08:
+        level_spoiled(rng, row, revision, nested, sizes)
+    if len(nested) * sizes[0] + sum(nested) * sizes[1] > 12000:
+        nested = nested[:2]
+    if draw > 0.7 and len(nested) == 1 and sizes[0] < 250:
+        sizes[0] += -(sizes[0] + nested[0] * sizes[1]) % 4    # ends at L
+    data = level_bytes(rng, row, revision, nested, sizes)
+    length = up4(len(data)) + max(0, slack)
+    if 0.08 < draw < 0.18:
+        length = level_cut(rng, length)
+    data += noise(rng, max(0, length - len(data)))
+    return seal(data[:length])
+
+
+def level_cut(rng, length):
+    """A length that the walk does not end in, 20 or more where there is
+    one."""
+    return max(20, length - rng.choice((4, 4, 4, 8, 20,
+                                        4 * rng.randrange(1, 30))))
+
+
+def level_far(rng, row):
+    """A block of two levels that is full of 255s: the walk goes far past its
+    end, or nowhere near it."""
+    length = rng.choice((20, 24, 4 * rng.randrange(5, 200)))
+    data = blank(rng, row.number, pick_revision(rng, row), length)
+    data[20:] = rng.choice((b"\xff", b"\x00", b"\x01")) * (length - 20)
+    for at in (14, 15, 16):
+        data[at] = rng.choice((255, 255, 254, 0, 1, data[at]))
+    return seal(data)
+
+
+def level_full(rng, row):
+    """A block of two levels as long as they get: 255 first-level sub-blocks,
+    or 255 nested ones, of 255 bytes each."""
+    wide = rng.random() < 0.5
+    sizes = [255 if wide else fields_end(levels(row)[0], 7), 255]
+    data = level_bytes(rng, row, 7, [0] * 255 if wide else [255], sizes)
+    return seal(data + bytes(-len(data) % 4))
+
+
+def shape_of(row, data):
+    """The N2s of a block of two levels, as far as its bytes tell."""
+    return [n2 for _, n2 in walk(row, data)[0]] if len(data) > 16 else []
 
 
 def unknown_block(rng, rows):
@@ -355,7 +524,156 @@ def random_fields(rng, start, count, highest):
 PAIR = (Field(14, 1, 0, 0), Field(15, 1, 0, 0))
 
 
+TRIPLE = PAIR + (Field(16, 1, 0, 0),)
+
+
+def some_fields(rng, start, count, highest, last=256):
+    """As random_fields; those alone that end by `last`."""
+    return tuple(f for f in random_fields(rng, start, count, highest)
+                 if f.offset + SIZES[f.type] <= last)
+
+
+def level_body(rng, highest):
+    """N1, SB1Length, SB2Length, and mostly more up to 20."""
+    more = rng.choice((
+        (), (Field(17, 1, 0, 0), Field(18, 1, highest, 0)),
+        (Field(17, 1, 0, 0), Field(18, 2, 0, 5)), (Field(19, 5, highest, 4),),
+        some_fields(rng, 17, 3, highest, 20),
+        some_fields(rng, 17, 3, highest, 20)))
+    return TRIPLE + more
+
+
+def first_level(rng, count):
+    """First-level rows without N2, of first revision 0, and N2 behind them;
+    seldom as far out as a u1 can be."""
+    rows = some_fields(rng, rng.choice((0, 0, 0, 3)), count, 0, 200)
+    at = rows[-1].offset + SIZES[rows[-1].type] if rows else 0
+    at += rng.choice((0, 0, 0, 1, 4))
+    if rng.random() < 0.03:
+        at = rng.choice((254, 255))
+    return rows + (Field(at, 1, 0, 0),)
+
+
+def random_levels(rng, number):
+    """A valid row of two levels: of any shape, or near MeasEpoch's."""
+    if rng.random() < 0.4 or number == MEAS_EPOCH and rng.random() < 0.6:
+        return like_epoch(rng, number)
+    highest = rng.choice((0, 1, 1, 2, 7, rng.randrange(8)))
+    first = first_level(rng, rng.choice((0, 0, 1, 2, 4, 7, rng.randrange(12))))
+    second = tuple(
+        f._replace(type=2, mark=5)
+        if SIZES[f.type] == 2 and rng.random() < 0.7 else f
+        for f in some_fields(rng, rng.choice((0, 0, 0, 2)), rng.choice(
+            (0, 0, 1, 2, 4, 8, rng.randrange(12))), highest))
+    return Row(number, highest, level_body(rng, highest), first + second,
+               len(first))
+
+
+def like_epoch(rng, number):
+    """A row like MeasEpoch's, in one thing or a few unlike it: what its
+    pseudoranges are read from has another type, a mark, a later revision, or
+    is not there; or it stands elsewhere."""
+    row = next(r for r in SHIPPED if r.number == MEAS_EPOCH)
+    first, second = map(list, levels(row))
+    highest = rng.choice((1, 1, 3, 7))
+    for _ in range(rng.choice((0, 1, 1, 1, 2))):
+        kind = rng.choice((0, 1, 2, 2, 3, 3, 3, 4, 5, 6, 7))
+        fields, spots = ((first, (3, 4)), (second, (3, 6)))[rng.randrange(2)]
+        at = rng.choice(spots)
+        if kind < 4 and at >= len(fields) - 1:
+            continue    # not there, or it is N2
+        if kind < 2:
+            retype(rng, fields, at)
+        elif kind < 4:
+            if fields[at].type in UNSIGNED:
+                fields[at] = fields[at]._replace(mark=rng.choice((1, 2)))
+        elif kind == 4:
+            late = rng.randrange(len(second) + 1)
+            second[late:] = [f._replace(first=highest) for f in second[late:]]
+        elif kind == 5:
+            gap = rng.randrange(1, 5)
+            fields[at:] = [f._replace(offset=f.offset + gap)
+                           for f in fields[at:]]
+        elif kind == 6:
+            del second[rng.randrange(len(second) + 1):]
+        else:
+            del first[rng.randrange(len(first)):-1]
+    return Row(number, highest, row.body[:rng.randrange(3, 6)],
+               tuple(first + second), len(first))
+
+
+def retype(rng, fields, at):
+    """A field's type changed, and those behind it moved so that none
+    overlaps."""
+    kind = rng.choice([k for k in SIZES if k != fields[at].type])
+    wider = max(0, SIZES[kind] - SIZES[fields[at].type])
+    fields[at] = fields[at]._replace(type=kind, mark=0)
+    fields[at + 1:] = [f._replace(offset=f.offset + wider)
+                       for f in fields[at + 1:]]
+
+
+def level_corners(rng):
+    """[(row, block)] of what comes up seldom: 255 sub-blocks of either level,
+    SB2Length 0, lengths that are too short by one, walks that end far out, and
+    pseudoranges by fields that are not carried or that a mark makes
+    Do-Not-Use."""
+    epoch = next(row for row in SHIPPED if row.number == MEAS_EPOCH)
+    first, second = levels(epoch)
+    late = epoch._replace(subs=first + tuple(
+        f._replace(first=1) for f in second))
+    marked = epoch._replace(subs=tuple(
+        f._replace(mark=2) if f.type == 3 or at == epoch.c + 6 else f
+        for at, f in enumerate(epoch.subs)))
+    cases = [(epoch, 1, [0] * 255, [20, 0]), (epoch, 0, [255], [20, 12]),
+             (late, 0, [2, 1], [21, 0]), (late, 0, [0, 255], [20, 0]),
+             (epoch, 1, [1, 2], [19, 12]), (epoch, 1, [0, 2, 1], [20, 11]),
+             (epoch, 1, [0, 0, 0], [20, 11])]
+    out = []
+    for row, revision, nested, sizes in cases:
+        data = level_bytes(rng, row, revision, nested, sizes)
+        out.append((row, seal(data + bytes(-len(data) % 4))))
+    # CodeLSB 0, and then CodeOffsetLSB 0 alone
+    plain = bytearray(seal(level_bytes(rng, marked, 1, [1], [20, 12])))
+    for misc, low, more in ((5, 0, 7), (5, 9, 0)):
+        struct.pack_into("<BI", plain, 23, misc, low)
+        struct.pack_into("<H", plain, 46, more)
+        out.append((marked, seal(plain)))
+    # the walk ends past 65,536, at 65,555 and at 65,810: few bytes past it
+    for count in (2, 3):
+        far = level_bytes(rng, epoch, 1, [0], [255, 255]) + bytes(1)
+        far[14], far[39] = count, 255
+        out.append((epoch, seal(far)))
+    return out
+
+
+def level_rows(rng):
+    """Valid rows, those of two levels in the greater part; MeasEpoch as it is
+    shipped, or with another row under its number, or with one of one
+    level."""
+    numbers = sorted({MEAS_EPOCH, *(rng.randrange(8192) for _ in range(
+        rng.randrange(1, 4)))})
+    epoch = next(row for row in SHIPPED if row.number == MEAS_EPOCH)
+    rows = []
+    for number in numbers:
+        draw = rng.random()
+        if number == MEAS_EPOCH and draw < 0.45:
+            rows.append(epoch)
+        elif draw < 0.86:
+            rows.append(random_levels(rng, number))
+        else:
+            rows.append(single_row(rng, number))
+    return tuple(rows)
+
+
 def random_row(rng, number):
+    """A valid row, now and then of two levels."""
+    if rng.random() < 0.12:
+        return random_levels(rng, number)
+    return single_row(rng, number)
+
+
+def single_row(rng, number):
+    """A valid row of one level, or without sub-fields."""
     highest = rng.choice((0, 0, 1, 2, 7, rng.randrange(8)))
     count = rng.choice((0, 1, 2, 5, rng.randrange(12)))
     if rng.random() < 0.35 and count:
@@ -397,7 +715,8 @@ def valid_table(rng):
     elif draw < 0.65:
         rows = rng.choice((OLDER, UNSEEDED))
     elif draw < 0.97:
-        rows = rng.choice((random_rows, random_rows, write_rows))(rng)
+        rows = rng.choice((random_rows, random_rows, write_rows,
+                           level_rows))(rng)
     else:
         rows = great_rows(rng, rng.choice((8192, 8188, 20, 4096)))
     return make_table(version, rows)
@@ -482,9 +801,92 @@ def bad_rows(rng, number):
     return out
 
 
+def bad_levels(rng, number):
+    """(name, row of two levels) with exactly one rule broken in the row."""
+    n2, sub = Field(7, 1, 0, 0), Field(0, 2, 0, 0)
+    out = []
+
+    def add(name, body=TRIPLE, first=(sub, n2), second=(sub,), c=None):
+        out.append((name, Row(number, 3, body, first + second,
+                              len(first) if c is None else c)))
+    for over in (1, 2, 255 - 3):
+        add("c above the count", second=(Field(8, 2, 0, 0),), c=3 + over)
+    add("c above the count", TRIPLE, (), (), 1)
+    for kind in (2, 5, 3, 9):
+        add("N2 of another type", first=(sub, n2._replace(type=kind)))
+    for mark in (1, 2):
+        add("N2 marked", first=(sub, n2._replace(mark=mark)))
+    for late in (1, 3):
+        add("N2 of a later revision", first=(sub, n2._replace(first=late)))
+    late = tuple(f._replace(first=2) for f in (sub, n2))
+    add("N2 of a later revision", first=late)
+    add("first level: falling revision", first=(late[0], n2))
+    bad_triples(add)
+    bad_ends(rng, add)
+    for name, fields in bad_fields(rng):
+        add("second level: " + name, second=fields)
+        if name == "overlap" or name.startswith(("mark", "type", "same")):
+            behind = n2._replace(offset=200)
+            add("first level: " + name, first=fields + (behind,))
+    add("first level: overlap", first=(sub, n2._replace(offset=1)))
+    add("first level: falling place", first=(n2, sub._replace(type=1)))
+    return out
+
+
+def bad_triples(add):
+    """N1, SB1Length and SB2Length: each missing, elsewhere, of another type,
+    revision or mark."""
+    add("triple missing", ())
+    add("triple missing", PAIR)
+    add("triple missing", TRIPLE[1:])
+    add("triple missing", TRIPLE[:1] + TRIPLE[2:])
+    add("triple elsewhere", PAIR + (Field(17, 1, 0, 0),))
+    add("triple elsewhere", tuple(f._replace(offset=f.offset + 1)
+                                  for f in TRIPLE))
+    for at in range(3):
+        head, one, tail = TRIPLE[:at], TRIPLE[at], TRIPLE[at + 1:]
+        add("triple of another type", head + (one._replace(type=5),) + tail)
+        for mark in (1, 2):
+            add("triple marked", head + (one._replace(mark=mark),) + tail)
+        add("triple of a later revision", head + tuple(
+            f._replace(first=1) for f in (one,) + tail))
+    add("triple of another type", PAIR + (Field(16, 2, 0, 0),))
+
+
+def bad_ends(rng, add):
+    """Body fields that end past 20, by one or more, of a later revision too;
+    and others that break the rules of any body."""
+    for at, kind in ((17, 3), (17, 9), (19, 2), (20, 1), (20, 5), (16 + 1, 4),
+                     (255, 1), (rng.randrange(20, 256), 1)):
+        add("body past 20", TRIPLE + (Field(at, kind, rng.choice((0, 3)), 0),))
+    add("body past 20", TRIPLE + (Field(17, 1, 0, 0), Field(18, 2, 0, 0),
+                                  Field(20, 1, 3, 0)))
+    for name, cells in (
+            ("overlap", ((17, 2, 0, 0), (18, 1, 0, 0))),
+            ("overlap", ((16, 1, 0, 0),)), ("type", ((17, 11, 0, 0),)),
+            ("mark", ((17, 1, 0, 3),)),
+            ("above the highest", ((18, 1, 4, 0),)),
+            ("falling revision", ((17, 1, 2, 0), (18, 1, 1, 0)))):
+        add("body: " + name, TRIPLE + tuple(Field(*cell) for cell in cells))
+
+
+def broken_by_levels(rng):
+    """A table valid but for one row of two levels.  Each kind of fault is as
+    frequent as another, of however many rows it has."""
+    by_name = {}
+    for name, row in bad_levels(rng, rng.choice((4000, 4001, 4002))):
+        by_name.setdefault(re.sub(r" \d.*", "", name), []).append(row)
+    bad = rng.choice(by_name[rng.choice(sorted(by_name))])
+    return amid(rng, bad)
+
+
 def broken_by_row(rng):
     """A table valid but for one row."""
-    name, bad = rng.choice(bad_rows(rng, 4000 + rng.randrange(3)))
+    return amid(rng, rng.choice(bad_rows(rng, 4000 + rng.randrange(3)))[1])
+
+
+def amid(rng, bad):
+    """The table of a bad row, numbered 4000 to 4002, among good ones."""
     rows = [row for row in rng.choice((SHIPPED, random_rows(rng)))
             if row.number not in (4000, 4001, 4002)]
     low = [row for row in rows if row.number < 4000]
@@ -492,13 +894,25 @@ def broken_by_row(rng):
     return make_table(1, low + [bad] + high)
 
 
+def counters(row):
+    """How many body rows, and which sub-field row, count sub-blocks and
+    measure them: their mark is 0."""
+    return (3 if row.c else 2 if row.subs else 0), row.c - 1
+
+
 def broken_by_seed(rng):
     """A table valid but for a mark 5 on another type than u2.  N and
-    SBLength keep their mark 0, or another rule would be broken as well."""
+    SBLength, and their like in two levels, keep their mark 0, or another rule
+    would be broken as well."""
     rows = rng.choice((SHIPPED, OLDER, random_rows(rng)))
-    fields = [field for row in rows for field in row.body + row.subs]
-    spots = [at for at, field in enumerate(fields)
-             if field.type not in MARKED[5] and field not in PAIR]
+    fields, spots = [], []
+    for row in rows:
+        head, n2 = counters(row)
+        kept = set(range(head)) | ({len(row.body) + n2} if row.c else set())
+        spots += [len(fields) + at for at, field in enumerate(
+            row.body + row.subs)
+            if field.type not in MARKED[5] and at not in kept]
+        fields += row.body + row.subs
     if not spots:
         return broken_by_row(rng)
     kind = rng.choice(sorted({fields[at].type for at in spots}))
@@ -523,7 +937,7 @@ def broken_numbers(rng):
 
 
 def broken_block_row(rng):
-    """First index, zero byte or counts off."""
+    """First index, c or counts off."""
     rows = rng.choice((SHIPPED, random_rows(rng)))
     data = make_table(rng.randrange(9), rows)
     at = len(data) - u2(data, -8) + 8 * rng.randrange(len(rows))
@@ -532,7 +946,10 @@ def broken_block_row(rng):
         index = (u2(data, at + 4) + rng.choice((1, -1, 256))) % 65536
         return patched(data, at + 4, struct.pack("<H", index))
     if kind == 1:
-        return patched(data, at + 7, bytes((rng.choice((1, 128, 255)),)))
+        # above the count, or two levels where the body is that of one
+        over = data[at + 6] if data[at + 7] else 0
+        c = rng.choice((over + 1, 255, max(128, over + 1)))
+        return patched(data, at + 7, bytes((c,)))
     where = at + rng.choice((3, 6))
     off = 1 if kind < 4 else -1
     return patched(data, where, bytes(((data[where] + off) % 256,)))
@@ -585,7 +1002,7 @@ def recrc_total(data):
 def broken_table(rng):
     make = rng.choice((broken_by_row, broken_by_row, broken_by_row,
                        broken_by_seed, broken_numbers, broken_block_row,
-                       broken_trailer, broken_size))
+                       broken_trailer, broken_size, broken_by_levels))
     return make(rng)
 
 

@@ -5,8 +5,9 @@ papers alone that docs/RULES.md restates, and before it did: the rule that each
 part names was put in later, the code is as it was.  Write came with request
 M-100, again without a look at the code: from the request, from section W of
 docs/RULES.md and from docs/REPLAY.md, whose text language is at the end of
-this file.  Mark 5 came with request M-101, in the same way.  Choices between
-readings are in CHOICES.md.
+this file.  Mark 5 came with request M-101, in the same way, and so did the
+sub-blocks of two levels with request M-102.  Choices between readings are in
+CHOICES.md.
 
 Run as a program it behaves like `replay`: python3 model.py < script
 """
@@ -232,15 +233,18 @@ def fault_one(state, hold=None, force=None, waiting=None):
 
 
 # ------------------------------------------------------------ the block table
-# T1 to T17: the file, its trailer and its rows.
+# T1 to T20: the file, its trailer and its rows.
 
 Field = namedtuple("Field", "offset type first mark")
-Row = namedtuple("Row", "number highest body subs")
+# c is T7's: of two levels where it is not 0.  subs are the rows of both.
+Row = namedtuple("Row", "number highest body subs c", defaults=(0,))
 Table = namedtuple("Table", "version rows")
 
 # V1: the size of each type.
 SIZES = {1: 1, 2: 2, 3: 4, 4: 8, 5: 1, 6: 2, 7: 4, 8: 8, 9: 4, 10: 8}
 UNSIGNED, SIGNED, FLOAT = (1, 2, 3, 4), (5, 6, 7, 8), (9, 10)
+# T20, T21: where the sub-blocks of two levels begin.
+NESTED_FROM = 20
 # V3: the types that each mark may stand on.
 MARKED = {0: UNSIGNED + SIGNED + FLOAT, 1: UNSIGNED, 2: UNSIGNED, 3: FLOAT,
           4: SIGNED, 5: (2,)}
@@ -263,35 +267,55 @@ def fields_right(fields, least, highest):
     return True
 
 
+def levels(row):
+    """T17: the rows of the first level and those of the second.  Of a row of
+    one level all are the first's."""
+    many = row.c or len(row.subs)
+    return row.subs[:many], row.subs[many:]
+
+
+def counts_right(row):
+    """T16, T19 and T20: the rows that count sub-blocks and measure them."""
+    three = (Field(14, 1, 0, 0), Field(15, 1, 0, 0), Field(16, 1, 0, 0))
+    if row.c == 0:
+        # N and SBLength
+        return not row.subs or row.body == three[:2]
+    if row.c > len(row.subs) or row.body[:3] != three:
+        return False
+    if any(f.offset + SIZES[f.type] > NESTED_FROM for f in row.body):
+        return False
+    last = row.subs[row.c - 1]
+    return (last.type, last.first, last.mark) == (1, 0, 0)
+
+
 def row_right(row):
-    """The rules of one block's rows: T8 of one number, T9, T12 to T16."""
+    """The rules of one block's rows: T8 of one number, T9, T12 to T16, T19
+    and T20."""
     if row.number > 8191 or row.highest > 7:
         return False
     if not fields_right(row.body, 14, row.highest):
         return False
-    if not fields_right(row.subs, 0, row.highest):
+    if not all(fields_right(fields, 0, row.highest)
+               for fields in levels(row)):
         return False
-    # T16: N and SBLength
-    if row.subs and row.body != (Field(14, 1, 0, 0), Field(15, 1, 0, 0)):
-        return False
-    return True
+    return counts_right(row)
 
 
 def block_rows(raw, fields):
     """T7 to T10 and T17.  None if a rule is broken."""
     rows, before, used = [], -1, 0
     for at in range(0, len(raw), 8):
-        number, highest, bodies, first, subs, zero = struct.unpack_from(
+        number, highest, bodies, first, subs, c = struct.unpack_from(
             "<HBBHBB", raw, at)
-        # T8, T17, and T10: the index
-        if number <= before or zero != 0 or first != used:
+        # T8, and T10: the index
+        if number <= before or first != used:
             return None
         if used + bodies + subs > len(fields):
             return None
         # T10: body rows before sub-field rows
         middle = used + bodies
         row = Row(number, highest, tuple(fields[used:middle]),
-                  tuple(fields[middle:middle + subs]))
+                  tuple(fields[middle:middle + subs]), c)
         if not row_right(row):
             return None
         rows.append(row)
@@ -303,7 +327,7 @@ def block_rows(raw, fields):
 @functools.lru_cache(maxsize=64)
 def read_table(data):
     """The table in these bytes, or None if it breaks one of T1 to
-    T17."""
+    T20."""
     total = len(data)
     if not 20 <= total <= 8192:
         return None
@@ -439,6 +463,32 @@ def ends_past(fields, revision, limit):
                for f in fields)
 
 
+def walk(row, data):
+    """T21: ([(first byte, N2) of each first-level sub-block], where the last
+    one and what is nested in it end)."""
+    count, size, nested = data[14:17]
+    to_n2 = levels(row)[0][-1].offset
+    at, places = NESTED_FROM, []
+    for _ in range(count):
+        n2 = data[at + to_n2] if at + to_n2 < len(data) else 0
+        places.append((at, n2))
+        at += size + n2 * nested
+    return places, at
+
+
+def two_levels_fault(row, data):
+    """R8, of a row of two levels: does it hold?"""
+    _, revision, length = block_of(data, 0)
+    first, second = levels(row)
+    places, end = walk(row, data)
+    if end > length:
+        return True
+    if places and ends_past(first, revision, data[15]):
+        return True
+    return (any(n2 for _, n2 in places)
+            and ends_past(second, revision, data[16]))
+
+
 def layout_fault(row, data):
     """Refusals 7 and 8, in this order, or 0."""
     _, revision, length = block_of(data, 0)
@@ -446,6 +496,8 @@ def layout_fault(row, data):
     if length < 14 or ends_past(row.body, revision, length):
         return 7
     # R8: with N = count and SBLength = size
+    if row.c:
+        return 8 if two_levels_fault(row, data) else 0
     if row.subs:
         count, size = data[14], data[15]
         if count > 0 and ends_past(row.subs, revision, size):
@@ -534,24 +586,125 @@ def call_body(state, force, index, data):
     return answer_field(row.body, index, data, 0), state
 
 
+def sub_start(row, block, data):
+    """T18, T21: the first byte of a sub-block, of a first-level one where
+    there are two levels; None where there is no such."""
+    if not row.subs or block >= data[14]:
+        return None
+    return walk(row, data)[0][block][0] if row.c else 16 + block * data[15]
+
+
+def nested_start(row, block, nested, data):
+    """T21: the first byte of a second-level sub-block, None where there is no
+    such."""
+    if not row.c or block >= data[14]:
+        return None
+    start, n2 = walk(row, data)[0][block]
+    return start + data[15] + nested * data[16] if nested < n2 else None
+
+
 def call_sub(state, force, block, index, data):
     fault, row = row_for(state, force, data)
     if fault:
         return refused(fault, state)
-    if not row.subs or block >= data[14]:
+    start = sub_start(row, block, data)
+    if start is None:
         return refused(9, state)
-    return answer_field(row.subs, index, data, 16 + block * data[15]), state
+    return answer_field(levels(row)[0], index, data, start), state
 
 
 def call_subbytes(state, force, block, data):
-    """C13, T18: a sub-block's bytes."""
+    """C13, T18: a sub-block's bytes; T21: without those nested in it."""
     fault, row = row_for(state, force, data)
     if fault:
         return refused(fault, state)
-    if not row.subs or block >= data[14]:
+    start = sub_start(row, block, data)
+    if start is None:
         return refused(9, state)
-    start = 16 + block * data[15]
     return ("part", bytes(data[start:start + data[15]])), state
+
+
+def call_sub2(state, force, block, nested, index, data):
+    """C16: a field of a second-level sub-block."""
+    fault, row = row_for(state, force, data)
+    if fault:
+        return refused(fault, state)
+    start = nested_start(row, block, nested, data)
+    if start is None:
+        return refused(9, state)
+    return answer_field(levels(row)[1], index, data, start), state
+
+
+# V11 and V12: a MeasEpoch block's fields by their numbers, with their types.
+MEAS_EPOCH = 4027
+MISC, CODE_LSB = (3, 1), (4, 3)
+OFFSETS_MSB, CODE_OFFSET_LSB = (3, 1), (6, 2)
+
+
+def unsigned_field(fields, wanted, data, start):
+    """R9: the number that the field answers, None where there is no such
+    field, where it has another type, or where it answers no unsigned
+    number."""
+    index, kind = wanted
+    if index >= len(fields) or fields[index].type != kind:
+        return None
+    answer = answer_field(fields, index, data, start)
+    return answer[1] if answer[0] == "unsigned" else None
+
+
+def first_range(row, block, data):
+    """V11: (is it refused with 9?, the pseudorange or None for
+    Do-Not-Use)."""
+    if row.number != MEAS_EPOCH or not row.c:
+        return True, None
+    start = sub_start(row, block, data)
+    if start is None:
+        return True, None
+    misc, low = [unsigned_field(levels(row)[0], wanted, data, start)
+                 for wanted in (MISC, CODE_LSB)]
+    if misc is None or low is None:
+        return True, None
+    # CodeMSB: bits 0 to 3
+    return False, misc % 16 * 4294967296 + low or None
+
+
+def second_range(row, block, nested, data):
+    """V12, in the same form; what is not there comes before Do-Not-Use."""
+    missing, first = first_range(row, block, data)
+    start = None if missing else nested_start(row, block, nested, data)
+    if start is None:
+        return True, None
+    offsets, low = [unsigned_field(levels(row)[1], wanted, data, start)
+                    for wanted in (OFFSETS_MSB, CODE_OFFSET_LSB)]
+    if offsets is None or low is None:
+        return True, None
+    # CodeOffsetMSB: bits 0 to 2, in two's complement
+    high = offsets % 8
+    high -= 8 if high > 3 else 0
+    if first is None or (high, low) == (-4, 0):
+        return False, None
+    return False, first + high * 65536 + low
+
+
+def call_some_range(state, force, data, work_out):
+    """What Range and Range2 share (C16)."""
+    fault, row = row_for(state, force, data)
+    if fault:
+        return refused(fault, state)
+    missing, found = work_out(row)
+    if missing:
+        return refused(9, state)
+    return ("do-not-use",) if found is None else ("signed", found), state
+
+
+def call_range(state, force, block, data):
+    return call_some_range(state, force, data,
+                           lambda row: first_range(row, block, data))
+
+
+def call_range2(state, force, block, nested, data):
+    return call_some_range(state, force, data,
+                           lambda row: second_range(row, block, nested, data))
 
 
 def call_time(state, data, at, kind):
@@ -723,7 +876,8 @@ def call_write(state, force, out, number, revision, tow, wnc, body, subs):
     if fault:
         return refused(fault, state)
     row = row_numbered(table, number)
-    if row is None:
+    # R6: a row of two levels is not written through
+    if row is None or row.c:
         return refused(6, state)
     lists = lists_given(row, revision, (tow, wnc), body, subs)
     if lists is None:
@@ -748,7 +902,7 @@ def make_table(version, rows):
         both = list(row.body) + list(row.subs)
         fields += b"".join(bytes(field) for field in both)
         blocks += struct.pack("<HBBHBB", row.number, row.highest,
-                              len(row.body), used, len(row.subs), 0)
+                              len(row.body), used, len(row.subs), row.c)
         used += len(both)
     total = len(fields) + len(blocks) + 12
     head = fields + blocks + struct.pack(
@@ -757,9 +911,10 @@ def make_table(version, rows):
 
 
 # --------------------------------------------------------------- rows shipped
-# T30 to T36, with the newer guide for PVTCartesian and BaseVectorCart.
+# T30 to T36, with the newer guide for PVTCartesian and BaseVectorCart; T37,
+# with the 2.9.0 guide for MeasEpoch.
 
-U1, U2, U4, I2, F4, F8 = 1, 2, 3, 6, 9, 10
+U1, U2, U4, I1, I2, I4, F4, F8 = 1, 2, 3, 5, 6, 7, 9, 10
 
 
 def packed(start, cells):
@@ -794,6 +949,22 @@ def base_vector_sub():
         (U4, 2, 0)])                                     # SignalInfo
 
 
+def meas_epoch():
+    body = packed(14, [
+        (U1, 0, 0), (U1, 0, 0), (U1, 0, 0),              # N1, two lengths
+        (U1, 0, 0), (U1, 0, 1)])                         # flags, CumClkJumps
+    first = packed(0, [
+        (U1, 0, 0), (U1, 0, 0), (U1, 0, 0), (U1, 0, 0),  # RxChannel..Misc
+        (U4, 0, 0), (I4, 4, 0),                          # CodeLSB, Doppler
+        (U2, 0, 0), (I1, 0, 0), (U1, 1, 0),              # CarrierLSB, MSB, CN0
+        (U2, 1, 0), (U1, 0, 0), (U1, 0, 0)])             # LockTime..N2
+    second = packed(0, [
+        (U1, 0, 0), (U1, 1, 0), (U1, 1, 0),              # Type, LockTime, CN0
+        (U1, 0, 0), (I1, 0, 0), (U1, 0, 0),              # OffsetsMSB..ObsInfo
+        (U2, 0, 0), (U2, 0, 0), (U2, 0, 0)])             # CodeOffset..Doppler
+    return Row(MEAS_EPOCH, 1, body, first + second, len(first))
+
+
 def shipped_rows(reserved=True):
     """All rows shipped, rising; reserved False leaves AttEuler's Reserved row
     out (the table of before the release that RULES.md, D, tells of)."""
@@ -806,6 +977,7 @@ def shipped_rows(reserved=True):
     event = packed(14, pair + [(F4, 0, 0), (F8, 3, 0), (U2, 0, 1)])
     return (
         Row(4006, 2, pvt_cartesian(), ()),
+        meas_epoch(),
         Row(4043, 0, packed(14, pair), base_vector_sub()),
         Row(5906, 0, packed(14, pair + floats * 10), ()),
         Row(5924, 1, event, ()),
@@ -843,6 +1015,7 @@ NAMES = {name.encode(): name for name in State._fields}
 CALLS = {
     b"open": "", b"feed": "x", b"finish": "", b"bytes": "", b"stage": "x",
     b"withdraw": "", b"body": "nx", b"sub": "nnx", b"subbytes": "nx",
+    b"sub2": "nnnx", b"range": "nx", b"range2": "nnx",
     b"tow": "x", b"wnc": "x", b"poke": "sn", b"put": "bnx", b"size": "ln",
     b"write": "nntt"}
 # The letter of a value in a `write` line.
@@ -998,6 +1171,8 @@ class Player:
                  b"finish": ("hold",), b"bytes": ("hold",),
                  b"stage": ("waiting",), b"body": ("force",),
                  b"sub": ("force",), b"subbytes": ("force",),
+                 b"sub2": ("force",), b"range": ("force",),
+                 b"range2": ("force",),
                  b"write": ("force", "out")}
         function = globals()["call_" + word.decode()]
         lent = [self.lent(name) for name in lends.get(word, ())]

@@ -4,6 +4,8 @@ poke a number back, or read the block that stands.
 
 script(seed)         about 100 calls of all kinds
 record_script(seed)  a table opened, then about 200 record calls
+level_script(seed)   tables with rows of two levels, good and bad, and about
+                     150 record calls on blocks of theirs
 write_script(seed)   tables opened, and about 100 blocks to be written;
                      write_blocks(seed) gives those that were
 whole_stream(seed)   a run of 100 kB and more for the lister
@@ -17,6 +19,8 @@ from content import HUGE, SHIPPED
 
 NAMES = model.State._fields
 NO_ROW = model.Row(0, 0, (), ())
+# BaseVectorCart, the one row of one level that is shipped with sub-fields.
+VECTOR = next(row for row in SHIPPED if row.subs and not row.c)
 
 
 def hexed(data):
@@ -216,7 +220,7 @@ class Maker:
         if draw < 0.72:
             return content.short_block(rng, row)
         if draw < 0.8:
-            parts = [r for r in rows if r.subs] or [SHIPPED[1]]
+            parts = [r for r in rows if r.subs] or [VECTOR]
             return content.misfit_block(rng, rng.choice(parts))
         if draw < 0.88:
             return content.unknown_block(rng, rows)
@@ -256,6 +260,8 @@ class Maker:
         data = self.record_bytes() if data is None else data
         bodies, subs, count = self.shape(data)
         row = self.row_of(data) or NO_ROW
+        if rng.random() < (0.6 if row.c else 0.06):
+            return self.level_record(data)
         word = rng.choice(("body", "body", "body", "sub", "sub", "subbytes",
                            "tow", "wnc"))
         if subs and rng.random() < 0.6:
@@ -286,7 +292,127 @@ class Maker:
         if row is None:
             return 1 if len(data) < 6 else 3, 0, 0
         count = data[14] if row.subs and len(data) > 14 else 0
-        return len(row.body), len(row.subs), count
+        return len(row.body), len(model.levels(row)[0]), count
+
+    # ------------------------------------------------- two levels
+
+    def level_record(self, data):
+        """Sub2, Range or Range2, on any bytes: most numbers are those of
+        sub-blocks and fields that are there."""
+        rng, row = self.rng, self.row_of(data) or NO_ROW
+        shape = content.shape_of(row, data) if row.c else []
+        full = [at for at, n2 in enumerate(shape) if n2]
+        block = self.field_number(len(shape))
+        if full and rng.random() < 0.7:
+            block = rng.choice(full)
+        word = rng.choice(("sub2", "sub2", "range", "range2"))
+        if word == "range":
+            return self.call(word, block, hexed(data))
+        n2 = shape[block] if block < len(shape) else 0
+        nested = self.field_number(n2)
+        if n2 and rng.random() < 0.5:
+            nested = rng.randrange(n2)
+        if word == "range2":
+            return self.call(word, block, nested, hexed(data))
+        second = model.levels(row)[1]
+        return self.call(word, block, nested,
+                         self.field_number(len(second), second), hexed(data))
+
+    def level_row(self):
+        """A row of two levels in force, or the one shipped; MeasEpoch's by
+        whatever row in half of all cases."""
+        rows = [row for row in self.rows() if row.c]
+        epoch = [row for row in self.rows()
+                 if row.number == model.MEAS_EPOCH]
+        if epoch and self.rng.random() < 0.5:
+            return epoch[0]
+        return self.rng.choice(rows or [row for row in SHIPPED if row.c])
+
+    def level_bytes(self):
+        """A block of two levels, or what may stand in its place."""
+        rng, row = self.rng, self.level_row()
+        draw = rng.random()
+        if draw < 0.82:
+            return content.row_block(rng, row)
+        if draw < 0.86:
+            return content.level_far(rng, row)
+        if draw < 0.9:
+            return content.short_block(rng, row)
+        if draw < 0.94:
+            return content.misfit_block(rng, row)
+        return self.record_bytes()
+
+    def level_calls(self):
+        """A few calls on one block; of the fields past the first level's
+        too."""
+        rng, data = self.rng, self.level_bytes()
+        row = self.row_of(data) or NO_ROW
+        for _ in range(rng.choice((1, 2, 3, 4))):
+            draw = rng.random()
+            if draw < 0.55:
+                self.level_record(data)
+            elif draw < 0.6 and row.c:
+                _, many, count = self.shape(data)
+                self.call("sub", rng.randrange(count or 1), rng.randrange(
+                    many, len(row.subs) + 1), hexed(data))
+            else:
+                self.record(data)
+
+    def level_sweep(self):
+        """All there is in a small block of two levels, and one past it."""
+        rng, row = self.rng, self.level_row()
+        data = content.row_block(rng, row)
+        shape = content.shape_of(row, data) if row.c else []
+        if len(shape) > 4 or sum(shape) > 8:
+            return
+        text, seconds = hexed(data), len(model.levels(row)[1])
+        for block in range(len(shape) + 1):
+            self.call("subbytes", block, text)
+            self.call("range", block, text)
+            n2 = shape[block] if block < len(shape) else 0
+            for nested in range(n2 + 1):
+                self.call("range2", block, nested, text)
+                self.call("sub2", block, nested,
+                          rng.randrange(seconds + 1), text)
+
+    def level_full(self):
+        """A line on a block as long as one of two levels gets."""
+        row = self.level_row()
+        if not row.c or content.fields_end(row.subs, 7) > 255:
+            return
+        data = content.level_full(self.rng, row)
+        block = self.rng.choice((254, 0))
+        self.call("sub2", 0, block, 0, hexed(data))
+        self.call("subbytes", block, hexed(data))
+
+    def level_corners(self):
+        """Every call on each of those blocks, its row in force."""
+        rng = self.rng
+        for row, data in content.level_corners(rng):
+            self.reopen(model.make_table(rng.randrange(65536), (row,)))
+            last, text = data[14] - 1, hexed(data)
+            self.call("body", rng.randrange(5), text)
+            self.call("sub", last, rng.randrange(row.c), text)
+            self.call("subbytes", last, text)
+            self.call("sub2", 0, rng.choice((0, 254)), rng.randrange(9), text)
+            for block in sorted({0, last}):
+                self.call("range", block, text)
+                self.call("range2", block, 0, text)
+
+    def level_write(self):
+        """Write of a row of two levels, with a fault too now and then: 6
+        comes first."""
+        wanted = content.allowed(self.rng, self.level_row(), self.rng.choice(
+            (0, 1, 2, 3)))
+        if self.rng.random() < 0.4:
+            content.spoil(self.rng, wanted)
+        if self.rng.random() < 0.2:
+            self.call("size", "out", self.rng.choice((0, 15, 40)))
+        self.ask(wanted)
+
+    def level_table(self):
+        """A table with one rule of two levels broken."""
+        self.call("stage", hexed(content.broken_by_levels(self.rng)))
 
     def sweep(self):
         """All fields of one block, one past the last too."""
@@ -759,6 +885,22 @@ class Maker:
         if self.rng.random() < 0.05:
             self.long_lines()
 
+    def bad_level(self):
+        """The calls on two levels, told wrongly or just rightly."""
+        line = self.rng.choice((
+            b"sub2 0 0 %s", b"sub2 0 0 0 0 %s", b"sub2 0 0 0", b"sub2",
+            b"sub2 0 -1 0 %s", b"sub2 0 0 18446744073709551616 -",
+            b"sub2 18446744073709551615 0 0 -", b"SUB2 0 0 0 -", b"sub3 0 -",
+            b"sub2 0 0 - %s", b"sub2 00 000 0 %s", b"range %s", b"range 0",
+            b"range 0 0 %s", b"range x %s", b"range - %s", b"range 0 -\r",
+            b"Range 0 -", b"range 0  -", b"range", b"range2", b"range2 0 -",
+            b"range2 0 0", b"range2 0 0 0 %s", b"range2 0 x -",
+            b"range2 0 0 0", b"range2 0 0 - ", b"ranges 0 -", b"range1 0 -",
+            b"range 18446744073709551616 %s", b"range 0001 %s",
+            b"range2 018446744073709551615 00 %s", b"range3 0 0 %s"))
+        block = hexed(content.row_block(self.rng, self.level_row()))
+        self.say(line.replace(b"%s", block))
+
     def bad_line(self):
         rng = self.rng
         block = hexed(content.row_block(rng, rng.choice(SHIPPED)))
@@ -880,6 +1022,34 @@ def record_script(seed, answers=200):
                 maker.spoil_record()
             else:
                 maker.short_record()
+    return maker.text()
+
+
+# ---------------------------------------------------- scripts of two levels
+
+LEVEL_ACTIONS = {"level_calls": 40, "level_sweep": 1.2, "level_table": 6,
+                 "level_write": 2, "spoil_record": 0.5, "short_record": 0.5,
+                 "bad_level": 2}
+
+
+def level_script(seed, answers=150):
+    """Tables with rows of two levels one after the other, and calls on blocks
+    of theirs, broken tables between them.  Every tenth has a block as long as
+    they get, every eighth what else is seldom."""
+    maker = Maker("level %s" % seed, answers)
+    rng = maker.rng
+    if rng.random() < 0.2:
+        maker.level_calls()    # no table is in force yet
+    if seed % 8 == 2:
+        maker.level_corners()
+    while maker.calls < maker.goal:
+        stop = maker.calls + rng.choice((30, 50, 70))
+        maker.reopen(model.make_table(rng.randrange(65536),
+                                      content.level_rows(rng)))
+        if seed % 10 == 1 and stop > maker.goal:
+            maker.level_full()
+        while maker.calls < min(stop, maker.goal):
+            maker.act(LEVEL_ACTIONS)
     return maker.text()
 
 

@@ -1,2 +1,5 @@
 pub mod Samples
 pub mod Theorems
+pub mod Before
+pub mod OneLevel
+pub mod TwoLevels

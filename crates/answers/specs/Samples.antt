@@ -42,10 +42,10 @@ sampleTable =
     record {
       version = 1;
       rows =
-          record { number = 0; highest = 0; body = []; subs = [] }
-          ∷ record { number = 1; highest = 1; body = fieldRow 14 u2 0 ones ∷ fieldRow 16 i2 0 least ∷ fieldRow 20 f4 0 minus2e10 ∷ fieldRow 24 u1 1 unmarked ∷ []; subs = [] }
-          ∷ record { number = 2; highest = 1; body = countRows; subs = fieldRow 0 u2 0 unmarked ∷ fieldRow 2 i1 1 least ∷ [] }
-          ∷ record { number = 3; highest = 1; body = countRows; subs = fieldRow 0 u1 1 unmarked ∷ [] }
+          record { number = 0; highest = 0; body = []; subs = []; firsts = 0 }
+          ∷ record { number = 1; highest = 1; body = fieldRow 14 u2 0 ones ∷ fieldRow 16 i2 0 least ∷ fieldRow 20 f4 0 minus2e10 ∷ fieldRow 24 u1 1 unmarked ∷ []; subs = []; firsts = 0 }
+          ∷ record { number = 2; highest = 1; body = countRows; subs = fieldRow 0 u2 0 unmarked ∷ fieldRow 2 i1 1 least ∷ []; firsts = 0 }
+          ∷ record { number = 3; highest = 1; body = countRows; subs = fieldRow 0 u1 1 unmarked ∷ []; firsts = 0 }
           ∷ [];
     }
 

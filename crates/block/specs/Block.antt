@@ -1,22 +1,26 @@
--- A block against a table: its row, or why it is refused (rule R20: 10, 6, 7, 8, and 9 of a sub-block).
+-- A block against a table: its row, or why it is refused (rule R20: 10, 6, 7, 8, and 9 of a sub-block), and where its sub-blocks stand.
 -- Assumes nothing.
 use Prim.Native.Nat.{ℕ, _+_, _*_, _≤_, _<_}
 use mathlib.Core.Path.{_≡_}
 use mathlib.Core.List.{List}
 use mathlib.Core.Bool.{Bool, true, not, _&&_, _||_, cond}
 use mathlib.Core.Option.{Option, none, some}
-use lib.ListN.{length, getD}
+use lib.ListN.{length}
 use lib.Dec.{ltb, leb, eqb}
 use Rattle.frame.specs.Frame.{idAt, numberOf, revisionOf, wholeFrame}
 use Rattle.refusal.specs.Numbers.{numberFor}
 use Rattle.rows.specs.declared.FieldRow.{FieldRow}
 use Rattle.rows.specs.declared.Row.{Row}
-use Rattle.table.specs.Lists.{every}
-use Rattle.table.specs.Rows.{BlockRow, Table, ends}
+use Rattle.table.specs.Lists.{every, pick}
+use Rattle.table.specs.Rows.{BlockRow, Table, ends, oneLevel, firstRows, secondRows, nestedRow}
 use Rattle.rows.specs.Places.{fieldCount}
 use Rattle.table.specs.Decode.{blockOf, decode}
+use Rattle.table.specs.Rules.{blockOk}
 use Rattle.table.specs.Lookup.{carried, findRow}
-use Rattle.block.specs.declared.Span.{Span}
+use Rattle.walk.specs.declared.Span.{Span}
+use Rattle.walk.specs.declared.Nest.{Nest}
+use Rattle.walk.specs.Walk.{secondLengthIn, span, nestEnd, walkOver, walkEnd, anySecond, nestOr}
+pub use Rattle.walk.specs.Walk.{countIn, subLengthIn}
 use Rattle.block.specs.declared.Matched.{Matched}
 use Rattle.block.specs.declared.Matched.the-variants as matched
 use Rattle.block.specs.declared.SubMatched.{SubMatched}
@@ -33,13 +37,6 @@ revisionIn b = revisionOf (idAt b 0)
 abbrev pub lengthIn : List ℕ → ℕ
 lengthIn b = length b
 
--- T16: N and SBLength
-abbrev pub countIn : List ℕ → ℕ
-countIn b = getD b 14 0
-
-abbrev pub subLengthIn : List ℕ → ℕ
-subLengthIn b = getD b 15 0
-
 -- V5: where the revision carries the field, it does not end past n
 abbrev pub endsBy : ℕ → ℕ → FieldRow → Bool
 endsBy revision n f = not (carried revision f) || leb (ends f) n
@@ -51,15 +48,48 @@ bodyFits b r = leb 14 (lengthIn b) && every (endsBy (revisionIn b) (lengthIn b))
 abbrev pub hasSubs : BlockRow → Bool
 hasSubs r = not (eqb (length (r .subs)) 0)
 
--- T18: where sub-block k of a block stands: `at`, where it starts in the block, and `size`. The row that is given changes nothing (D6)
-abbrev pub subSpan : BlockRow → List ℕ → ℕ → Span
-subSpan r b k = record { at = 16 + k * subLengthIn b; size = subLengthIn b }
+-- T18: where sub-block k of a block of one level stands: `at`, where it starts in the block, and `size`. No row changes it (D6)
+abbrev pub oneSpan : List ℕ → ℕ → Span
+oneSpan b k = span (16 + k * subLengthIn b) (subLengthIn b)
 
--- R8: its condition holds where this fails; N sub-blocks end where one more would start
-unfoldable pub subsFit : List ℕ → BlockRow → Bool
-subsFit b r =
-    let end = subSpan r b (countIn b) in
+-- R8, of one level: its condition holds where this fails; N sub-blocks end where one more would start
+unfoldable pub oneFits : List ℕ → BlockRow → Bool
+oneFits b r =
+    let end = oneSpan b (countIn b) in
     not (hasSubs r) || ((eqb (countIn b) 0 || every (endsBy (revisionIn b) (end .size)) (r .subs)) && leb (end .at) (lengthIn b))
+
+-- T20, T21: where N2 stands in a first-level sub-block
+abbrev pub offsetOf : Option FieldRow → ℕ
+offsetOf none = 0
+offsetOf (some f) = f .offset
+
+-- T21: the walk over a block of two levels. Of its row it uses N2's offset alone (D6)
+abbrev pub walkOf : BlockRow → List ℕ → List Nest
+walkOf r b = walkOver (offsetOf (nestedRow r)) b
+
+-- R8, of two levels: the walk starts and ends within L, and the sub-blocks of a level that has any are long enough for its carried fields
+unfoldable pub nestFits : List ℕ → BlockRow → Bool
+nestFits b r =
+    leb 20 (lengthIn b)
+    && leb (walkEnd 20 (walkOf r b)) (lengthIn b)
+    && (eqb (countIn b) 0 || every (endsBy (revisionIn b) (subLengthIn b)) (firstRows r))
+    && (not (anySecond (walkOf r b)) || every (endsBy (revisionIn b) (secondLengthIn b)) (secondRows r))
+
+-- R8: its condition holds where this fails
+unfoldable pub subsFit : List ℕ → BlockRow → Bool
+subsFit b r = cond (oneLevel r) (oneFits b r) (nestFits b r)
+
+-- a sub-block with none nested in it
+abbrev pub alone : Span → Nest
+alone s = record { first = s; count = 0; size = 0 }
+
+-- T18, T21: sub-block k, of the first level or of the only one, and those nested in it
+unfoldable pub nestOf : BlockRow → List ℕ → ℕ → Nest
+nestOf r b k = cond (oneLevel r) (alone (oneSpan b k)) (nestOr (pick (walkOf r b) k))
+
+-- T18, T21: where it stands
+abbrev pub subSpan : BlockRow → List ℕ → ℕ → Span
+subSpan r b k = nestOf r b k .first
 
 -- the row that a block is read by, or the number of a refusal
 pub data Seen : Type 0 where
@@ -75,7 +105,7 @@ seenRow b (some r) = cond (bodyFits b r) (cond (subsFit b r) (row r) (refusedBy 
 unfoldable pub seen : Table → List ℕ → Seen
 seen tab b = cond (wholeFrame b) (seenRow b (findRow tab (numberIn b))) (refusedBy 10)
 
--- T18: how many sub-blocks it has: N, where its row has sub-fields, else none
+-- T18, T21: how many sub-blocks it has, of the first level or the only one: N or N1, where its row has sub-fields, else none
 abbrev pub subCount : List ℕ → BlockRow → ℕ
 subCount b r = cond (hasSubs r) (countIn b) 0
 
@@ -93,12 +123,14 @@ matchedSays t (matched.At r) = row (blockOf t r)
 matchedSays t (matched.Refused x) = refusedBy (numberFor x)
 
 abbrev pub subMatchedSays : List ℕ → SubMatched → Seen
-subMatchedSays t (subMatched.At r s) = row (blockOf t r)
+subMatchedSays t (subMatched.At r n) = row (blockOf t r)
 subMatchedSays t (subMatched.Refused x) = refusedBy (numberFor x)
 
--- what a caller may use of a row that was found: its field rows are there, N and SBLength too, and the block passed
+-- what a caller may use of a row that was found: its field rows are there and keep the rules, N and SBLength are there, and the block
+-- passed
 pub record Fine (t b : List ℕ) (r : Row) : Type 0 where
   pub inside : r .start + r .bodies + r .subs ≤ fieldCount t
+  pub rules : blockOk (blockOf t r) ≡ true
   pub long : 16 ≤ length b
   pub body : bodyFits b (blockOf t r) ≡ true
   pub subs : subsFit b (blockOf t r) ≡ true
@@ -111,17 +143,18 @@ pub record Matching (t b : List ℕ) (l : Matched) : Type 0 where
   pub is : matchedSays t l ≡ seen (decode t) b
   pub fine : FineIfAny t b l
 
--- of a sub-block that is there: where it stands, in the block, and its carried fields lie in it
-pub record SubFine (t b : List ℕ) (k : ℕ) (r : Row) (s : Span) : Type 0 where
+-- of a sub-block that is there: where it stands, in the block, with those nested in it, and the carried fields of each level lie in theirs
+pub record SubFine (t b : List ℕ) (k : ℕ) (r : Row) (n : Nest) : Type 0 where
   pub inside : r .start + r .bodies + r .subs ≤ fieldCount t
+  pub rules : blockOk (blockOf t r) ≡ true
   pub long : 16 ≤ length b
-  pub few : k < 256
-  pub stands : s ≡ subSpan (blockOf t r) b k
-  pub within : s .at + s .size ≤ length b
-  pub fields : every (endsBy (revisionIn b) (s .size)) (blockOf t r .subs) ≡ true
+  pub stands : n ≡ nestOf (blockOf t r) b k
+  pub within : nestEnd n ≤ length b
+  pub fields : every (endsBy (revisionIn b) (n .first .size)) (firstRows (blockOf t r)) ≡ true
+  pub nested : 0 < n .count → every (endsBy (revisionIn b) (n .size)) (secondRows (blockOf t r)) ≡ true
 
 abbrev pub SubFineIfAny : List ℕ → List ℕ → ℕ → SubMatched → Type 0
-SubFineIfAny t b k (subMatched.At r s) = SubFine t b k r s
+SubFineIfAny t b k (subMatched.At r n) = SubFine t b k r n
 SubFineIfAny t b k (subMatched.Refused x) = Unit
 
 pub record SubMatching (t b : List ℕ) (k : ℕ) (l : SubMatched) : Type 0 where

@@ -16,6 +16,7 @@ use Rattle.runs.specs.Calls.{feedOf, finishOf}
 use Rattle.draft.specs.Draft.{Draft}
 use Rattle.writer.specs.Write.{refusesWrite}
 use Rattle.writes.specs.Calls.{writeOf}
+use Rattle.epochs.specs.Calls.{sub2Of, rangeOf, range2Of}
 use Rattle.records.specs.Calls.{askRefusal, bodyOf, subOf, subBytesRefusal, stampOf, towOf, wncOf}
 
 module _ (t : State) (e : sound t ≡ false) where
@@ -58,6 +59,18 @@ module _ (t : State) (e : sound t ≡ false) where
   pub sub-bytes-one : (force block : List ℕ) (k : ℕ) → subBytesRefusal t force block k ≡ some 1
   unfolding subBytesRefusal
   sub-bytes-one force block k = rw (ask-one force)
+
+  pub sub2-one : (force block : List ℕ) (k m j : ℕ) → sub2Of t force block k m j ≡ fieldRefused 1
+  unfolding sub2Of
+  sub2-one force block k m j = rw (ask-one force)
+
+  pub range-one : (force block : List ℕ) (k : ℕ) → rangeOf t force block k ≡ fieldRefused 1
+  unfolding rangeOf
+  range-one force block k = rw (ask-one force)
+
+  pub range2-one : (force block : List ℕ) (k m : ℕ) → range2Of t force block k m ≡ fieldRefused 1
+  unfolding range2Of
+  range2-one force block k m = rw (ask-one force)
 
   pub tow-one : (block : List ℕ) → towOf t block ≡ fieldRefused 1
   unfolding stampOf

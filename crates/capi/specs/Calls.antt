@@ -12,6 +12,7 @@ use Rattle.reader.specs.Outcome.{Outcome}
 use Rattle.tables.specs.Calls.{openOf, stageOf, withdrawOf}
 use Rattle.runs.specs.Calls.{feedOf, finishOf, bytesOf}
 use Rattle.records.specs.Calls.{bodyOf, subOf, subBytesOf, subPlaceOf, subBytesRefusal, towOf, wncOf}
+use Rattle.epochs.specs.Calls.{sub2Of, rangeOf, range2Of}
 use Rattle.draft.specs.Draft.{Draft}
 use Rattle.writer.specs.Write.{WriteOutcome, writeRefused}
 use Rattle.writes.specs.Calls.{writeOf}
@@ -66,6 +67,15 @@ bodyC s force block i = tellsField (λ t. bodyOf t force block i) (stateOf s)
 
 unfoldable pub subC : CState → List ℕ → List ℕ → ℕ → ℕ → CField
 subC s force block k j = tellsField (λ t. subOf t force block k j) (stateOf s)
+
+unfoldable pub sub2C : CState → List ℕ → List ℕ → ℕ → ℕ → ℕ → CField
+sub2C s force block k m j = tellsField (λ t. sub2Of t force block k m j) (stateOf s)
+
+unfoldable pub rangeC : CState → List ℕ → List ℕ → ℕ → CField
+rangeC s force block k = tellsField (λ t. rangeOf t force block k) (stateOf s)
+
+unfoldable pub range2C : CState → List ℕ → List ℕ → ℕ → ℕ → CField
+range2C s force block k m = tellsField (λ t. range2Of t force block k m) (stateOf s)
 
 unfoldable pub towC : CState → List ℕ → CField
 towC s block = tellsField (λ t. towOf t block) (stateOf s)

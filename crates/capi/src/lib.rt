@@ -7,6 +7,7 @@ use cform::CState;
 
 pub mod replies; // replies.rt: Open, Feed, Finish, Stage, Withdraw
 pub mod fields; // fields.rt: a body field, a sub-block's field, TOW, WNc
+pub mod levels; // levels.rt: a second-level field, and pseudoranges
 pub mod parts; // parts.rt: Bytes, and the bytes of a sub-block
 pub mod blocks; // blocks.rt: Write
 

@@ -16,6 +16,7 @@ use Rattle.reader.specs.declared.Phase.the-variants.{Closed, Feeding, Finishing
 use Rattle.reader.specs.declared.State.{State}
 use Rattle.runs.specs.Refusals.{bytesRefusal}
 use Rattle.runs.specs.Calls.{feedOf, finishOf, bytesOf}
+use Rattle.epochs.specs.Calls.{sub2Of, rangeOf, range2Of}
 use Rattle.records.specs.Calls.{tableInForce, askRefusal, firstOf, placeUnless, subBytesOf, subPlaceOf, subBytesRefusal}
 use Rattle.reader.specs.Outcome.{Outcome, partUnless}
 use Rattle.tables.specs.Calls.{openOf, stageOf, withdrawOf}
@@ -32,8 +33,8 @@ use Rattle.cform.specs.Draft.{writtenC}
 use Rattle.cform.specs.Theorems.{answerBack, fieldBack, writtenBack}
 use Rattle.cform.proofs.Phases.{closed-of, feeding-of, finishing-of, none-over}
 use Rattle.cform.proofs.Back.{nothing-lost}
-use Rattle.capi.specs.Calls.{Left, Handing, goesOn, openC, feedC, finishC, stageC, withdrawC, tellsField, bodyC, subC, towC, wncC, hands, cut, bytesC, subBytesC, Making, tellsWritten, writeC}
-use Rattle.demands.specs.World.{World, stage, withdraw, Look, bytes, body, sub, subBytes, tow, wnc, write, Call, openRun, feed, finish, table, look, Reply, said, part, value, penned, writeRefusal, told, partOf, looked, Step, step, end, Line, _⇒_, trace}
+use Rattle.capi.specs.Calls.{Left, Handing, goesOn, openC, feedC, finishC, stageC, withdrawC, tellsField, bodyC, subC, sub2C, rangeC, range2C, towC, wncC, hands, cut, bytesC, subBytesC, Making, tellsWritten, writeC}
+use Rattle.demands.specs.World.{World, stage, withdraw, Look, bytes, body, sub, subBytes, sub2, range, range2, tow, wnc, write, Call, openRun, feed, finish, table, look, Reply, said, part, value, penned, writeRefusal, told, partOf, looked, Step, step, end, Line, _⇒_, trace}
 use Rattle.demands.specs.Refusals.{Order, Given, order}
 use Rattle.demands.specs.Demand1.{Demand1}
 use Rattle.demands.proofs.Listed.{nothing-there}
@@ -155,7 +156,7 @@ makes-it call buffer s h =
     ∙ ap (λ (a : WriteSaid). writeOutcome a (call s .buffer)) (write-back (call s .said) h)
 
 looks : (l : Look) (w : World) → replyBack (look l) (worldC w) (lookedC l (worldC w)) ≡ looked l w
-unfolding bytesC bodyC subC subBytesC towC wncC writeC
+unfolding bytesC bodyC subC subBytesC sub2C rangeC range2C towC wncC writeC
 looks bytes w =
     ap (λ (h : Handing). part (refusalBack (h .part .refusal)) (cut (h .part) (w .hold))) (hands-it (λ t. bytesRefusal t (w .hold)) (λ t. 0) (λ t. bytesOf t (w .hold)) (w .state))
     ∙ ap₂ part (part-back (bytesRefusal (w .state) (w .hold)) _ _ (bytes-over w)) (bytes-cut (w .state) (w .hold))
@@ -164,6 +165,9 @@ looks (sub b k j) w = ap value (tells-it (λ t. subOf t (w .force) b k j) (w .st
 looks (subBytes b k) w =
     ap (λ (h : Handing). part (refusalBack (h .part .refusal)) (cut (h .part) b)) (hands-it (λ t. subBytesRefusal t (w .force) b k) (λ t. subPlaceOf t (w .force) b k .at) (λ t. subBytesOf t (w .force) b k) (w .state))
     ∙ ap₂ part (part-back (subBytesRefusal (w .state) (w .force) b k) _ _ (sub-over w b k)) (sub-cut (w .state) (w .force) b k)
+looks (sub2 b k m j) w = ap value (tells-it (λ t. sub2Of t (w .force) b k m j) (w .state))
+looks (range b k) w = ap value (tells-it (λ t. rangeOf t (w .force) b k) (w .state))
+looks (range2 b k m) w = ap value (tells-it (λ t. range2Of t (w .force) b k m) (w .state))
 looks (tow b) w = ap value (tells-it (λ t. towOf t b) (w .state))
 looks (wnc b) w = ap value (tells-it (λ t. wncOf t b) (w .state))
 looks (write d buffer) w = ap penned (makes-it (λ t. writeOf t (w .force) d buffer) buffer (w .state) (write-over w d buffer))
@@ -215,11 +219,14 @@ same i c w = same-step c w i
 -- ---- a state that is made up
 
 unknown-look : (l : Look) (w : CWorld) → stateOf (w .state) ≡ none → told (replyBack (look l) w (lookedC l w)) .refusal ≡ some 1
-unfolding bytesC bodyC subC subBytesC towC wncC writeC
+unfolding bytesC bodyC subC subBytesC sub2C rangeC range2C towC wncC writeC
 unknown-look bytes w e = rw e
 unknown-look (body b i) w e = rw e
 unknown-look (sub b k j) w e = rw e
 unknown-look (subBytes b k) w e = rw e
+unknown-look (sub2 b k m j) w e = rw e
+unknown-look (range b k) w e = rw e
+unknown-look (range2 b k m) w e = rw e
 unknown-look (tow b) w e = rw e
 unknown-look (wnc b) w e = rw e
 unknown-look (write d buffer) w e = rw e
@@ -239,6 +246,9 @@ empty-look bytes w e = rw e
 empty-look (body b i) w e = refl
 empty-look (sub b k j) w e = refl
 empty-look (subBytes b k) w e = rw e
+empty-look (sub2 b k m j) w e = refl
+empty-look (range b k) w e = refl
+empty-look (range2 b k m) w e = refl
 empty-look (tow b) w e = refl
 empty-look (wnc b) w e = refl
 empty-look (write d buffer) w e = refl

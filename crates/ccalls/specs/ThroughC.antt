@@ -18,8 +18,8 @@ use Rattle.cform.specs.declared.CPart.{CPart}
 use Rattle.cform.specs.declared.CState.{CState}
 use Rattle.cform.specs.State.{stateOf, stateC}
 use Rattle.cform.specs.Theorems.{answerBack, fieldBack, writtenBack}
-use Rattle.capi.specs.Calls.{Left, openC, feedC, finishC, stageC, withdrawC, bodyC, subC, towC, wncC, cut, bytesC, subBytesC, Making, writeC}
-use Rattle.demands.specs.World.{World, TableCall, stage, withdraw, Look, bytes, body, sub, subBytes, tow, wnc, write, Call, openRun, feed, finish, table, look, Reply, said, part, value, penned, told, partOf, Step, step, end, Line, _⇒_, trace}
+use Rattle.capi.specs.Calls.{Left, openC, feedC, finishC, stageC, withdrawC, bodyC, subC, sub2C, rangeC, range2C, towC, wncC, cut, bytesC, subBytesC, Making, writeC}
+use Rattle.demands.specs.World.{World, TableCall, stage, withdraw, Look, bytes, body, sub, subBytes, sub2, range, range2, tow, wnc, write, Call, openRun, feed, finish, table, look, Reply, said, part, value, penned, told, partOf, Step, step, end, Line, _⇒_, trace}
 
 -- the state as C has it, and the three buffers
 pub record CWorld : Type 0 where
@@ -55,6 +55,9 @@ lookedC bytes w = cPart (bytesC (w .state) (w .hold) .part)
 lookedC (body b i) w = cField (bodyC (w .state) (w .force) b i)
 lookedC (sub b k j) w = cField (subC (w .state) (w .force) b k j)
 lookedC (subBytes b k) w = cPart (subBytesC (w .state) (w .force) b k .part)
+lookedC (sub2 b k m j) w = cField (sub2C (w .state) (w .force) b k m j)
+lookedC (range b k) w = cField (rangeC (w .state) (w .force) b k)
+lookedC (range2 b k m) w = cField (range2C (w .state) (w .force) b k m)
 lookedC (tow b) w = cField (towC (w .state) b)
 lookedC (wnc b) w = cField (wncC (w .state) b)
 lookedC (write d buffer) w = cMade (writeC (w .state) (w .force) d buffer)
@@ -87,6 +90,9 @@ lookedIn bytes w = w .hold
 lookedIn (body b i) w = []
 lookedIn (sub b k j) w = []
 lookedIn (subBytes b k) w = b
+lookedIn (sub2 b k m j) w = []
+lookedIn (range b k) w = []
+lookedIn (range2 b k m) w = []
 lookedIn (tow b) w = []
 lookedIn (wnc b) w = []
 lookedIn (write d buffer) w = []

@@ -11,21 +11,26 @@ use lib.Dec.{ltb}
 use Rattle.frame.specs.Frame.{wholeFrame}
 use Rattle.wire.proofs.Tests.{never}
 use Rattle.rows.specs.declared.FieldRow.{FieldRow}
-use Rattle.table.specs.Rows.{BlockRow}
+use Rattle.table.specs.Rows.{BlockRow, firstRows, secondRows}
 use Rattle.table.specs.Decode.{decode}
-use Rattle.table.specs.Rules.{tableOk}
+use Rattle.table.specs.Rules.{blockOk, tableOk}
 use Rattle.table.specs.Lookup.{findRow}
 use Rattle.block.specs.Block.{numberIn, bodyFits, subsFit, seenRow, seen, seenSub}
 use Rattle.record.specs.Calls.{bodyField, subField, subBlockRefusal, stamp}
 use Rattle.reader.specs.State.{sound}
 use Rattle.reader.specs.Refusals.{need, longStore}
 use Rattle.records.specs.Calls.{tableInForce, askRefusal, firstOf, bodyOf, subOf, subBytesRefusal, stampOf}
-use Rattle.demands.specs.World.{World, body, sub, subBytes, look, fieldRefusal}
-use Rattle.demands.specs.Refusals.{ShortStore, BadState, Breaks, OneFrame, blockNumber, RowOf, OfRow, NotInTable, BodyDoesNotFit, SubsDoNotFit, NoField, NoSubBlock, NoWholeFrame, _when_, Order, Exactly, recordOrder, stampOrder, order}
+use Rattle.epoch.specs.Second.{secondField}
+use Rattle.epoch.specs.Ranges.{rangeField, range2Field}
+use Rattle.epochs.specs.Calls.{sub2Of, rangeOf, range2Of}
+use Rattle.demands.specs.World.{World, body, sub, subBytes, sub2, range, range2, look, fieldRefusal}
+use Rattle.demands.specs.Refusals.{ShortStore, BadState, Breaks, OneFrame, blockNumber, RowOf, OfRow, NotInTable, BodyDoesNotFit, SubsDoNotFit, NoField, NoSubBlock, NoSecond, NoRange, NoRange2, NoWholeFrame, _when_, Order, Exactly, recordOrder, stampOrder, order}
 use Rattle.demands.proofs.Exact.{Tells, exactly-none, both, within, bad-state, store-tells, some-tells, table-tells}
 use Rattle.demands.proofs.Framed.{one-frame, frame-tells}
 use Rattle.demands.proofs.Numbers.{thenOf, body-row, sub-row, twin-row, seen-need, row-less, row-need, stamp-need, first-need, number-unless}
 use Rattle.demands.proofs.Fits.{of-length, row-there, row-none, only, of-row, seven-tells, eight-tells, field-tells, sub-tells}
+use Rattle.demands.proofs.Ruled.{rules-of}
+use Rattle.demands.proofs.Nested.{sub2-row, range-row, range2-row, sub2-tells, range-tells, range2-tells}
 
 -- ---- a row of tests, of which each may use those before it
 
@@ -53,13 +58,13 @@ last {c} m t = passed-by c m none t (λ _. exactly-none)
 abbrev nineOf : (BlockRow → Bool) → BlockRow → Option ℕ
 nineOf test r = need (test r) 9 none
 
-module _ (t b : List ℕ) (ok : tableOk t ≡ true) (test : BlockRow → Bool) (Nine : BlockRow → Type 0) (tells : (r : BlockRow) → Tells (test r) (Nine r)) where
+module _ (t b : List ℕ) (ok : tableOk t ≡ true) (test : BlockRow → Bool) (Nine : BlockRow → Type 0) (tells : (r : BlockRow) → blockOk r ≡ true → Tells (test r) (Nine r)) where
   fits-exact : (r : BlockRow) → OneFrame b → RowOf (decode t) (blockNumber b) r
       → Exactly (need (bodyFits b r) 7 (need (subsFit b r) 8 (nineOf test r))) (7 when BodyDoesNotFit (decode t) b ∷ 8 when SubsDoNotFit (decode t) b ∷ 9 when OfRow (decode t) (blockNumber b) Nine ∷ [])
   fits-exact r f h =
       let one : (q : BlockRow) → RowOf (decode t) (blockNumber b) q → q ≡ r = λ q k. only t (blockNumber b) ok q r k h in
       passed-by (bodyFits b r) 7 _ (seven-tells (decode t) b r h one f)
-      (λ _. passed-by (subsFit b r) 8 _ (eight-tells (decode t) b r h one f) (λ _. last 9 (of-row (decode t) (blockNumber b) r h one Nine (tells r))))
+      (λ _. passed-by (subsFit b r) 8 _ (eight-tells (decode t) b r h one f) (λ _. last 9 (of-row (decode t) (blockNumber b) r h one Nine (tells r (rules-of t ok (blockNumber b) r h)))))
 
   row-exact : OneFrame b → (o : Option BlockRow) → findRow (decode t) (numberIn b) ≡ o
       → Exactly (thenOf (seenRow b o) (nineOf test)) (6 when NotInTable (decode t) (blockNumber b) ∷ (7 when BodyDoesNotFit (decode t) b ∷ 8 when SubsDoNotFit (decode t) b ∷ 9 when OfRow (decode t) (blockNumber b) Nine ∷ []))
@@ -91,7 +96,7 @@ ask-exact w o x =
     (λ _. passed-by b 5 _ (some-tells (w .state .«in_force»)) (λ _. passed-by c 4 o (table-tells (tableInForce (w .state) (w .force))) x)))
 
 module _ (w : World) (b : List ℕ) where
-  record-exact : (test : BlockRow → Bool) (Nine : BlockRow → Type 0) → ((r : BlockRow) → Tells (test r) (Nine r))
+  record-exact : (test : BlockRow → Bool) (Nine : BlockRow → Type 0) → ((r : BlockRow) → blockOk r ≡ true → Tells (test r) (Nine r))
       → Exactly (firstOf (askRefusal (w .state) (w .force)) (thenOf (seen (decode (tableInForce (w .state) (w .force))) b) (nineOf test))) (recordOrder w b Nine)
   record-exact test Nine tells = ask-exact w _ (λ ok. seen-exact (tableInForce (w .state) (w .force)) b ok test Nine tells)
 
@@ -100,20 +105,41 @@ module _ (w : World) (b : List ℕ) where
   body-exact i =
       let ask = askRefusal (w .state) (w .force) in
       same (number-unless ask _ ∙ ap (firstOf ask) (body-row b i (seen (decode (tableInForce (w .state) (w .force))) b)))
-      (record-exact _ (λ (r : BlockRow). NoField (r .body) i) (λ r. field-tells (r .body) i))
+      (record-exact _ (λ (r : BlockRow). NoField (r .body) i) (λ r _. field-tells (r .body) i))
 
   pub sub-exact : (k j : ℕ) → Exactly (fieldRefusal (subOf (w .state) (w .force) b k j)) (order (look (sub b k j)) w)
   unfolding subOf subField seenSub
   sub-exact k j =
       let ask = askRefusal (w .state) (w .force) in
       same (number-unless ask _ ∙ ap (firstOf ask) (sub-row b k j (seen (decode (tableInForce (w .state) (w .force))) b)))
-      (record-exact _ (λ (r : BlockRow). NoSubBlock b k r ⊎ NoField (r .subs) j) (λ r. both (sub-tells b k r) (field-tells (r .subs) j)))
+      (record-exact _ (λ (r : BlockRow). NoSubBlock b k r ⊎ NoField (firstRows r) j) (λ r _. both (sub-tells b k r) (field-tells (firstRows r) j)))
 
   pub twin-exact : (k : ℕ) → Exactly (subBytesRefusal (w .state) (w .force) b k) (order (look (subBytes b k)) w)
   unfolding subBytesRefusal subBlockRefusal seenSub
   twin-exact k =
       same (ap (firstOf (askRefusal (w .state) (w .force))) (twin-row b k (seen (decode (tableInForce (w .state) (w .force))) b)))
-      (record-exact _ (NoSubBlock b k) (sub-tells b k))
+      (record-exact _ (NoSubBlock b k) (λ r _. sub-tells b k r))
+
+  pub sub2-exact : (k m j : ℕ) → Exactly (fieldRefusal (sub2Of (w .state) (w .force) b k m j)) (order (look (sub2 b k m j)) w)
+  unfolding sub2Of secondField seenSub
+  sub2-exact k m j =
+      let ask = askRefusal (w .state) (w .force) in
+      same (number-unless ask _ ∙ ap (firstOf ask) (sub2-row b k m j (seen (decode (tableInForce (w .state) (w .force))) b)))
+      (record-exact _ (λ (r : BlockRow). NoSecond b k m r ⊎ NoField (secondRows r) j) (sub2-tells b k m j))
+
+  pub range-exact : (k : ℕ) → Exactly (fieldRefusal (rangeOf (w .state) (w .force) b k)) (order (look (range b k)) w)
+  unfolding rangeOf rangeField seenSub
+  range-exact k =
+      let ask = askRefusal (w .state) (w .force) in
+      same (number-unless ask _ ∙ ap (firstOf ask) (range-row b k (seen (decode (tableInForce (w .state) (w .force))) b)))
+      (record-exact _ (NoRange b k) (range-tells b k))
+
+  pub range2-exact : (k m : ℕ) → Exactly (fieldRefusal (range2Of (w .state) (w .force) b k m)) (order (look (range2 b k m)) w)
+  unfolding range2Of range2Field seenSub
+  range2-exact k m =
+      let ask = askRefusal (w .state) (w .force) in
+      same (number-unless ask _ ∙ ap (firstOf ask) (range2-row b k m (seen (decode (tableInForce (w .state) (w .force))) b)))
+      (record-exact _ (NoRange2 b k m) (range2-tells b k m))
 
   -- TOW and WNc: 1, 10, 7
   pub stamp-exact : (f : FieldRow) → Exactly (fieldRefusal (stampOf f (w .state) b)) (stampOrder w b)

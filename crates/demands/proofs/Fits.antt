@@ -12,15 +12,17 @@ use lib.Dec.{leb, ltb, eqb}
 use borrow.Author.Tests.{leb-true, leb-false, ltb-true, ltb-false, eqb-true, eqb-false, not-true, not-false, eq-eqb}
 use Rattle.rows.specs.declared.FieldRow.{FieldRow}
 use Rattle.table.specs.Lists.{every, pick}
-use Rattle.table.specs.Rows.{BlockRow, Table, ends}
+use Rattle.table.specs.Rows.{BlockRow, Table, ends, firstRows, secondRows}
 use Rattle.table.specs.Decode.{decode}
 use Rattle.table.specs.Rules.{tableOk}
 use Rattle.table.specs.Lookup.{hasNumber, findRow}
 use Rattle.table.proofs.Laws.{one-row}
-use Rattle.block.specs.Block.{revisionIn, endsBy, bodyFits, subsFit, subCount}
-use Rattle.demands.specs.Refusals.{OneFrame, blockNumber, blockRevision, L, N, SBLength, RowOf, OfRow, EndsPast, NotInTable, BodyDoesNotFit, SubsDoNotFit, NoField, NoSubBlock}
-use Rattle.demands.proofs.Exact.{Tells, retell, both, within, orelse, empty-tells}
+use Rattle.walk.specs.Walk.{walkEnd}
+use Rattle.block.specs.Block.{revisionIn, endsBy, bodyFits, oneFits, walkOf, nestFits, subsFit, subCount}
+use Rattle.demands.specs.Refusals.{OneFrame, blockNumber, blockRevision, L, N, SBLength, SB2Length, RowOf, OfRow, EndsPast, NotInTable, BodyDoesNotFit, OneLevelDoesNotFit, startOf, TwoLevelsDoNotFit, SubsDoNotFit, NoField, NoSubBlock}
+use Rattle.demands.proofs.Exact.{Tells, retell, both, regroup, within, orelse, empty-tells}
 use Rattle.demands.proofs.Listed.{first-there, first-none, every-tells}
+use Rattle.demands.proofs.Walked.{ends-at, any-tells}
 
 -- ---- the row of a number
 
@@ -87,13 +89,39 @@ module _ (t : Table) (b : List ℕ) (r : BlockRow) (mine : RowOf t (blockNumber 
       (of-row t (blockNumber b) r mine one (λ (q : BlockRow). EndsPast (q .body) (blockRevision b) (L b))
       (of-length b frame (EndsPast (r .body) (blockRevision b)) (past-tells (r .body) (revisionIn b) (length b)))))
 
+  one-tells : Tells (oneFits b r) (OneLevelDoesNotFit b r)
+  unfolding oneFits
+  one-tells =
+      orelse (twice (eqb (length (r .subs)) 0) (empty-tells (length (r .subs))))
+      (both (orelse (empty-tells (N b)) (past-tells (r .subs) (revisionIn b) (SBLength b)))
+      (of-length b frame (λ (n : ℕ). n < 16 + N b * SBLength b) (within (16 + N b * SBLength b) (length b))))
+
+  walk-tells : Tells (leb (walkEnd 20 (walkOf r b)) (length b)) (length b < startOf r b (N b))
+  walk-tells = rw (ends-at r b) (within (startOf r b (N b)) (length b))
+
+  two-tells : Tells (nestFits b r) (TwoLevelsDoNotFit b r)
+  unfolding nestFits
+  two-tells =
+      regroup
+      (regroup
+      (both
+      (both
+      (both (of-length b frame (λ (n : ℕ). n < 20) (within 20 (length b))) (of-length b frame (λ (n : ℕ). n < startOf r b (N b)) walk-tells))
+      (orelse (empty-tells (N b)) (past-tells (firstRows r) (revisionIn b) (SBLength b))))
+      (orelse (any-tells r b) (past-tells (secondRows r) (revisionIn b) (SB2Length b)))))
+
+  levels-by : (c : Bool) → eqb (r .firsts) 0 ≡ c
+      → Tells (cond c (oneFits b r) (nestFits b r)) (((r .firsts ≡ 0) × OneLevelDoesNotFit b r) ⊎ ((0 < r .firsts) × TwoLevelsDoNotFit b r))
+  levels-by true e =
+      let z : r .firsts ≡ 0 = eqb-true (r .firsts) 0 e in
+      retell (λ p. inl (z, p)) (⊎-elim (λ p. p .1) (λ p. let f : ⊥ = omega (arith, z, p .0) in absurd f)) one-tells
+  levels-by false e =
+      let z : 0 < r .firsts = empty-tells (r .firsts) .holds e in
+      retell (λ p. inr (z, p)) (⊎-elim (λ p. let f : ⊥ = omega (arith, z, p .0) in absurd f) (λ p. p .1)) two-tells
+
   pub eight-tells : Tells (subsFit b r) (SubsDoNotFit t b)
   unfolding subsFit
-  eight-tells =
-      of-row t (blockNumber b) r mine one _
-      (orelse (twice (eqb (length (r .subs)) 0) (empty-tells (length (r .subs))))
-      (both (orelse (empty-tells (N b)) (past-tells (r .subs) (revisionIn b) (SBLength b)))
-      (of-length b frame (λ (n : ℕ). n < 16 + N b * SBLength b) (within (16 + N b * SBLength b) (length b)))))
+  eight-tells = of-row t (blockNumber b) r mine one _ (levels-by (eqb (r .firsts) 0) refl)
 
 pub field-tells : (fs : List FieldRow) (i : ℕ) → Tells (ltb i (length fs)) (NoField fs i)
 field-tells fs i = below i (length fs)

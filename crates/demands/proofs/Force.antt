@@ -15,8 +15,9 @@ use Rattle.table.specs.Decode.{decode}
 use Rattle.tables.specs.Calls.{nextTable, opening}
 use Rattle.feed.specs.Hold.{over}
 use Rattle.records.specs.Calls.{tableInForce, askRefusal, bodyOf, subOf, subBytesOf, subBytesRefusal, stampOf}
+use Rattle.epochs.specs.Calls.{sub2Of, rangeOf, range2Of}
 use Rattle.writes.specs.Calls.{writeOf}
-use Rattle.demands.specs.World.{World, TableCall, stage, withdraw, Look, bytes, body, sub, subBytes, tow, wnc, write, Call, openRun, feed, finish, table, look, Step, looked, step, end}
+use Rattle.demands.specs.World.{World, TableCall, stage, withdraw, Look, bytes, body, sub, subBytes, sub2, range, range2, tow, wnc, write, Call, openRun, feed, finish, table, look, Step, looked, step, end}
 use Rattle.demands.specs.Sequence.{NoEnd, Within, atOpen}
 use Rattle.demands.specs.Demand2.{ReadsBy}
 use Rattle.demands.specs.Demand3.{foundBy}
@@ -69,11 +70,14 @@ no-refusal t w g r =
     rw (good-sound w g, le-leb 8192 (length (w .force)) (r .long), lt-ltb 0 (w .state .«in_force») (r .some), r .is, r .ok) refl
 
 looked-by : (t : List ℕ) (l : Look) (w : World) → Good w → ReadBy t w → ReadsBy (decode t) l (looked l w)
-unfolding bodyOf subOf subBytesOf subBytesRefusal stampOf writeOf
+unfolding bodyOf subOf subBytesOf subBytesRefusal sub2Of rangeOf range2Of stampOf writeOf
 looked-by t bytes w g r = tt
 looked-by t (body b i) w g r = rw (no-refusal t w g r, r .is) refl
 looked-by t (sub b k j) w g r = rw (no-refusal t w g r, r .is) refl
 looked-by t (subBytes b k) w g r = rw (no-refusal t w g r, r .is) refl
+looked-by t (sub2 b k m j) w g r = rw (no-refusal t w g r, r .is) refl
+looked-by t (range b k) w g r = rw (no-refusal t w g r, r .is) refl
+looked-by t (range2 b k m) w g r = rw (no-refusal t w g r, r .is) refl
 looked-by t (tow b) w g r = rw (good-sound w g) refl
 looked-by t (wnc b) w g r = rw (good-sound w g) refl
 looked-by t (write d buffer) w g r = rw (no-refusal t w g r, r .is) refl

@@ -21,8 +21,10 @@ pub mod Deciding
 pub mod Framed
 pub mod Listed
 pub mod Numbers
+pub mod Walked
 pub mod Fits
 pub mod Ruled
+pub mod Nested
 pub mod Values
 pub mod Drafts
 pub mod Room

@@ -13,11 +13,11 @@ use lib.Dec.{ltb}
 use Rattle.wire.specs.Range.{Bytes}
 use Rattle.feed.specs.Hold.{over}
 use Rattle.runs.specs.Calls.{feedingOf, finishingOf}
-use Rattle.table.specs.Rows.{BlockRow}
+use Rattle.table.specs.Rows.{BlockRow, firstRows, secondRows}
 use Rattle.draft.specs.Draft.{Draft}
-use Rattle.demands.specs.World.{World, TableCall, stage, withdraw, bytes, body, sub, subBytes, tow, wnc, write, Call, openRun, feed, finish, table, look, told, Step, step, end}
+use Rattle.demands.specs.World.{World, TableCall, stage, withdraw, bytes, body, sub, subBytes, sub2, range, range2, tow, wnc, write, Call, openRun, feed, finish, table, look, told, Step, step, end}
 use Rattle.demands.specs.Sequence.{New, pieceOf, AllFed}
-use Rattle.demands.specs.Refusals.{ShortHold, ShortStore, BadState, NoField, NoSubBlock, Order, Given, recordOrder, stampOrder, writeOrder, order}
+use Rattle.demands.specs.Refusals.{ShortHold, ShortStore, BadState, NoField, NoSubBlock, NoSecond, NoRange, NoRange2, Order, Given, recordOrder, stampOrder, writeOrder, order}
 use Rattle.demands.specs.Demand1.{Long}
 use Rattle.demands.proofs.Exact.{bad-state}
 use Rattle.demands.proofs.Refusals.{exactly}
@@ -126,8 +126,11 @@ module _ (w : World) (g : Good w) (l : Long w) where
   not-one (table withdraw) = ((λ q p. no-bad w g p), tt)
   not-one (look bytes) = ((λ q p. with-hold p), tt)
   not-one (look (body b i)) = not-record b (λ r. NoField (r .body) i)
-  not-one (look (sub b k j)) = not-record b (λ r. NoSubBlock b k r ⊎ NoField (r .subs) j)
+  not-one (look (sub b k j)) = not-record b (λ r. NoSubBlock b k r ⊎ NoField (firstRows r) j)
   not-one (look (subBytes b k)) = not-record b (NoSubBlock b k)
+  not-one (look (sub2 b k m j)) = not-record b (λ r. NoSecond b k m r ⊎ NoField (secondRows r) j)
+  not-one (look (range b k)) = not-record b (NoRange b k)
+  not-one (look (range2 b k m)) = not-record b (NoRange2 b k m)
   not-one (look (tow b)) = not-stamp b
   not-one (look (wnc b)) = not-stamp b
   not-one (look (write d buffer)) = not-write d buffer

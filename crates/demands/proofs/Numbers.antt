@@ -12,7 +12,7 @@ use Rattle.frame.specs.Frame.{wholeFrame}
 use Rattle.rows.specs.declared.FieldRow.{FieldRow}
 use Rattle.table.specs.Lists.{pick}
 use Rattle.table.specs.Lookup.{carried, findRow}
-use Rattle.table.specs.Rows.{BlockRow, Table}
+use Rattle.table.specs.Rows.{BlockRow, Table, firstRows}
 use Rattle.record.specs.Answer.{FieldSaid, doNotUse, notInRevision, fieldRefused}
 use Rattle.kinds.specs.Marks.{isDoNotUse}
 use Rattle.value.specs.Bits.{readAs, valueOf, fieldValue}
@@ -40,7 +40,7 @@ read-none (suc (suc (suc (suc (suc (suc (suc (suc (suc zero))))))))) x = refl
 read-none (suc (suc (suc (suc (suc (suc (suc (suc (suc (suc zero)))))))))) x = refl
 read-none (suc (suc (suc (suc (suc (suc (suc (suc (suc (suc (suc k))))))))))) x = refl
 
-cond-none : (c : Bool) (a b : FieldSaid) → fieldRefusal a ≡ none → fieldRefusal b ≡ none → fieldRefusal (cond c a b) ≡ none
+pub cond-none : (c : Bool) (a b : FieldSaid) → fieldRefusal a ≡ none → fieldRefusal b ≡ none → fieldRefusal (cond c a b) ≡ none
 cond-none true a b e f = e
 cond-none false a b e f = f
 
@@ -77,12 +77,12 @@ two-nines : (c d : Bool) → need c 9 (need d 9 none) ≡ need (c && d) 9 none
 two-nines true d = refl
 two-nines false d = refl
 
-sub-by : (c : Bool) (b : List ℕ) (k j : ℕ) (r : BlockRow) → fieldRefusal (subBy b k j (cond c (row r) (refusedBy 9))) ≡ need (c && ltb j (length (r .subs))) 9 none
-sub-by true b k j r = nine (revisionIn b) (subSlice b (subSpan r b k)) (r .subs) j
+sub-by : (c : Bool) (b : List ℕ) (k j : ℕ) (r : BlockRow) → fieldRefusal (subBy b k j (cond c (row r) (refusedBy 9))) ≡ need (c && ltb j (length (firstRows r))) 9 none
+sub-by true b k j r = nine (revisionIn b) (subSlice b (subSpan r b k)) (firstRows r) j
 sub-by false b k j r = refl
 
 pub sub-row : (b : List ℕ) (k j : ℕ) (x : Seen)
-    → fieldRefusal (subBy b k j (seenSubRow b k x)) ≡ thenOf x (λ r. need (ltb k (subCount b r) && ltb j (length (r .subs))) 9 none)
+    → fieldRefusal (subBy b k j (seenSubRow b k x)) ≡ thenOf x (λ r. need (ltb k (subCount b r) && ltb j (length (firstRows r))) 9 none)
 unfolding seenSubRow
 sub-row b k j (refusedBy n) = refl
 sub-row b k j (row r) = sub-by (ltb k (subCount b r)) b k j r

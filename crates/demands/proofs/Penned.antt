@@ -1,12 +1,16 @@
 -- Write: the tests of the definitions, in R20's order, give the first condition that holds; refused, it leaves its buffer as it was, and
 -- else what stands behind the block.
 -- Assumes nothing.
-use Prim.Native.Nat.{ℕ}
+use Prim.Native.Nat.{ℕ, _<_}
+use native.Mathlib.Omega.{arith}
 use mathlib.Core.Path.{_≡_, refl, ap, subst}
 use mathlib.Core.Bool.{Bool, true, false, cond}
 use mathlib.Core.List.{List, [], _∷_}
+use mathlib.Core.Logic.{_⊎_, inl, inr, ⊎-elim}
 use mathlib.Core.Option.{Option, none, some}
 use lib.ListN.{length, drop}
+use lib.Dec.{eqb}
+use borrow.Author.Tests.{eqb-true}
 use Rattle.wire.proofs.Tests.{never}
 use Rattle.copy.specs.Over.{over}
 use Rattle.table.specs.Rows.{BlockRow}
@@ -19,10 +23,11 @@ use Rattle.records.proofs.Asking.{asked}
 use Rattle.draft.specs.Draft.{Draft, draftOk, blockLength, roomFor}
 use Rattle.draft.proofs.Admitted.{admitted, roomy}
 use Rattle.writer.specs.Block.{blockBytes}
-use Rattle.writer.specs.Write.{wrote, WriteOutcome, writeOutcome, refusesWrite, writtenBy, writtenOf}
+use Rattle.writer.specs.Write.{wrote, WriteOutcome, writeOutcome, refusesWrite, writtenBy, writableRow, writtenOf}
 use Rattle.writes.specs.Calls.{writtenUnless, writeOf}
 use Rattle.demands.specs.World.{World, write, look, writeRefusal, writeLength, told, step}
 use Rattle.demands.specs.Refusals.{RowOf, OfRow, NotInTable, CannotStand, HasNoRoom, _when_, Exactly, order}
+use Rattle.demands.proofs.Exact.{empty-tells}
 use Rattle.demands.proofs.Listed.{nothing-there}
 use Rattle.demands.proofs.Fits.{row-there, row-none, only, of-row}
 use Rattle.demands.proofs.Asked.{same, passed-by, last, ask-exact}
@@ -45,41 +50,72 @@ row-need r d buffer = by (draftOk r d) (roomFor r d (length buffer)) where
   by false b = refl
 
 module _ (t : List ℕ) (ok : tableOk t ≡ true) (d : Draft) (buffer : List ℕ) where
+  abbrev NotWritten : Type 0
+  NotWritten = NotInTable (decode t) (d .number) ⊎ OfRow (decode t) (d .number) (λ r. 0 < r .firsts)
+
+  -- R6: by a row of one level Write writes, and by one of two levels not
+  one-exact : (r : BlockRow) → RowOf (decode t) (d .number) r → (c : Bool) → eqb (r .firsts) 0 ≡ c
+      → Exactly (writeRefusal (writtenBy (cond c (some r) none) d buffer .said))
+      (6 when NotWritten
+      ∷ 11 when OfRow (decode t) (d .number) (λ r. CannotStand r d)
+      ∷ 12 when OfRow (decode t) (d .number) (λ r. HasNoRoom (length buffer) r d)
+      ∷ [])
+  unfolding writtenBy
+  one-exact r h true f =
+      let one : (q : BlockRow) → RowOf (decode t) (d .number) q → q ≡ r = λ q k. only t (d .number) ok q r k h in
+      let level : r .firsts ≡ 0 = eqb-true (r .firsts) 0 f in
+      let right = ruled t ok (d .number) r h level in
+      let fine : NotWritten → ⊥ =
+      ⊎-elim (λ g. g r h)
+      (λ g. let e : g .0 .firsts ≡ r .firsts = ap (λ (x : BlockRow). x .firsts) (one (g .0) (g .1 .0)) in omega (arith, e, level, g .1 .1)) in
+      same (row-need r d buffer)
+      (passed-by true 6 _ (record { fine = λ _ g. fine g; holds = λ z. never refl z })
+      (λ _. passed-by (draftOk r d) 11 _ (of-row (decode t) (d .number) r h one (λ q. CannotStand q d) (stand-tells r d right))
+      (λ a. last 12 (of-row (decode t) (d .number) r h one (λ q. HasNoRoom (length buffer) q d) (room-tells r d right (admitted r d a) (length buffer))))))
+  one-exact r h false f =
+      let level : 0 < r .firsts = empty-tells (r .firsts) .holds f in
+      passed-by false 6 none (record { fine = λ z. never z refl; holds = λ _. inr (r, (h, level)) }) (λ z. never z refl)
+
   row-exact : (o : Option BlockRow) → findRow (decode t) (d .number) ≡ o
-      → Exactly (writeRefusal (writtenBy o d buffer .said))
-      (6 when NotInTable (decode t) (d .number)
+      → Exactly (writeRefusal (writtenBy (writableRow o) d buffer .said))
+      (6 when NotWritten
       ∷ 11 when OfRow (decode t) (d .number) (λ r. CannotStand r d)
       ∷ 12 when OfRow (decode t) (d .number) (λ r. HasNoRoom (length buffer) r d)
       ∷ [])
   unfolding writtenBy
   row-exact none e =
-      passed-by false 6 none (record { fine = λ z. never z refl; holds = λ _. row-none (decode t) (d .number) e }) (λ z. never z refl)
-  row-exact (some r) e =
-      let h = row-there (decode t) (d .number) e in
-      let one : (q : BlockRow) → RowOf (decode t) (d .number) q → q ≡ r = λ q k. only t (d .number) ok q r k h in
-      let right = ruled t ok (d .number) r h in
-      same (row-need r d buffer)
-      (passed-by true 6 _ (record { fine = λ _ g. g r h; holds = λ z. never refl z })
-      (λ _. passed-by (draftOk r d) 11 _ (of-row (decode t) (d .number) r h one (λ q. CannotStand q d) (stand-tells r d right))
-      (λ f. last 12 (of-row (decode t) (d .number) r h one (λ q. HasNoRoom (length buffer) q d) (room-tells r d right (admitted r d f) (length buffer))))))
+      passed-by false 6 none (record { fine = λ z. never z refl; holds = λ _. inl (row-none (decode t) (d .number) e) }) (λ z. never z refl)
+  row-exact (some r) e = one-exact r (row-there (decode t) (d .number) e) (eqb (r .firsts) 0) refl
 
   -- what stands behind an accepted block
-  behind-by : (o : Option BlockRow) → findRow (decode t) (d .number) ≡ o → (n : ℕ) → writeLength (writtenBy o d buffer .said) ≡ some n
-      → (drop n (writtenBy o d buffer .buffer) ≡ drop n buffer) × (length (writtenBy o d buffer .buffer) ≡ length buffer)
+  behind-row : (r : BlockRow) → RowOf (decode t) (d .number) r → r .firsts ≡ 0 → (n : ℕ) → writeLength (writtenBy (some r) d buffer .said) ≡ some n
+      → (drop n (writtenBy (some r) d buffer .buffer) ≡ drop n buffer) × (length (writtenBy (some r) d buffer .buffer) ≡ length buffer)
   unfolding writtenBy
-  behind-by none e n w = nothing-there w
-  behind-by (some r) e n w = by (draftOk r d) refl (roomFor r d (length buffer)) refl w where
+  behind-row r e level n w = by (draftOk r d) refl (roomFor r d (length buffer)) refl w where
     by : (a : Bool) → draftOk r d ≡ a → (b : Bool) → roomFor r d (length buffer) ≡ b
         → writeLength (cond a (cond b (writeOutcome (wrote (blockLength r d)) (over (blockBytes r d) buffer)) (refusesWrite 12 buffer)) (refusesWrite 11 buffer) .said) ≡ some n
         → let x = cond a (cond b (writeOutcome (wrote (blockLength r d)) (over (blockBytes r d) buffer)) (refusesWrite 12 buffer)) (refusesWrite 11 buffer) in
         (drop n (x .buffer) ≡ drop n buffer) × (length (x .buffer) ≡ length buffer)
     by true f true g h =
-        let right = ruled t ok (d .number) r (row-there (decode t) (d .number) e) in
+        let right = ruled t ok (d .number) r e level in
         let q : blockLength r d ≡ n = cc in
         subst (λ (k : ℕ). (drop k (over (blockBytes r d) buffer) ≡ drop k buffer) × (length (over (blockBytes r d) buffer) ≡ length buffer)) q
         (behind r d right buffer, as-long r d right buffer (roomy r d (length buffer) g .buffer))
     by true f false g h = nothing-there h
     by false f b g h = nothing-there h
+
+  behind-one : (r : BlockRow) → RowOf (decode t) (d .number) r → (c : Bool) → eqb (r .firsts) 0 ≡ c → (n : ℕ)
+      → writeLength (writtenBy (cond c (some r) none) d buffer .said) ≡ some n
+      → (drop n (writtenBy (cond c (some r) none) d buffer .buffer) ≡ drop n buffer) × (length (writtenBy (cond c (some r) none) d buffer .buffer) ≡ length buffer)
+  unfolding writtenBy
+  behind-one r h true f n w = behind-row r h (eqb-true (r .firsts) 0 f) n w
+  behind-one r h false f n w = nothing-there w
+
+  behind-by : (o : Option BlockRow) → findRow (decode t) (d .number) ≡ o → (n : ℕ) → writeLength (writtenBy (writableRow o) d buffer .said) ≡ some n
+      → (drop n (writtenBy (writableRow o) d buffer .buffer) ≡ drop n buffer) × (length (writtenBy (writableRow o) d buffer .buffer) ≡ length buffer)
+  unfolding writtenBy
+  behind-by none e n w = nothing-there w
+  behind-by (some r) e n w = behind-one r (row-there (decode t) (d .number) e) (eqb (r .firsts) 0) refl n w
 
 -- ---- 1, 5, 4, and then these
 
@@ -116,7 +152,7 @@ pub unwritten : (d : Draft) (buffer : List ℕ) (w : World) (n : ℕ) → told (
     → told (step (look (write d buffer)) w .answer) .buffer ≡ some buffer
 unfolding step writeOf writtenOf
 unwritten d buffer w n e =
-    ap some (unless-keeps (askRefusal (w .state) (w .force)) buffer _ n (kept-by (findRow (decode (tableInForce (w .state) (w .force))) (d .number)) d buffer n) e)
+    ap some (unless-keeps (askRefusal (w .state) (w .force)) buffer _ n (kept-by (writableRow (findRow (decode (tableInForce (w .state) (w .force))) (d .number))) d buffer n) e)
 
 -- a call that wrote was not refused with 1, 5 or 4
 behind-unless : (o : Option ℕ) (buffer after : List ℕ) (x : WriteOutcome) (n : ℕ)

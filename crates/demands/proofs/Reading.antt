@@ -23,7 +23,7 @@ use Rattle.reader.specs.declared.Phase.{Phase}
 use Rattle.reader.specs.declared.Counts.{Counts}
 use Rattle.reader.proofs.Laws.{passes, with-hold}
 use Rattle.feed.specs.Hold.{restOf}
-use Rattle.demands.specs.World.{World, TableCall, stage, withdraw, Look, bytes, body, sub, subBytes, tow, wnc, write, Call, openRun, feed, finish, table, look, Reply, said, told, Step, looked, step, end}
+use Rattle.demands.specs.World.{World, TableCall, stage, withdraw, Look, bytes, body, sub, subBytes, sub2, range, range2, tow, wnc, write, Call, openRun, feed, finish, table, look, Reply, said, told, Step, looked, step, end}
 use Rattle.demands.specs.Sequence.{pieceOf, AllFed, NoEnd, Within, Closes, atOpen, tookOf, inHold, shown, taken, blocks, shownBlocks}
 use Rattle.demands.specs.Demand2.{MayFollow, ReadSoFar}
 use Rattle.demands.specs.Demand3.{countsOf, RunOf}
@@ -51,6 +51,9 @@ look-reads bytes w r = nil r
 look-reads (body x i) w r = nil r
 look-reads (sub x k j) w r = nil r
 look-reads (subBytes x k) w r = nil r
+look-reads (sub2 x k m j) w r = nil r
+look-reads (range x k) w r = nil r
+look-reads (range2 x k m) w r = nil r
 look-reads (tow x) w r = nil r
 look-reads (wnc x) w r = nil r
 look-reads (write d x) w r = nil r
@@ -183,6 +186,9 @@ shown-look bytes w = refl
 shown-look (body x i) w = refl
 shown-look (sub x k j) w = refl
 shown-look (subBytes x k) w = refl
+shown-look (sub2 x k m j) w = refl
+shown-look (range x k) w = refl
+shown-look (range2 x k m) w = refl
 shown-look (tow x) w = refl
 shown-look (wnc x) w = refl
 shown-look (write d x) w = refl

@@ -7,10 +7,10 @@ use mathlib.Core.Option.{Option, none, some}
 use Rattle.record.specs.Calls.{towRow, wncRow}
 use Rattle.runs.specs.Calls.{finishingOf, finishingBy, finishSaid}
 use Rattle.reader.specs.declared.Run.{Run}
-use Rattle.demands.specs.World.{World, TableCall, stage, withdraw, bytes, body, sub, subBytes, tow, wnc, write, Call, openRun, feed, finish, table, look, said, told, Step, step}
+use Rattle.demands.specs.World.{World, TableCall, stage, withdraw, bytes, body, sub, subBytes, sub2, range, range2, tow, wnc, write, Call, openRun, feed, finish, table, look, said, told, Step, step}
 use Rattle.demands.specs.Refusals.{Exactly, order}
 use Rattle.demands.proofs.Exact.{open-exact, feed-exact, finish-exact, bytes-exact, withdraw-exact, stage-exact}
-use Rattle.demands.proofs.Asked.{same, body-exact, sub-exact, twin-exact, stamp-exact}
+use Rattle.demands.proofs.Asked.{same, body-exact, sub-exact, twin-exact, sub2-exact, range-exact, range2-exact, stamp-exact}
 use Rattle.demands.proofs.Penned.{write-exact}
 use Rattle.demands.proofs.Steps.{refusal, done, tableDone, unlessRefused, by-refusal}
 
@@ -48,6 +48,9 @@ exactly (look bytes) w = bytes-exact w
 exactly (look (body b i)) w = body-exact w b i
 exactly (look (sub b k j)) w = sub-exact w b k j
 exactly (look (subBytes b k)) w = twin-exact w b k
+exactly (look (sub2 b k m j)) w = sub2-exact w b k m j
+exactly (look (range b k)) w = range-exact w b k
+exactly (look (range2 b k m)) w = range2-exact w b k m
 exactly (look (tow b)) w = stamp-exact w b towRow
 exactly (look (wnc b)) w = stamp-exact w b wncRow
 exactly (look (write d buffer)) w = write-exact w d buffer

@@ -6,7 +6,7 @@ use mathlib.Core.List.{[]}
 use mathlib.Core.Option.{Option, none, some}
 use Rattle.runs.proofs.Emptying.{bytes-empty}
 use Rattle.records.proofs.Asking.{sub-bytes-empty}
-use Rattle.demands.specs.World.{World, Look, bytes, body, sub, subBytes, tow, wnc, write, Call, openRun, feed, finish, table, look, told, partOf, Step, looked}
+use Rattle.demands.specs.World.{World, Look, bytes, body, sub, subBytes, sub2, range, range2, tow, wnc, write, Call, openRun, feed, finish, table, look, told, partOf, Step, looked}
 use Rattle.demands.specs.Demand1.{Demand1}
 use Rattle.demands.proofs.Listed.{nothing-there}
 use Rattle.demands.proofs.Steps.{How, isnt, is, how, done}
@@ -38,6 +38,9 @@ look-empty bytes w n e = bytes-empty (w .state) (w .hold) n e
 look-empty (body b i) w n e = refl
 look-empty (sub b k j) w n e = refl
 look-empty (subBytes b k) w n e = sub-bytes-empty (w .state) (w .force) b k n e
+look-empty (sub2 b k m j) w n e = refl
+look-empty (range b k) w n e = refl
+look-empty (range2 b k m) w n e = refl
 look-empty (tow b) w n e = refl
 look-empty (wnc b) w n e = refl
 look-empty (write d buffer) w n e = refl

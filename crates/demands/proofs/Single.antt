@@ -5,7 +5,7 @@ use mathlib.Core.List.{List}
 use mathlib.Core.Option.{Option}
 use Prim.Native.Nat.{ℕ}
 use Rattle.wire.specs.Parts.{offsetBy}
-use Rattle.block.specs.declared.Span.{Span}
+use Rattle.walk.specs.declared.Span.{Span}
 use Rattle.record.specs.Answer.{FieldSaid}
 use Rattle.answers.proofs.Theorems.{one-answer}
 use Rattle.reader.specs.Said.{Said}
@@ -15,6 +15,7 @@ use Rattle.reader.specs.Outcome.{Outcome, outcome}
 use Rattle.tables.specs.Calls.{openOf, stageOf, withdrawOf}
 use Rattle.runs.specs.Calls.{feedOf, finishOf, bytesOf}
 use Rattle.records.specs.Calls.{bodyOf, subOf, subBytesOf, subBytesRefusal, subPlaceOf, towOf, wncOf}
+use Rattle.epochs.specs.Calls.{sub2Of, rangeOf, range2Of}
 use Rattle.writer.specs.Write.{WriteOutcome, writeOutcome, writtenSays}
 use Rattle.writes.specs.Calls.{writeOf}
 use Rattle.demands.specs.One.{One, OnePart, OnePlace, OneField, OneWrite, OneOutcome}
@@ -57,6 +58,9 @@ one =
       sub-bytes = λ s force b p k. one-part (subBytesOf s force b k) (offsetBy p (subPlaceOf s force b k .at));
       sub-bytes-refused = λ s force b k x y p q. one-answer .handed x y (p ∙ sym q);
       sub-places = λ s force b k. one-place (subBytesRefusal s force b k) (subPlaceOf s force b k);
+      sub2s = λ s force b k m j. one-field (sub2Of s force b k m j);
+      ranges = λ s force b k. one-field (rangeOf s force b k);
+      range2s = λ s force b k m. one-field (range2Of s force b k m);
       tows = λ s b. one-field (towOf s b);
       wncs = λ s b. one-field (wncOf s b);
       writes = λ s force d buffer. one-write (writeOf s force d buffer);

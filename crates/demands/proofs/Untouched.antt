@@ -13,9 +13,10 @@ use Rattle.tables.specs.Calls.{openRefusal, stageRefusal, withdrawRefusal}
 use Rattle.runs.specs.Refusals.{feedRefusal, finishRefusal, bytesRefusal}
 use Rattle.runs.specs.Calls.{feedingOf, finishingOf, bytesOf}
 use Rattle.records.specs.Calls.{askRefusal, bodyOf, subOf, subBytesOf, subBytesRefusal, stampOf}
+use Rattle.epochs.specs.Calls.{sub2Of, rangeOf, range2Of}
 use Rattle.tables.proofs.Accepted.{stage-passed}
 use Rattle.writes.specs.Calls.{writeOf}
-use Rattle.demands.specs.World.{World, TableCall, stage, withdraw, Look, bytes, body, sub, subBytes, tow, wnc, write, Call, openRun, feed, finish, table, look, Reply, Step, looked, step, end}
+use Rattle.demands.specs.World.{World, TableCall, stage, withdraw, Look, bytes, body, sub, subBytes, sub2, range, range2, tow, wnc, write, Call, openRun, feed, finish, table, look, Reply, Step, looked, step, end}
 use Rattle.demands.specs.Demand3.{isTable}
 use Rattle.demands.proofs.Steps.{How, isnt, is, how, refusal, tableRefusals, done, tableDone, unlessRefused, by-refusal, clash}
 use Rattle.demands.proofs.Reached.{Good, good-sound}
@@ -96,11 +97,14 @@ base-by t w p (is e) = base-done t w p
 -- ---- another call, while a run is open, does not look at the waiting place, and leaves it
 
 look-apart : (l : Look) (w : World) (p : Waiting) → Good w → p .size ≤ 8192 → looked l (with w p) ≡ looked l w
-unfolding bytesRefusal bytesOf askRefusal bodyOf subOf subBytesOf subBytesRefusal stampOf writeOf
+unfolding bytesRefusal bytesOf askRefusal bodyOf subOf subBytesOf subBytesRefusal sub2Of rangeOf range2Of stampOf writeOf
 look-apart bytes w p g l = rw (sound-with w p g l) refl
 look-apart (body b i) w p g l = rw (sound-with w p g l) refl
 look-apart (sub b k j) w p g l = rw (sound-with w p g l) refl
 look-apart (subBytes b k) w p g l = rw (sound-with w p g l) refl
+look-apart (sub2 b k m j) w p g l = rw (sound-with w p g l) refl
+look-apart (range b k) w p g l = rw (sound-with w p g l) refl
+look-apart (range2 b k m) w p g l = rw (sound-with w p g l) refl
 look-apart (tow b) w p g l = rw (sound-with w p g l) refl
 look-apart (wnc b) w p g l = rw (sound-with w p g l) refl
 look-apart (write d buffer) w p g l = rw (sound-with w p g l) refl

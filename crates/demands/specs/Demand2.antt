@@ -12,12 +12,14 @@ use Rattle.frame.specs.declared.Verdict.the-variants.{Undecided}
 use Rattle.table.specs.Decode.{decode}
 use Rattle.table.specs.Rows.{Table}
 use Rattle.record.specs.Calls.{bodyField, subField, subBlock, subBlockRefusal, towRow, wncRow, stamp}
+use Rattle.epoch.specs.Second.{secondField}
+use Rattle.epoch.specs.Ranges.{rangeField, range2Field}
 use Rattle.reader.specs.Said.{took}
 use Rattle.records.specs.Calls.{tableInForce}
 use Rattle.writer.specs.Write.{writtenOf}
 use Rattle.reader.specs.declared.Phase.{Phase}
 use Rattle.reader.specs.declared.Phase.the-variants.{Closed, Feeding, Finishing}
-use Rattle.demands.specs.World.{World, Look, bytes, body, sub, subBytes, tow, wnc, write, Call, feed, look, Reply, said, part, value, penned, step, end}
+use Rattle.demands.specs.World.{World, Look, bytes, body, sub, subBytes, sub2, range, range2, tow, wnc, write, Call, feed, look, Reply, said, part, value, penned, step, end}
 use Rattle.demands.specs.Sequence.{Within, atOpen, taken, blocks}
 
 -- C8: the bytes that the run may yet take: none from its first Finish on
@@ -42,12 +44,15 @@ pub record ReadSoFar (w : World) (mid : List Call) : Type 0 where
   pub took : end mid w .state .run .counts .taken ≡ length (taken mid w)
   pub counted : end mid w .state .run .counts .blocks ≡ length (blocks mid w)
 
--- C13, W1: the answer of a record call is the one under this table, and Write writes by it; of Bytes nothing is asked
+-- C13, C16, W1: the answer of a record call is the one under this table, and Write writes by it; of Bytes nothing is asked
 abbrev pub ReadsBy : Table → Look → Reply → Type 0
 ReadsBy tab bytes a = Unit {0}
 ReadsBy tab (body b i) a = a ≡ value (bodyField tab b i)
 ReadsBy tab (sub b k j) a = a ≡ value (subField tab b k j)
 ReadsBy tab (subBytes b k) a = a ≡ part (subBlockRefusal tab b k) (subBlock tab b k)
+ReadsBy tab (sub2 b k m j) a = a ≡ value (secondField tab b k m j)
+ReadsBy tab (range b k) a = a ≡ value (rangeField tab b k)
+ReadsBy tab (range2 b k m) a = a ≡ value (range2Field tab b k m)
 ReadsBy tab (tow b) a = a ≡ value (stamp towRow b)
 ReadsBy tab (wnc b) a = a ≡ value (stamp wncRow b)
 ReadsBy tab (write d buffer) a = a ≡ penned (writtenOf tab d buffer)

@@ -11,7 +11,7 @@ use Rattle.record.specs.Answer.{FieldSaid, Answers, handedSays}
 use Rattle.record.specs.declared.Answer.{Answer}
 use Rattle.record.specs.declared.Handed.{Handed}
 use Rattle.record.specs.declared.Placed.{Placed}
-use Rattle.block.specs.declared.Span.{Span}
+use Rattle.walk.specs.declared.Span.{Span}
 use Rattle.reader.specs.Said.{Said, refusalOf}
 use Rattle.tables.specs.Said.{saidOpened, saidStaged, saidWithdrawn}
 use Rattle.runs.specs.Said.{saidFed, saidFinished}
@@ -20,6 +20,7 @@ use Rattle.reader.specs.Outcome.{Outcome, outcome}
 use Rattle.tables.specs.Calls.{openOf, stageOf, withdrawOf}
 use Rattle.runs.specs.Calls.{feedOf, finishOf, bytesOf}
 use Rattle.records.specs.Calls.{bodyOf, subOf, subBytesOf, subPlaceOf, subBytesRefusal, towOf, wncOf}
+use Rattle.epochs.specs.Calls.{sub2Of, rangeOf, range2Of}
 use Rattle.draft.specs.Draft.{Draft}
 use Rattle.writer.specs.declared.Written.{Written}
 use Rattle.writer.specs.Write.{WriteOutcome, writeOutcome, writtenSays}
@@ -61,6 +62,9 @@ pub record OneOutcome : Type 0 where
   pub sub-bytes-refused : (s : State) (force b : List ℕ) (k : ℕ) (x y : Handed) → handedSays x ≡ subBytesRefusal s force b k
       → handedSays y ≡ subBytesRefusal s force b k → x ≡ y
   pub sub-places : (s : State) (force b : List ℕ) (k : ℕ) → OnePlace (subBytesRefusal s force b k) (subPlaceOf s force b k)
+  pub sub2s : (s : State) (force b : List ℕ) (k m j : ℕ) → OneField (sub2Of s force b k m j)
+  pub ranges : (s : State) (force b : List ℕ) (k : ℕ) → OneField (rangeOf s force b k)
+  pub range2s : (s : State) (force b : List ℕ) (k m : ℕ) → OneField (range2Of s force b k m)
   pub tows : (s : State) (b : List ℕ) → OneField (towOf s b)
   pub wncs : (s : State) (b : List ℕ) → OneField (wncOf s b)
   pub writes : (s : State) (force : List ℕ) (d : Draft) (buffer : List ℕ) → OneWrite (writeOf s force d buffer)

@@ -2,9 +2,10 @@
 -- order. They are written apart from the tests of the code's definitions, the block's numbers among them (`blockNumber` to `SBLength`): a
 -- second rendering is wanted here, so that `demand_1` fails where code and definitions of the crates `block`, `entry` and `draft` are wrong
 -- alike. Shared is what the conditions speak of: `tableOk`, `nextTable`, `tableInForce` and `decode`, `settle` and `restOf`, where the
--- header's numbers stand, the CRC, where a field ends, how its bits are read, and which of them are Do-Not-Use.
+-- header's numbers stand, the CRC, which rows are of which level and which is N2's, where a field ends, what it says, how its bits are read, and
+-- which of them are Do-Not-Use. The walk (T21) is rendered anew: from where one sub-block starts to where the next does.
 -- Assumes nothing.
-use Prim.Native.Nat.{ℕ, suc, _+_, _*_, _%_, _/_, _^_, _≤_, _<_}
+use Prim.Native.Nat.{ℕ, zero, suc, _+_, _*_, _%_, _/_, _^_, _≤_, _<_}
 use mathlib.Core.Path.{_≡_}
 use mathlib.Core.Bool.{true, false}
 use mathlib.Core.List.{List, [], _∷_}
@@ -21,18 +22,20 @@ use Rattle.kinds.specs.Types.{sizeOf, half}
 use Rattle.kinds.specs.Marks.{isDoNotUse}
 use Rattle.rows.specs.declared.FieldRow.{FieldRow}
 use Rattle.table.specs.Lists.{pick}
-use Rattle.table.specs.Rows.{BlockRow, Table, ends}
+use Rattle.table.specs.Rows.{BlockRow, Table, ends, firstRows, secondRows, nestedRow}
 use Rattle.table.specs.Decode.{decode}
 use Rattle.table.specs.Rules.{tableOk}
 use Rattle.value.specs.Said.{FieldSaid, unsigned, signed, single, double, doNotUse, notInRevision, fieldRefused}
 use Rattle.value.specs.Bits.{readAs}
+use Rattle.block.specs.Block.{offsetOf}
+use Rattle.record.specs.Calls.{fieldSaid}
 use Rattle.entry.specs.Wanted.{Wanted}
 use Rattle.draft.specs.Draft.{Draft}
 use Rattle.tables.specs.Calls.{nextTable}
 use Rattle.records.specs.Calls.{tableInForce}
 use Rattle.reader.specs.declared.Phase.the-variants.{Closed, Feeding}
 use Rattle.reader.specs.declared.State.{State}
-use Rattle.demands.specs.World.{World, stage, withdraw, bytes, body, sub, subBytes, tow, wnc, write, Call, openRun, feed, finish, table, look}
+use Rattle.demands.specs.World.{World, stage, withdraw, bytes, body, sub, subBytes, sub2, range, range2, tow, wnc, write, Call, openRun, feed, finish, table, look}
 
 -- ---- buffers, state and table
 
@@ -61,7 +64,7 @@ pub record Full (s : State) (hold piece : List ℕ) : Type 0 where
   pub no-block : settle judged (restOf hold (s .run .held) (s .run .standing)) .standing ≡ none
   pub some-byte : 0 < length piece
 
--- R4: one of T1 to T17 is broken
+-- R4: one of T1 to T20 is broken
 abbrev pub Breaks : List ℕ → Type 0
 Breaks t = tableOk t ≡ false
 
@@ -95,12 +98,15 @@ blockRevision b = idAt b 0 / 8192
 abbrev pub L : List ℕ → ℕ
 L b = lengthAt b 0
 
--- T16: the bytes at 14 and 15
+-- T16, T20: the bytes at 14 and 15, of one level N and SBLength, of two N1 and SB1Length; and the byte at 16
 abbrev pub N : List ℕ → ℕ
 N b = getD b 14 0
 
 abbrev pub SBLength : List ℕ → ℕ
 SBLength b = getD b 15 0
+
+abbrev pub SB2Length : List ℕ → ℕ
+SB2Length b = getD b 16 0
 
 -- ---- its row in the table
 
@@ -131,11 +137,34 @@ NotInTable t number = (r : BlockRow) → RowOf t number r → ⊥
 abbrev pub BodyDoesNotFit : Table → List ℕ → Type 0
 BodyDoesNotFit t b = OfRow t (blockNumber b) (λ r. EndsPast (r .body) (blockRevision b) (L b)) ⊎ (L b < 14)
 
--- R8: of sub-blocks: they are too short for a carried sub-field, or the block is too short for them
+-- R8, of one level: sub-blocks are too short for a carried sub-field, or the block is too short for them
+abbrev pub OneLevelDoesNotFit : List ℕ → BlockRow → Type 0
+OneLevelDoesNotFit b r =
+    (0 < length (r .subs)) × (((0 < N b) × EndsPast (r .subs) (blockRevision b) (SBLength b)) ⊎ (L b < 16 + N b * SBLength b))
+
+-- T21: where first-level sub-block k starts; with so many of them, where the walk ends
+abbrev pub startOf : BlockRow → List ℕ → ℕ → ℕ
+startOf r b zero = 20
+startOf r b (suc k) =
+    let at = startOf r b k in
+    at + SBLength b + getD b (at + offsetOf (nestedRow r)) 0 * SB2Length b
+
+-- T21: its N2
+abbrev pub N2 : BlockRow → List ℕ → ℕ → ℕ
+N2 r b k = getD b (startOf r b k + offsetOf (nestedRow r)) 0
+
+-- R8, of two levels: the walk starts or ends past L, or the sub-blocks of a level that has any are too short for a carried field of its own
+abbrev pub TwoLevelsDoNotFit : List ℕ → BlockRow → Type 0
+TwoLevelsDoNotFit b r =
+    (L b < 20)
+    ⊎ (L b < startOf r b (N b))
+    ⊎ ((0 < N b) × EndsPast (firstRows r) (blockRevision b) (SBLength b))
+    ⊎ (((k : ℕ) × ((k < N b) × (0 < N2 r b k))) × EndsPast (secondRows r) (blockRevision b) (SB2Length b))
+
+-- R8
 abbrev pub SubsDoNotFit : Table → List ℕ → Type 0
 SubsDoNotFit t b =
-    OfRow t (blockNumber b)
-    (λ r. (0 < length (r .subs)) × (((0 < N b) × EndsPast (r .subs) (blockRevision b) (SBLength b)) ⊎ (L b < 16 + N b * SBLength b)))
+    OfRow t (blockNumber b) (λ r. ((r .firsts ≡ 0) × OneLevelDoesNotFit b r) ⊎ ((0 < r .firsts) × TwoLevelsDoNotFit b r))
 
 -- R9: no field has the number
 abbrev pub NoField : List FieldRow → ℕ → Type 0
@@ -144,6 +173,39 @@ NoField fs i = length fs ≤ i
 -- R9: no sub-block has the number; by a row without sub-fields none is there
 abbrev pub NoSubBlock : List ℕ → ℕ → BlockRow → Type 0
 NoSubBlock b k r = (length (r .subs) ≡ 0) ⊎ (N b ≤ k)
+
+-- R9: no second-level sub-block has the numbers; by a row of one level none is there
+abbrev pub NoSecond : List ℕ → ℕ → ℕ → BlockRow → Type 0
+NoSecond b k m r = (r .firsts ≡ 0) ⊎ (N b ≤ k) ⊎ (N2 r b k ≤ m)
+
+-- R9: in these bytes no field of this number among the rows is of the type and answers an unsigned number
+abbrev pub NoNumber : List ℕ → List ℕ → List FieldRow → ℕ → ℕ → Type 0
+NoNumber b s rows i kind =
+    (f : FieldRow) → pick rows i ≡ some f → f .kind ≡ kind → (n : ℕ) → fieldSaid (blockRevision b) s f ≡ unsigned n → ⊥
+
+-- T21: the bytes of a first-level sub-block, and of one nested in it
+abbrev pub firstBytes : BlockRow → List ℕ → ℕ → List ℕ
+firstBytes r b k = take (SBLength b) (drop (startOf r b k) b)
+
+abbrev pub secondBytes : BlockRow → List ℕ → ℕ → ℕ → List ℕ
+secondBytes r b k m = take (SB2Length b) (drop (startOf r b k + SBLength b + m * SB2Length b) b)
+
+-- R9, V11: no MeasEpoch of two levels with such a sub-block whose Misc (3, a u1) and CodeLSB (4, a u4) are numbers
+abbrev pub NoRange : List ℕ → ℕ → BlockRow → Type 0
+NoRange b k r =
+    (blockNumber b ≡ 4027 → ⊥)
+    ⊎ (r .firsts ≡ 0)
+    ⊎ (N b ≤ k)
+    ⊎ NoNumber b (firstBytes r b k) (firstRows r) 3 1
+    ⊎ NoNumber b (firstBytes r b k) (firstRows r) 4 3
+
+-- R9, V12: or no one nested in it whose OffsetsMSB (3, a u1) and CodeOffsetLSB (6, a u2) are numbers
+abbrev pub NoRange2 : List ℕ → ℕ → ℕ → BlockRow → Type 0
+NoRange2 b k m r =
+    NoRange b k r
+    ⊎ (N2 r b k ≤ m)
+    ⊎ NoNumber b (secondBytes r b k m) (secondRows r) 3 1
+    ⊎ NoNumber b (secondBytes r b k m) (secondRows r) 6 2
 
 -- R10: they are not one frame
 abbrev pub NoWholeFrame : List ℕ → Type 0
@@ -250,7 +312,7 @@ pub record Exactly (o : Option ℕ) (order : Order) : Type 0 where
   pub gives : (n : ℕ) → o ≡ some n → Given order n
   pub given : (n : ℕ) → Given order n → o ≡ some n
 
--- R20: Body, Sub and Subbytes; 9's condition is each call's own, of the block's row. R5: no table is in force
+-- R20: Body, Sub, Subbytes, Sub2, Range and Range2; 9's condition is each call's own, of the block's row. R5: no table is in force
 abbrev pub recordOrder : World → List ℕ → (BlockRow → Type 0) → Order
 recordOrder w b Nine =
     let t = decode (tableInForce (w .state) (w .force)) in
@@ -268,14 +330,14 @@ recordOrder w b Nine =
 abbrev pub stampOrder : World → List ℕ → Order
 stampOrder w b = 1 when BadState (w .state) ∷ 10 when NoWholeFrame b ∷ 7 when (L b < 14) ∷ []
 
--- R20: Write, which is lent the in-force store; of the buffer that it writes 1 asks nothing
+-- R20: Write, which is lent the in-force store; it writes by a row of one level alone; of the buffer that it writes 1 asks nothing
 abbrev pub writeOrder : World → Draft → List ℕ → Order
 writeOrder w d buffer =
     let t = decode (tableInForce (w .state) (w .force)) in
     1 when (BadState (w .state) ⊎ ShortStore (w .force))
     ∷ 5 when (w .state .«in_force» ≡ 0)
     ∷ 4 when Breaks (tableInForce (w .state) (w .force))
-    ∷ 6 when NotInTable t (d .number)
+    ∷ 6 when (NotInTable t (d .number) ⊎ OfRow t (d .number) (λ r. 0 < r .firsts))
     ∷ 11 when OfRow t (d .number) (λ r. CannotStand r d)
     ∷ 12 when OfRow t (d .number) (λ r. HasNoRoom (length buffer) r d)
     ∷ []
@@ -298,8 +360,11 @@ order (look bytes) w = 1 when (BadState (w .state) ⊎ ShortHold (w .hold)) ∷ 
 order (table withdraw) w = 1 when BadState (w .state) ∷ []
 order (table (stage t)) w = 1 when (BadState (w .state) ⊎ ShortStore (w .wait)) ∷ 4 when Breaks t ∷ []
 order (look (body b i)) w = recordOrder w b (λ r. NoField (r .body) i)
-order (look (sub b k j)) w = recordOrder w b (λ r. NoSubBlock b k r ⊎ NoField (r .subs) j)
+order (look (sub b k j)) w = recordOrder w b (λ r. NoSubBlock b k r ⊎ NoField (firstRows r) j)
 order (look (subBytes b k)) w = recordOrder w b (NoSubBlock b k)
+order (look (sub2 b k m j)) w = recordOrder w b (λ r. NoSecond b k m r ⊎ NoField (secondRows r) j)
+order (look (range b k)) w = recordOrder w b (NoRange b k)
+order (look (range2 b k m)) w = recordOrder w b (NoRange2 b k m)
 order (look (tow b)) w = stampOrder w b
 order (look (wnc b)) w = stampOrder w b
 order (look (write d buffer)) w = writeOrder w d buffer

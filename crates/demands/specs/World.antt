@@ -11,6 +11,7 @@ use Rattle.reader.specs.Outcome.{Outcome}
 use Rattle.tables.specs.Calls.{openOf, stageOf, withdrawOf}
 use Rattle.runs.specs.Calls.{feedOf, finishOf, bytesOf}
 use Rattle.records.specs.Calls.{bodyOf, subOf, subBytesOf, subBytesRefusal, towOf, wncOf}
+use Rattle.epochs.specs.Calls.{sub2Of, rangeOf, range2Of}
 use Rattle.draft.specs.Draft.{Draft}
 use Rattle.writer.specs.Write.{WriteSaid, wrote, writeRefused, WriteOutcome}
 use Rattle.writes.specs.Calls.{writeOf}
@@ -29,13 +30,16 @@ pub data TableCall : Type 0 where
   stage : List ℕ → TableCall
   withdraw : TableCall
 
--- C9, C13, W1: the calls that change neither state nor the three buffers: Bytes, the record calls with the bytes and the numbers given to
+-- C9, C13, C16, W1: the calls that change neither state nor the three buffers: Bytes, the record calls with the bytes and the numbers given to
 -- them, and Write with a draft and a buffer of the caller's own
 pub data Look : Type 0 where
   bytes : Look
   body : List ℕ → ℕ → Look
   sub : List ℕ → ℕ → ℕ → Look
   subBytes : List ℕ → ℕ → Look
+  sub2 : List ℕ → ℕ → ℕ → ℕ → Look
+  range : List ℕ → ℕ → Look
+  range2 : List ℕ → ℕ → ℕ → Look
   tow : List ℕ → Look
   wnc : List ℕ → Look
   write : Draft → List ℕ → Look
@@ -147,6 +151,9 @@ looked bytes w = part (bytesRefusal (w .state) (w .hold)) (bytesOf (w .state) (w
 looked (body b i) w = value (bodyOf (w .state) (w .force) b i)
 looked (sub b k j) w = value (subOf (w .state) (w .force) b k j)
 looked (subBytes b k) w = part (subBytesRefusal (w .state) (w .force) b k) (subBytesOf (w .state) (w .force) b k)
+looked (sub2 b k m j) w = value (sub2Of (w .state) (w .force) b k m j)
+looked (range b k) w = value (rangeOf (w .state) (w .force) b k)
+looked (range2 b k m) w = value (range2Of (w .state) (w .force) b k m)
 looked (tow b) w = value (towOf (w .state) b)
 looked (wnc b) w = value (wncOf (w .state) b)
 looked (write d buffer) w = penned (writeOf (w .state) (w .force) d buffer)

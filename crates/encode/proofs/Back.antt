@@ -28,7 +28,7 @@ fields-back t i (f ∷ fs) rest e =
     rw (a, b, c, d, fields-back t (i + 1) fs rest g)
 
 row-back : (t : List ℕ) (p before : ℕ) (b : BlockRow) (rest : List ℕ)
-    → drop p t ≡ u2Bytes (b .number) ++ (b .highest ∷ length (b .body) ∷ (u2Bytes before ++ (length (b .subs) ∷ 0 ∷ rest))) → rowFrom t p ≡ rowFor before b
+    → drop p t ≡ u2Bytes (b .number) ++ (b .highest ∷ length (b .body) ∷ (u2Bytes before ++ (length (b .subs) ∷ b .firsts ∷ rest))) → rowFrom t p ≡ rowFor before b
 unfolding rowFrom rowFor u2Bytes
 row-back t p before b rest e =
     rw (two-at t p (b .number) e, next t p e 2, next t p e 3, two-at t (p + 4) before (onward t p e 4), next t p e 6, next t p e 7)

@@ -12,11 +12,11 @@ use borrow.Author.Tests.{eqb-true}
 use Rattle.wire.specs.Range.{Bytes}
 use Rattle.wire.specs.Little.{littleAt}
 use Rattle.rows.specs.declared.Row.{Row}
-use Rattle.table.specs.Lists.{tabulate, every}
+use Rattle.table.specs.Lists.{tabulate}
 use Rattle.rows.specs.Places.{blockCount, blocksAt, fieldCount, fieldAt, rowFrom, rowAt}
 use Rattle.table.specs.Decode.{toFields, covered, rowsOf, blockOf, decode}
 use Rattle.encode.specs.Encode.{u2Bytes, fieldBytes, fieldsPart, rowsPart, unsealed, encode}
-use Rattle.table.specs.Rules.{zeroOk, indexOk, usedFields, tableOk}
+use Rattle.table.specs.Rules.{indexOk, usedFields, tableOk}
 use Rattle.encode.specs.Theorems.{Decodes}
 use Rattle.table.proofs.Lists.{length-tab}
 use Rattle.encode.proofs.Parts as parts
@@ -63,11 +63,11 @@ module _ (t : List ℕ) (bytes : Bytes t) where
       ∙ rw (p, parts.part-add t (4 * (r .start + r .bodies)) (4 * r .subs) (4 * usedFields rs), q, ← k, ← g, o, ← f))
 
   -- Block rows.
-  row-part : (p : ℕ) (rest : List ℕ) → p + 8 ≤ length t → rowFrom t p .zero ≡ 0
+  row-part : (p : ℕ) (rest : List ℕ) → p + 8 ≤ length t
       → (u2Bytes (rowFrom t p .number)
-      ++ (rowFrom t p .highest ∷ rowFrom t p .bodies ∷ (u2Bytes (rowFrom t p .start) ++ (rowFrom t p .subs ∷ 0 ∷ rest)))) ≡ part t p 8 ++ rest
+      ++ (rowFrom t p .highest ∷ rowFrom t p .bodies ∷ (u2Bytes (rowFrom t p .start) ++ (rowFrom t p .subs ∷ rowFrom t p .firsts ∷ rest)))) ≡ part t p 8 ++ rest
   unfolding rowFrom
-  row-part p rest h z =
+  row-part p rest h =
       let a : p + 2 + 1 ≡ p + 3 = omega arith in
       let b : p + 2 + 2 ≡ p + 4 = omega arith in
       let c : p + 4 + 2 ≡ p + 6 = omega arith in
@@ -77,24 +77,21 @@ module _ (t : List ℕ) (bytes : Bytes t) where
       let split₄ = parts.part-add t (p + 4) 2 2 in
       let u2Bytes₂ = parts.part-two t (p + 2) (omega arith) in
       let u2Bytes₆ = parts.part-two t (p + 6) (omega arith) in
-      sym (rw (split, split₂, b, split₄, c, ← two-part p (omega arith), ← two-part (p + 4) (omega arith), u2Bytes₂, u2Bytes₆, a, d, z) (simp append-assoc))
+      sym (rw (split, split₂, b, split₄, c, ← two-part p (omega arith), ← two-part (p + 4) (omega arith), u2Bytes₂, u2Bytes₆, a, d) (simp append-assoc))
 
-  rows-part : (before i k : ℕ) → indexOk before (tabulate (rowAt t) i k) ≡ true → every zeroOk (tabulate (rowAt t) i k) ≡ true
-      → blocksAt t + 8 * (i + k) ≤ length t
+  rows-part : (before i k : ℕ) → indexOk before (tabulate (rowAt t) i k) ≡ true → blocksAt t + 8 * (i + k) ≤ length t
       → rowsPart before (map (blockOf t) (tabulate (rowAt t) i k)) ≡ part t (blocksAt t + 8 * i) (8 * k)
-  unfolding rowsPart indexOk every tabulate blockOf rowAt
-  rows-part before i zero e g h = sym (parts.part-none t (blocksAt t + 8 * i))
-  rows-part before i (suc k) e g h =
+  unfolding rowsPart indexOk tabulate blockOf rowAt
+  rows-part before i zero e h = sym (parts.part-none t (blocksAt t + 8 * i))
+  rows-part before i (suc k) e h =
       let r = rowFrom t (blocksAt t + 8 * i) in
       let a = both (eqb (r .start) before) _ e in
       let s : r .start ≡ before = eqb-true _ _ (a .0) in
-      let b = both (zeroOk r) _ g in
-      let z : r .zero ≡ 0 = eqb-true _ _ (b .0) in
       let n : 8 * suc k ≡ 8 + 8 * k = omega arith in
       let m : blocksAt t + 8 * (i + 1) ≡ blocksAt t + 8 * i + 8 = omega arith in
-      let f = rows-part (before + (r .bodies + r .subs)) (i + 1) k (a .1) (b .1) (omega arith) in
+      let f = rows-part (before + (r .bodies + r .subs)) (i + 1) k (a .1) (omega arith) in
       rw (length-tab (fieldAt t) (r .start) (r .bodies), length-tab (fieldAt t) (r .start + r .bodies) (r .subs), f, ← s, m, n)
-      (row-part (blocksAt t + 8 * i) (part t (blocksAt t + 8 * i + 8) (8 * k)) (omega arith) z ∙ sym (parts.part-add t (blocksAt t + 8 * i) 8 (8 * k)))
+      (row-part (blocksAt t + 8 * i) (part t (blocksAt t + 8 * i + 8) (8 * k)) (omega arith) ∙ sym (parts.part-add t (blocksAt t + 8 * i) 8 (8 * k)))
 
   -- The whole file.
   module _ (ok : tableOk t ≡ true) where
@@ -113,7 +110,7 @@ module _ (t : List ℕ) (bytes : Bytes t) where
         let n : length t - 12 ≡ 4 * fieldCount t + 8 * blockCount t = omega arith in
         let u : usedFields (tabulate (rowAt t) 0 (blockCount t)) ≡ fieldCount t = all .used in
         let a = fields-part 0 (tabulate (rowAt t) 0 (blockCount t)) (all .index) (rw u (omega arith)) in
-        let b = rows-part 0 0 (blockCount t) (all .index) (all .zeros) (omega arith) in
+        let b = rows-part 0 0 (blockCount t) (all .index) (omega arith) in
         let z : blocksAt t + 8 * 0 ≡ 0 + 4 * fieldCount t = omega arith in
         rw (a, b, u, n, z) (sym (parts.part-add t 0 (4 * fieldCount t) (8 * blockCount t)))
 

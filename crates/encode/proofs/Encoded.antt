@@ -4,14 +4,13 @@ use mathlib.Core.Bool.{true}
 use mathlib.Core.Path.{_≡_, sym, ap, _∙_}
 use native.Mathlib.Omega.{arith}
 use borrow.Author.Tests.{eq-eqb}
-use Rattle.table.specs.Lists.{every}
 use Rattle.table.specs.Rows.{Table}
-use Rattle.table.specs.Rules.{zeroOk, indexOk, usedFields, formOk, meaningOk, tableOk}
+use Rattle.table.specs.Rules.{indexOk, usedFields, formOk, meaningOk, tableOk}
 use Rattle.encode.specs.Encode.{encode}
 use Rattle.encode.specs.Theorems.{Encodes}
 use Rattle.table.proofs.Passed.{File, file-ok, meaning}
 use Rattle.encode.proofs.Room.{Room, room}
-use Rattle.encode.proofs.Laid.{zeros-for, index-for, counts-for}
+use Rattle.encode.proofs.Laid.{index-for, counts-for}
 use Rattle.encode.proofs.File as file
 use Rattle.encode.proofs.Small.{bytes}
 use Rattle.wire.proofs.Tests.{both, both-true}
@@ -37,10 +36,9 @@ module _ (tab : Table) (r : Room tab) where
   unfolding formOk
   form-passes =
       let rows = file.rows-are tab in
-      let zeros = ap (every zeroOk) rows ∙ zeros-for 0 (tab .rows) in
       let index = ap (indexOk 0) rows ∙ index-for 0 (tab .rows) in
       let used = ap usedFields rows ∙ counts-for 0 (tab .rows) ∙ sym (file.fields-are tab) in
-      both-true (both-true (both-true (file-ok (encode tab) file-is) zeros) index) (eq-eqb _ _ used)
+      both-true (both-true (file-ok (encode tab) file-is) index) (eq-eqb _ _ used)
 
   table-passes : meaningOk tab ≡ true → tableOk (encode tab) ≡ true
   unfolding tableOk

@@ -7,24 +7,18 @@ use Prim.Native.Nat.{ℕ, _+_}
 use lib.ListN.{length}
 use borrow.Author.Tests.{eq-eqb}
 use Rattle.rows.specs.declared.Row.{Row}
-use Rattle.table.specs.Lists.{every}
 use Rattle.table.specs.Rows.{BlockRow}
-use Rattle.table.specs.Rules.{zeroOk, indexOk, usedFields}
+use Rattle.table.specs.Rules.{indexOk, usedFields}
 use Rattle.encode.specs.Fits.{fieldRows}
 use Rattle.wire.proofs.Tests.{both, both-true}
 
 -- a block's row, where so many field rows are before its own
 unfoldable pub rowFor : ℕ → BlockRow → Row
-rowFor before b = record { number = b .number; highest = b .highest; bodies = length (b .body); start = before; subs = length (b .subs); zero = 0 }
+rowFor before b = record { number = b .number; highest = b .highest; bodies = length (b .body); start = before; subs = length (b .subs); firsts = b .firsts }
 
 unfoldable pub rowsFor : ℕ → List BlockRow → List Row
 rowsFor before [] = []
 rowsFor before (b ∷ bs) = rowFor before b ∷ rowsFor (before + (length (b .body) + length (b .subs))) bs
-
-pub zeros-for : (before : ℕ) (bs : List BlockRow) → every zeroOk (rowsFor before bs) ≡ true
-unfolding every rowsFor rowFor
-zeros-for before [] = refl
-zeros-for before (b ∷ bs) = zeros-for (before + (length (b .body) + length (b .subs))) bs
 
 pub index-for : (before : ℕ) (bs : List BlockRow) → indexOk before (rowsFor before bs) ≡ true
 unfolding indexOk rowsFor rowFor

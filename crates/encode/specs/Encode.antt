@@ -26,7 +26,7 @@ unfoldable pub rowsPart : ℕ → List BlockRow → List ℕ
 rowsPart before [] = []
 rowsPart before (b ∷ bs) =
     let next = before + (length (b .body) + length (b .subs)) in
-    u2Bytes (b .number) ++ (b .highest ∷ length (b .body) ∷ (u2Bytes before ++ (length (b .subs) ∷ 0 ∷ rowsPart next bs)))
+    u2Bytes (b .number) ++ (b .highest ∷ length (b .body) ∷ (u2Bytes before ++ (length (b .subs) ∷ b .firsts ∷ rowsPart next bs)))
 
 -- T1, T2, T4: all before the CRC
 unfoldable pub unsealed : Table → List ℕ

@@ -1,5 +1,5 @@
--- The table's rules, T1 to T17, on both sides of their limits, but for the 8,192 bytes of a file: small tables with what is to come of
--- them, computed from the definitions.
+-- The table's rules, T1 to T17, T19 and T20, on both sides of their limits, but for the 8,192 bytes of a file: small tables with what is to
+-- come of them, computed from the definitions.
 -- Assumes nothing.
 use mathlib.Core.Bool.{Bool, true, false}
 use mathlib.Core.List.{List, [], _∷_, _++_, map, flatMap}
@@ -7,9 +7,9 @@ use mathlib.Core.Option.{Option, none, some}
 use mathlib.Core.Path.{_≡_}
 use Prim.Native.Nat.{ℕ, _+_}
 use Prim.Native.String.{String}
-use lib.ListN.{set, take, drop}
+use lib.ListN.{length, set, take, drop}
 use Rattle.crc.specs.Crc.{crcOf}
-use Rattle.kinds.specs.Types.{u1, u2, u4, u8, i1, i2, i8, f8}
+use Rattle.kinds.specs.Types.{u1, u2, u4, u8, i1, i2, i4, i8, f8}
 use Rattle.kinds.specs.Marks.{unmarked, ones, least, seed}
 use Rattle.kinds.specs.Grid.{GridRow, marksTried, grid}
 use Rattle.rows.specs.declared.FieldRow.{FieldRow}
@@ -24,9 +24,13 @@ pub record LimitCase : Type 0 where
   pub bytes : List ℕ
   pub passes : Bool
 
--- number, highest revision, body, sub-fields
+-- of one level: number, highest revision, body, sub-fields
 abbrev blockRow : ℕ → ℕ → List FieldRow → List FieldRow → BlockRow
-blockRow number highest body subs = record { number = number; highest = highest; body = body; subs = subs }
+blockRow number highest body subs = record { number = number; highest = highest; body = body; subs = subs; firsts = 0 }
+
+-- T17, of two levels: how many rows the first level has, body, sub-fields
+abbrev levelRow : ℕ → List FieldRow → List FieldRow → BlockRow
+levelRow firsts body subs = record { number = 1; highest = 3; body = body; subs = subs; firsts = firsts }
 
 abbrev tableWith : List BlockRow → Table
 tableWith rows = record { version = 7; rows = rows }
@@ -82,6 +86,65 @@ fields =
     ∷ bad "SBLength from revision 1" (blockRow 1 1 (fieldRow 14 u1 0 unmarked ∷ fieldRow 15 u1 1 unmarked ∷ []) (fieldRow 0 u1 0 unmarked ∷ []) ∷ [])
     ∷ []
 
+-- T20: N1, SB1Length and SB2Length, and what follows them
+abbrev triple : List FieldRow → List FieldRow
+triple more = fieldRow 14 u1 0 unmarked ∷ fieldRow 15 u1 0 unmarked ∷ fieldRow 16 u1 0 unmarked ∷ more
+
+-- one block of two levels: its body, and the rows of each level
+abbrev withLevels : List FieldRow → List FieldRow → List FieldRow → List BlockRow
+withLevels body first second = levelRow (length first) body (first ++ second) ∷ []
+
+-- a first level: a field, and behind it this row, its last
+abbrev endsIn : FieldRow → List FieldRow
+endsIn last = fieldRow 0 u4 0 unmarked ∷ last ∷ []
+
+abbrev firstLevel : List FieldRow
+firstLevel = endsIn (fieldRow 4 u1 0 unmarked)
+
+-- that first level under this body; and a second level below it
+abbrev underBody : List FieldRow → List BlockRow
+underBody body = withLevels body firstLevel (fieldRow 0 u1 0 unmarked ∷ [])
+
+abbrev belowFirst : List FieldRow → List BlockRow
+belowFirst second = withLevels (triple []) firstLevel second
+
+-- T37 in small: epochs of measurements, between blocks of one level
+abbrev epochs : BlockRow
+epochs =
+    levelRow 3 (triple (fieldRow 17 u1 0 unmarked ∷ fieldRow 18 u1 1 unmarked ∷ []))
+    (fieldRow 0 u1 0 unmarked ∷ fieldRow 1 i4 0 least ∷ fieldRow 5 u1 0 unmarked ∷ fieldRow 0 u1 0 ones ∷ fieldRow 1 u2 0 unmarked ∷ [])
+
+abbrev levels : List LimitCase
+levels =
+    ok "two levels, between blocks of one" (blockRow 0 0 (fieldRow 14 u4 0 unmarked ∷ []) [] ∷ epochs ∷ blockRow 2 0 (fieldRow 14 u4 0 unmarked ∷ []) [] ∷ [])
+    ∷ ok "as many first-level rows as sub-field rows" (levelRow 2 (triple []) firstLevel ∷ [])
+    ∷ bad "one more first-level row than sub-field rows" (levelRow 3 (triple []) firstLevel ∷ [])
+    ∷ ok "N2 alone" (withLevels (triple []) (fieldRow 0 u1 0 unmarked ∷ []) [])
+    ∷ ok "N2 at 255" (withLevels (triple []) (endsIn (fieldRow 255 u1 0 unmarked)) [])
+    ∷ bad "N2 of type u2" (withLevels (triple []) (endsIn (fieldRow 4 u2 0 unmarked)) [])
+    ∷ bad "N2 of type i1" (withLevels (triple []) (endsIn (fieldRow 4 i1 0 unmarked)) [])
+    ∷ bad "N2 with a mark" (withLevels (triple []) (endsIn (fieldRow 4 u1 0 ones)) [])
+    ∷ bad "N2 from revision 1" (withLevels (triple []) (endsIn (fieldRow 4 u1 1 unmarked)) [])
+    ∷ bad "N2 not the first level's last" (levelRow 1 (triple []) firstLevel ∷ [])
+    ∷ ok "N1, SB1Length and SB2Length alone" (underBody (triple []))
+    ∷ bad "two levels without a body" (underBody [])
+    ∷ bad "two levels with N and SBLength alone" (underBody (fieldRow 14 u1 0 unmarked ∷ fieldRow 15 u1 0 unmarked ∷ []))
+    ∷ bad "N1 with a mark" (underBody (fieldRow 14 u1 0 ones ∷ fieldRow 15 u1 0 unmarked ∷ fieldRow 16 u1 0 unmarked ∷ []))
+    ∷ bad "SB1Length of type i1" (underBody (fieldRow 14 u1 0 unmarked ∷ fieldRow 15 i1 0 unmarked ∷ fieldRow 16 u1 0 unmarked ∷ []))
+    ∷ bad "SB2Length at 17" (underBody (fieldRow 14 u1 0 unmarked ∷ fieldRow 15 u1 0 unmarked ∷ fieldRow 17 u1 0 unmarked ∷ []))
+    ∷ bad "SB2Length from revision 1" (underBody (fieldRow 14 u1 0 unmarked ∷ fieldRow 15 u1 0 unmarked ∷ fieldRow 16 u1 1 unmarked ∷ []))
+    ∷ ok "a fourth body field that ends at 20" (underBody (triple (fieldRow 18 u2 0 unmarked ∷ [])))
+    ∷ bad "a fourth body field that ends at 21" (underBody (triple (fieldRow 17 u4 0 unmarked ∷ [])))
+    ∷ bad "a body field at 20" (underBody (triple (fieldRow 17 u1 0 unmarked ∷ fieldRow 20 u1 0 unmarked ∷ [])))
+    ∷ bad "first-level fields that overlap" (withLevels (triple []) (endsIn (fieldRow 3 u1 0 unmarked)) [])
+    ∷ ok "second-level offsets that start again at 0" (belowFirst (fieldRow 0 u2 0 unmarked ∷ fieldRow 2 u1 0 unmarked ∷ []))
+    ∷ bad "second-level fields that overlap" (belowFirst (fieldRow 0 u2 0 unmarked ∷ fieldRow 1 u1 0 unmarked ∷ []))
+    ∷ ok "second-level first revisions rising to the highest" (belowFirst (fieldRow 0 u1 1 unmarked ∷ fieldRow 1 u1 3 unmarked ∷ []))
+    ∷ bad "second-level first revisions falling" (belowFirst (fieldRow 0 u1 1 unmarked ∷ fieldRow 1 u1 0 unmarked ∷ []))
+    ∷ bad "a second-level first revision above the highest" (belowFirst (fieldRow 0 u1 4 unmarked ∷ []))
+    ∷ bad "a second-level mark that the type may not bear" (belowFirst (fieldRow 0 u1 0 least ∷ []))
+    ∷ []
+
 abbrev types : List LimitCase
 types =
     bad "type 0" (bears 0 unmarked)
@@ -121,7 +184,7 @@ other name place byte = record { name = name; bytes = closed (set (unsealed smal
 abbrev files : List LimitCase
 files =
     record { name = "the small file"; bytes = closed (unsealed small); passes = true }
-    ∷ other "a block row that ends in no zero byte" 11 1
+    ∷ other "a count of first-level rows above the sub-field rows" 11 1
     ∷ other "a first index that is not the sum" 16 0
     ∷ record { name = "counts that leave a field row"; bytes = closed (set (unsealed (tableWith (withBody (fieldRow 14 u1 0 unmarked ∷ [])))) 7 0); passes = false }
     ∷ other "counts beyond the field rows" 15 1
@@ -138,7 +201,7 @@ files =
     ∷ []
 
 abbrev pub limitCases : List LimitCase
-limitCases = rows ++ (fields ++ (types ++ (flatMap sizeCases grid ++ files)))
+limitCases = rows ++ (fields ++ (levels ++ (types ++ (flatMap sizeCases grid ++ files))))
 
 abbrev pub LimitsHold : Type 0
 LimitsHold = map (λ (c : LimitCase). tableOk (c .bytes)) limitCases ≡ map (λ (c : LimitCase). c .passes) limitCases

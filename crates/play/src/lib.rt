@@ -180,6 +180,18 @@ fn ask_on(s: State, ask: Ask, given: &[u8], hold: &[u8], force: &[u8]) -> AskRep
         Ask::Body(i) => AskReply::Field(records::body(s, force, given, i as usize)),
         Ask::Sub(k, j) => AskReply::Field(records::sub(s, force, given, k as usize, j as usize)),
         Ask::SubBytes(k) => sub_bytes(s, force, given, k as usize),
+        Ask::Sub2(k, m, j) => {
+            let r = epochs::sub2(s, force, given, k as usize, m as usize, j as usize);
+            AskReply::Field(r)
+        }
+        Ask::Range(k) => AskReply::Field(epochs::range(s, force, given, k as usize)),
+        Ask::Range2(k, m) => AskReply::Field(epochs::range2(
+            s,
+            force,
+            given,
+            k as usize,
+            m as usize,
+        )),
         Ask::Tow => AskReply::Field(records::tow(s, given)),
         Ask::Wnc => AskReply::Field(records::wnc(s, given)),
     }

@@ -4,6 +4,7 @@ use mathlib.Core.Path.{_≡_, refl, sym, ap, _∙_, subst}
 use mathlib.Core.List.{List}
 use mathlib.Core.Bool.{true}
 use Prim.Native.Nat.{ℕ, _+_, _<_, _≤_}
+use native.Mathlib.Omega.{arith}
 use lib.ListN.{length}
 use lib.Dec.{leb}
 use Rattle.refusal.specs.declared.Refusal.{Refusal}
@@ -12,16 +13,18 @@ use Rattle.refusal.specs.Numbers.{numberFor}
 use Rattle.refusal.proofs.Numbers.{back}
 use Rattle.rows.specs.declared.FieldRow.{FieldRow}
 use Rattle.rows.specs.declared.Row.{Row}
-use Rattle.table.specs.Lists.{tabulate, pick}
-use Rattle.rows.specs.Places.{fieldAt}
-use Rattle.table.specs.Decode.{blockOf, decode}
+use Rattle.table.specs.Lists.{tabulate, every, pick}
+use Rattle.table.specs.Rows.{firstRows}
+use Rattle.rows.specs.Places.{fieldCount, fieldAt}
+use Rattle.table.specs.Decode.{blockOf, decode, firstCount}
+use Rattle.table.proofs.Levels.{first-few, first-are}
 use Rattle.table.proofs.Lists.{every-at, pick-in, pick-out}
 use Rattle.record.specs.declared.Answer.{Answer}
 use Rattle.record.specs.declared.Answer.the-variants as answer
 use Rattle.record.specs.declared.Handed.the-variants as handed
 use Rattle.block.specs.declared.Matched.{Matched}
 use Rattle.block.specs.declared.Matched.the-variants as matched
-use Rattle.block.specs.declared.Span.{Span}
+use Rattle.walk.specs.declared.Nest.{Nest}
 use Rattle.block.specs.declared.SubMatched.{SubMatched}
 use Rattle.block.specs.declared.SubMatched.the-variants as sub
 use Rattle.value.specs.Said.{fieldRefused}
@@ -67,7 +70,7 @@ module _ (t b : List ℕ) {l : Matched} (d : Matching t b l) (i : ℕ) where
     body-ends g e u =
         rw (e, u) (every-at (fieldAt t) (endsBy (revisionIn b) (length b)) (r .start) (r .bodies) i (both (leb 14 (length b)) _ (fine-at t b d h .body) .1) g)
 
-pub sub-fine : (t b : List ℕ) (k : ℕ) {l : SubMatched} {r : Row} {p : Span} → SubMatching t b k l → l ≡ sub.At r p → SubFine t b k r p
+pub sub-fine : (t b : List ℕ) (k : ℕ) {l : SubMatched} {r : Row} {n : Nest} → SubMatching t b k l → l ≡ sub.At r n → SubFine t b k r n
 sub-fine t b k d h = subst (SubFineIfAny t b k) h (d .fine)
 
 module _ (t b : List ℕ) (k : ℕ) {l : SubMatched} (d : SubMatching t b k l) where
@@ -75,15 +78,15 @@ module _ (t b : List ℕ) (k : ℕ) {l : SubMatched} (d : SubMatching t b k l) w
   unfolding subPlace
   place-refused h = ap (placeBy b k) (sym (ap (subMatchedSays t) h) ∙ d .is)
 
-  pub place-given : {r : Row} {p : Span} → l ≡ sub.At r p → p ≡ subPlace (decode t) b k
+  pub place-given : {r : Row} {n : Nest} → l ≡ sub.At r n → n .first ≡ subPlace (decode t) b k
   unfolding subPlace
-  place-given h = sub-fine t b k d h .stands ∙ ap (placeBy b k) (sym (ap (subMatchedSays t) h) ∙ d .is)
+  place-given h = ap (λ (x : Nest). x .first) (sub-fine t b k d h .stands) ∙ ap (placeBy b k) (sym (ap (subMatchedSays t) h) ∙ d .is)
 
   pub twin-refused : {x : Refusal} → l ≡ sub.Refused x → handedSays (handed.Refused x) ≡ subBlockRefusal (decode t) b k
   unfolding subBlockRefusal
   twin-refused h = ap numberBy (sym (ap (subMatchedSays t) h) ∙ d .is)
 
-  pub twin-given : {r : Row} {p : Span} → l ≡ sub.At r p → handedSays handed.Given ≡ subBlockRefusal (decode t) b k
+  pub twin-given : {r : Row} {n : Nest} → l ≡ sub.At r n → handedSays handed.Given ≡ subBlockRefusal (decode t) b k
   unfolding subBlockRefusal
   twin-given h = ap numberBy (sym (ap (subMatchedSays t) h) ∙ d .is)
 
@@ -91,25 +94,37 @@ module _ (t b : List ℕ) (k : ℕ) {l : SubMatched} (d : SubMatching t b k l) w
   unfolding subField
   sub-refused j {x} h = same (ap (subBy b k j) (sym (ap (subMatchedSays t) h) ∙ d .is)) (refuses x)
 
-  module _ (r : Row) (p : Span) (h : l ≡ sub.At r p) where
-    module _ (j : ℕ) where
-      by-sub-row : fieldOr9 (revisionIn b) (subSlice b p) (pick (blockOf t r .subs) j) ≡ subField (decode t) b k j
+  module _ (r : Row) (n : Nest) (h : l ≡ sub.At r n) where
+    -- it lies in the block
+    pub first-within : n .first .at + n .first .size ≤ length b
+    first-within = omega (arith, sub-fine t b k d h .within)
+
+    module _ (j : ℕ) {c : ℕ} (g : c ≡ firstCount r) where
+      by-sub-row : fieldOr9 (revisionIn b) (subSlice b (n .first)) (pick (tabulate (fieldAt t) (r .start + r .bodies) c) j) ≡ subField (decode t) b k j
       unfolding subField
       by-sub-row =
-          ap (λ (x : Span). fieldOr9 (revisionIn b) (subSlice b x) (pick (blockOf t r .subs) j)) (sub-fine t b k d h .stands)
+          let f = sub-fine t b k d h in
+          ap (λ (m : ℕ). fieldOr9 (revisionIn b) (subSlice b (n .first)) (pick (tabulate (fieldAt t) (r .start + r .bodies) m) j)) g
+          ∙ ap (λ (fs : List FieldRow). fieldOr9 (revisionIn b) (subSlice b (n .first)) (pick fs j)) (sym (first-are t r (f .rules)))
+          ∙ ap (λ (x : Nest). fieldOr9 (revisionIn b) (subSlice b (x .first)) (pick (firstRows (blockOf t r)) j)) (f .stands)
           ∙ ap (subBy b k j) (sym (ap (subMatchedSays t) h) ∙ d .is)
 
-      pub sub-9 : r .subs ≤ j → Answers (answer.Refused NoSuchField) (subField (decode t) b k j)
-      unfolding blockOf
-      sub-9 g = same by-sub-row (none-there (fieldAt t) (r .start + r .bodies) (r .subs) j (revisionIn b) (subSlice b p) g)
+      pub sub-9 : c ≤ j → Answers (answer.Refused NoSuchField) (subField (decode t) b k j)
+      sub-9 i = same by-sub-row (none-there (fieldAt t) (r .start + r .bodies) c j (revisionIn b) (subSlice b (n .first)) i)
 
-      pub sub-says : j < r .subs → {f : FieldRow} {v : ℕ} {s : List ℕ} {a : Answer} → f ≡ fieldAt t (r .start + r .bodies + j) → v ≡ revisionIn b → s ≡ subSlice b p
-          → Answers a (fieldSaid v s f) → Answers a (subField (decode t) b k j)
-      unfolding blockOf
-      sub-says g e u q w =
-          same by-sub-row (one-there (fieldAt t) (r .start + r .bodies) (r .subs) j (revisionIn b) (subSlice b p) g (rw (e, u, q) at w))
+      module _ (i : j < c) where
+        -- its row is there
+        pub sub-in : r .start + r .bodies + j < fieldCount t
+        sub-in = let f = sub-fine t b k d h in omega (arith, f .inside, first-few t r (f .rules))
 
-      pub sub-ends : j < r .subs → {f : FieldRow} {v n : ℕ} → f ≡ fieldAt t (r .start + r .bodies + j) → v ≡ revisionIn b → n ≡ p .size → endsBy v n f ≡ true
-      unfolding blockOf
-      sub-ends g e u q =
-          rw (e, u, q) (every-at (fieldAt t) (endsBy (revisionIn b) (p .size)) (r .start + r .bodies) (r .subs) j (sub-fine t b k d h .fields) g)
+        pub sub-says : {f : FieldRow} {v : ℕ} {s : List ℕ} {a : Answer} → f ≡ fieldAt t (r .start + r .bodies + j) → v ≡ revisionIn b → s ≡ subSlice b (n .first)
+            → Answers a (fieldSaid v s f) → Answers a (subField (decode t) b k j)
+        sub-says e u q w =
+            same by-sub-row (one-there (fieldAt t) (r .start + r .bodies) c j (revisionIn b) (subSlice b (n .first)) i (rw (e, u, q) at w))
+
+        pub sub-ends : {f : FieldRow} {v m : ℕ} → f ≡ fieldAt t (r .start + r .bodies + j) → v ≡ revisionIn b → m ≡ n .first .size → endsBy v m f ≡ true
+        sub-ends e u q =
+            let f = sub-fine t b k d h in
+            let a : every (endsBy (revisionIn b) (n .first .size)) (tabulate (fieldAt t) (r .start + r .bodies) c) ≡ true =
+            rw g (rw (first-are t r (f .rules)) at (f .fields)) in
+            rw (e, u, q) (every-at (fieldAt t) (endsBy (revisionIn b) (n .first .size)) (r .start + r .bodies) c j a i)

@@ -8,7 +8,7 @@ use native.Mathlib.Omega.{arith}
 use lib.ListN.{length, take, drop, length-drop}
 use lib.Seq.{length-take-le}
 use Rattle.table.specs.Rows.{Table}
-use Rattle.block.specs.declared.Span.{Span}
+use Rattle.walk.specs.declared.Span.{Span}
 use Rattle.block.specs.Block.{Seen, refusedBy, row, seenSub}
 use Rattle.record.specs.Calls.{subSlice, partBy, placeBy, numberBy, subBlock, subPlace}
 

@@ -11,11 +11,11 @@ use Rattle.kinds.specs.Types.{u2, u4}
 use Rattle.kinds.specs.Marks.{ones}
 use Rattle.rows.specs.declared.FieldRow.{FieldRow}
 use Rattle.table.specs.Lists.{pick}
-use Rattle.table.specs.Rows.{Table}
+use Rattle.table.specs.Rows.{Table, firstRows}
 use Rattle.table.specs.Lookup.{carried}
 use Rattle.value.specs.Said.{FieldSaid, notInRevision, fieldRefused}
 use Rattle.value.specs.Bits.{fieldValue}
-use Rattle.block.specs.declared.Span.{Span}
+use Rattle.walk.specs.declared.Span.{Span}
 use Rattle.block.specs.Block.{revisionIn, lengthIn, subSpan, Seen, refusedBy, row, seen, seenSub}
 
 -- V7: a field in these bytes: not in this revision, or what it says
@@ -35,14 +35,14 @@ bodyBy b i (row r) = fieldOr9 (revisionIn b) b (pick (r .body) i)
 unfoldable pub bodyField : Table → List ℕ → ℕ → FieldSaid
 bodyField tab b i = bodyBy b i (seen tab b)
 
--- C13: the bytes of a sub-block, by where it stands (T18)
+-- C13: the bytes of a sub-block, by where it stands (T18, T21)
 unfoldable pub subSlice : List ℕ → Span → List ℕ
 subSlice b s = take (s .size) (drop (s .at) b)
 
--- C13: Sub, with the numbers k and j
+-- C13: Sub, with the numbers k and j, by the first level's rows or the only ones
 abbrev pub subBy : List ℕ → ℕ → ℕ → Seen → FieldSaid
 subBy b k j (refusedBy n) = fieldRefused n
-subBy b k j (row r) = fieldOr9 (revisionIn b) (subSlice b (subSpan r b k)) (pick (r .subs) j)
+subBy b k j (row r) = fieldOr9 (revisionIn b) (subSlice b (subSpan r b k)) (pick (firstRows r) j)
 
 unfoldable pub subField : Table → List ℕ → ℕ → ℕ → FieldSaid
 subField tab b k j = subBy b k j (seenSub tab b k)

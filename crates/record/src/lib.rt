@@ -11,11 +11,11 @@ ghost use Rattle.record.specs.Answer.{Answers, handedSays};
 ghost use Rattle.block.specs.Block.{endsBy};
 ghost use Rattle.record.specs.Calls.{fieldSaid, bodyField, subSlice, subField, subBlock, subPlace, subBlockRefusal, towRow, wncRow, stamp};
 use block::Matched;
-use block::Span;
 use block::SubMatched;
 use refusal::Refusal;
 use rows::FieldRow;
 use value::Value;
+use walk::Span;
 
 pub enum Answer {
     Field(Value),
@@ -35,7 +35,7 @@ pub struct Placed {
 }
 
 // A field in these bytes, in which it ends if the revision carries it.
-fn field_said(s: &[u8], f: FieldRow, revision: u8) -> Answer
+pub fn field_said(s: &[u8], f: FieldRow, revision: u8) -> Answer
     requires { ⌜ endsBy revision (length (now s)) f ≡ true ⌝ }
     ensures { λ r. ⌜ Answers r (fieldSaid revision (now (s .entry)) f) ⌝ }
 {
@@ -73,20 +73,21 @@ pub fn part(block: &[u8], s: Span) -> &[u8]
     wire::part(block, s.at, s.size)
 }
 
-// Field j of sub-block k of a block.
+// Field j of sub-block k of a block, of the first level where it has two.
 pub fn sub_field(table: &[u8], block: &[u8], k: usize, j: usize) -> Answer
     requires { ⌜ tableOk (now table) ≡ true ⌝ }
     ensures { λ r. ⌜ Answers r (subField (decode (now (table .entry))) (now (block .entry)) k j) ⌝ }
 {
     match block::sub_row_of(table, block, k) {
-        SubMatched::At(row, span) => {
+        SubMatched::At(row, nest) => {
             let start = row.start + row.bodies;
-            let count = row.subs;
+            let count = table::first_count(row);
             if count <= j {
                 return Answer::Refused(Refusal::NoSuchField);
             }
             let f = rows::field_at(table, start + j);
             let revision = block::revision(block);
+            let span = nest.first;
             field_said(part(block, span), f, revision)
         }
         SubMatched::Refused(x) => Answer::Refused(x),
@@ -101,10 +102,13 @@ pub fn sub_place(table: &[u8], block: &[u8], k: usize) -> Placed
     ensures { λ r. ⌜ r .span .at + r .span .size ≤ length (now (block .entry)) ⌝ }
 {
     match block::sub_row_of(table, block, k) {
-        SubMatched::At(_, span) => Placed {
-            handed: Handed::Given,
-            span,
-        },
+        SubMatched::At(_, nest) => {
+            let span = nest.first;
+            Placed {
+                handed: Handed::Given,
+                span,
+            }
+        }
         SubMatched::Refused(x) => Placed {
             handed: Handed::Refused(x),
             span: Span { at: 0, size: 0 },

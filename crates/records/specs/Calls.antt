@@ -9,7 +9,7 @@ use lib.Dec.{ltb}
 use Rattle.table.specs.Decode.{decode}
 use Rattle.rows.specs.declared.FieldRow.{FieldRow}
 use Rattle.record.specs.Answer.{FieldSaid, fieldRefused}
-use Rattle.block.specs.declared.Span.{Span}
+use Rattle.walk.specs.declared.Span.{Span}
 use Rattle.record.specs.Calls.{bodyField, subField, subBlock, nowhere, subPlace, subBlockRefusal, towRow, wncRow, stamp}
 use Rattle.reader.specs.State.{sound}
 use Rattle.reader.specs.Refusals.{need, longStore, tableRefusal}

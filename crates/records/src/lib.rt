@@ -6,7 +6,6 @@ ghost use Rattle.wire.specs.Parts.{offsetBy};
 ghost use Rattle.record.specs.Answer.{Answers, handedSays};
 ghost use Rattle.reader.specs.Said.{refusalOf};
 ghost use Rattle.records.specs.Calls.{askRefusal, bodyOf, subOf, subBytesOf, subPlaceOf, subBytesRefusal, towOf, wncOf};
-use block::Span;
 use reader::Check;
 use reader::State;
 use record::Answer;
@@ -14,6 +13,7 @@ use record::Handed;
 use record::Placed;
 use refusal::Refusal;
 use table::Checked;
+use walk::Span;
 
 // R1, R5, R4: the table in force is checked at every call, for a caller may have spoiled the store.
 pub fn of_ask(s: State, in_force: &[u8]) -> Check

@@ -39,7 +39,7 @@ rowFrom t p =
       bodies = getD t (p + 3) 0;
       start = littleAt 2 t (p + 4);
       subs = getD t (p + 6) 0;
-      zero = getD t (p + 7) 0;
+      firsts = getD t (p + 7) 0;
     }
 
 -- T1, T7: block row i

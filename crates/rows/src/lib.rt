@@ -14,14 +14,14 @@ pub struct FieldRow {
 }
 
 // T7, a block row as it stands: `bodies` and `subs` are its counts of body rows and of sub-field rows, `start` is the index of
-// its first field row, `zero` its last byte.
+// its first field row, `firsts` the count of first-level rows among the sub-field rows (T17).
 pub struct Row {
     pub number: u16,
     pub highest: u8,
     pub bodies: usize,
     pub start: usize,
     pub subs: usize,
-    pub zero: u8,
+    pub firsts: usize,
 }
 
 pub fn wide(x: u8) -> usize
@@ -84,7 +84,7 @@ pub fn field_at(t: &[u8], i: usize) -> FieldRow
 // Block row i, by where the block rows begin.
 pub fn row_at(t: &[u8], at: usize, i: usize) -> Row
     requires { ⌜ (at ≡ blocksAt (now t)) × (at + 8 * i + 8 ≤ length (now t)) ⌝ }
-    ensures { λ r. ⌜ (r ≡ rowAt (now (t .entry)) i) × (r .bodies < 256) × (r .start < 65536) × (r .subs < 256) ⌝ }
+    ensures { λ r. ⌜ (r ≡ rowAt (now (t .entry)) i) × (r .bodies < 256) × (r .start < 65536) × (r .subs < 256) × (r .firsts < 256) ⌝ }
 {
     let p = at + 8 * i;
     Row {
@@ -93,6 +93,6 @@ pub fn row_at(t: &[u8], at: usize, i: usize) -> Row
         bodies: wide(t[p + 3]),
         start: word(wire::u2(t, p + 4)),
         subs: wide(t[p + 6]),
-        zero: t[p + 7],
+        firsts: wide(t[p + 7]),
     }
 }

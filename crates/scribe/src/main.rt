@@ -248,7 +248,7 @@ fn scribe_by(rows: &[u8]) {
     match answer {
         Opened::Version(_) => scribe(opened.state, &in_force),
         Opened::Refused(_) => console::tell(
-            b"scribe: the table breaks one of the rules T1 to T17\n",
+            b"scribe: the table breaks one of the rules T1 to T20\n",
         ),
     }
 }

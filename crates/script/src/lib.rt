@@ -42,6 +42,9 @@ pub enum Ask {
     Body(u64),
     Sub(u64, u64),
     SubBytes(u64),
+    Sub2(u64, u64, u64),
+    Range(u64),
+    Range2(u64, u64),
     Tow,
     Wnc,
 }
@@ -179,15 +182,18 @@ fn whether(holds: bool, call: LineCall, words: u8) -> Head {
     }
 }
 
-// A call by its first word, with the two words behind it as that call asks: `body FIELD HEX`, `sub SUBBLOCK FIELD HEX`,
-// `subbytes SUBBLOCK HEX`, `poke NAME VALUE`, `put hold|force|waiting OFFSET HEX`, `size hold|force|waiting|out N`.
-fn begun(first: Word, second: Word, third: Word) -> Head {
+// A call by its first word, with the three words behind it as that call asks: `body FIELD HEX`, `sub SUBBLOCK FIELD HEX`,
+// `subbytes SUBBLOCK HEX`, `sub2 SUBBLOCK NESTED FIELD HEX`, `range SUBBLOCK HEX`, `range2 SUBBLOCK NESTED HEX`, `poke NAME VALUE`,
+// `put hold|force|waiting OFFSET HEX`, `size hold|force|waiting|out N`.
+fn begun(first: Word, second: Word, third: Word, fourth: Word) -> Head {
     let key = first.key;
     let alone = first.is_last;
     let part = number_named(second.key);
     let buffer = buffer_of(second.key);
     let n = second.number;
     let m = third.number;
+    let both = second.leads & third.leads;
+    let sub2 = LineCall::Ask(Ask::Sub2(n, m, fourth.number));
     match key {
         0x6f70656e => whether(alone, LineCall::Run(RunCall::Open), 0), // open
         0x66696e697368 => whether(alone, LineCall::Run(RunCall::Finish), 0), // finish
@@ -199,7 +205,10 @@ fn begun(first: Word, second: Word, third: Word) -> Head {
         0x776e63 => whether(!alone, LineCall::Ask(Ask::Wnc), 1), // wnc
         0x626f6479 => whether(second.leads, LineCall::Ask(Ask::Body(n)), 2), // body
         0x7375626279746573 => whether(second.leads, LineCall::Ask(Ask::SubBytes(n)), 2), // subbytes
-        0x737562 => whether(second.leads & third.leads, LineCall::Ask(Ask::Sub(n, m)), 3), // sub
+        0x737562 => whether(both, LineCall::Ask(Ask::Sub(n, m)), 3), // sub
+        0x73756232 => whether(both & fourth.leads, sub2, 4), // sub2
+        0x72616e6765 => whether(second.leads, LineCall::Ask(Ask::Range(n)), 2), // range
+        0x72616e676532 => whether(both, LineCall::Ask(Ask::Range2(n, m)), 3), // range2
         0x7772697465 => whether(!alone, LineCall::Write, 0), // write
         0x706f6b65 => whether(third.ends & can_poke(part, m), LineCall::Poke(part, m), 0), // poke
         0x707574 => whether(third.leads & can_put(buffer), LineCall::Put(buffer, m), 3), // put
@@ -208,15 +217,16 @@ fn begun(first: Word, second: Word, third: Word) -> Head {
     }
 }
 
-// Where the bytes begin: behind the first word, the second or the third.
-fn start(words: u8, first: usize, second: usize, third: usize) -> usize
-    requires { ⌜ (first ≤ second) × (second ≤ third) ⌝ }
-    ensures { λ r. ⌜ r ≤ third ⌝ }
+// Where the bytes begin: behind the first word, the second, the third or the fourth.
+fn start(words: u8, first: usize, second: usize, third: usize, fourth: usize) -> usize
+    requires { ⌜ (first ≤ second) × (second ≤ third) × (third ≤ fourth) ⌝ }
+    ensures { λ r. ⌜ r ≤ fourth ⌝ }
 {
     match words {
         1 => first,
         2 => second,
-        _ => third,
+        3 => third,
+        _ => fourth,
     }
 }
 
@@ -260,11 +270,12 @@ pub fn read(line: &[u8], given: &mut [u8; 135000]) -> Asked
     let first = word_at(line, 0);
     let second = word_at(line, first.next);
     let third = word_at(line, second.next);
-    let head = begun(first, second, third);
+    let fourth = word_at(line, third.next);
+    let head = begun(first, second, third, fourth);
     let call = head.call;
     if head.words == 0 {
         return bare(call, first.next);
     }
-    let from = start(head.words, first.next, second.next, third.next);
+    let from = start(head.words, first.next, second.next, third.next, fourth.next);
     with_bytes(call, words::bytes(&line[from..], given), first.next)
 }

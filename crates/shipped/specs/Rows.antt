@@ -1,10 +1,10 @@
--- The rows shipped, as a person writes them (rules T30 to T36). Written by tools/table from samples/shipped-v1.table.txt.
+-- The rows shipped, as a person writes them (rules T30 to T37). Written by tools/table from samples/shipped-v1.table.txt.
 -- Assumes nothing.
 use mathlib.Core.List.{List, [], _∷_}
 use Rattle.kinds.specs.Types.{u1, u2, u4, u8, i1, i2, i4, i8, f4, f8}
 use Rattle.kinds.specs.Marks.{unmarked, ones, zeroes, minus2e10, least, seed}
 use Rattle.table.specs.Rows.{Table}
-use Rattle.shipped.specs.Words.{NamedBlock, block, field, tableOf}
+use Rattle.shipped.specs.Words.{NamedBlock, block, twoLevels, field, tableOf}
 
 abbrev pvtcartesian : NamedBlock
 pvtcartesian =
@@ -37,6 +37,39 @@ pvtcartesian =
     ∷ field "Misc" u1 94 2 unmarked
     ∷ [])
     []
+
+abbrev measepoch : NamedBlock
+measepoch =
+    twoLevels "MeasEpoch" 4027 1
+    (field "N1" u1 14 0 unmarked
+    ∷ field "SB1Length" u1 15 0 unmarked
+    ∷ field "SB2Length" u1 16 0 unmarked
+    ∷ field "CommonFlags" u1 17 0 unmarked
+    ∷ field "CumClkJumps" u1 18 1 unmarked
+    ∷ [])
+    (field "RxChannel" u1 0 0 unmarked
+    ∷ field "Type" u1 1 0 unmarked
+    ∷ field "SVID" u1 2 0 unmarked
+    ∷ field "Misc" u1 3 0 unmarked
+    ∷ field "CodeLSB" u4 4 0 unmarked
+    ∷ field "Doppler" i4 8 0 least
+    ∷ field "CarrierLSB" u2 12 0 unmarked
+    ∷ field "CarrierMSB" i1 14 0 unmarked
+    ∷ field "CN0" u1 15 0 ones
+    ∷ field "LockTime" u2 16 0 ones
+    ∷ field "ObsInfo" u1 18 0 unmarked
+    ∷ field "N2" u1 19 0 unmarked
+    ∷ [])
+    (field "Type" u1 0 0 unmarked
+    ∷ field "LockTime" u1 1 0 ones
+    ∷ field "CN0" u1 2 0 ones
+    ∷ field "OffsetsMSB" u1 3 0 unmarked
+    ∷ field "CarrierMSB" i1 4 0 unmarked
+    ∷ field "ObsInfo" u1 5 0 unmarked
+    ∷ field "CodeOffsetLSB" u2 6 0 unmarked
+    ∷ field "CarrierLSB" u2 8 0 unmarked
+    ∷ field "DopplerOffsetLSB" u2 10 0 unmarked
+    ∷ [])
 
 abbrev basevectorcart : NamedBlock
 basevectorcart =
@@ -127,4 +160,4 @@ endofatt =
     []
 
 abbrev pub shipped : Table
-shipped = tableOf 1 (pvtcartesian ∷ basevectorcart ∷ poscovgeodetic ∷ extevent ∷ atteuler ∷ attcoveuler ∷ endofatt ∷ [])
+shipped = tableOf 1 (pvtcartesian ∷ measepoch ∷ basevectorcart ∷ poscovgeodetic ∷ extevent ∷ atteuler ∷ attcoveuler ∷ endofatt ∷ [])

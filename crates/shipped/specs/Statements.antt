@@ -1,4 +1,4 @@
--- What is shown of the rows shipped (rules T30 to T36).
+-- What is shown of the rows shipped (rules T30 to T37).
 -- Assumes nothing.
 use Rattle.encode.specs.Theorems.{Encoded}
 use Rattle.shipped.specs.Rows.{shipped}

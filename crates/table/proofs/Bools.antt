@@ -21,16 +21,29 @@ pub zip5 : (a x b y c z d w e v : Bool)
 zip5 a x b y c z d w e v =
     rw (zip2 (a && b && c && d) (x && y && z && w) e v, zip2 (a && b && c) (x && y && z) d w, zip2 (a && b) (x && y) c z, zip2 a x b y)
 
-pub zip7 : (a x b y c z d w e v f u g t : Bool)
-    → (a && b && c && d && e && f && g && (x && y && z && w && v && u && t))
-    ≡ (a && x && (b && y) && (c && z) && (d && w) && (e && v) && (f && u) && (g && t))
-zip7 a x b y c z d w e v f u g t =
-    rw (zip2 (a && b && c && d && e && f) (x && y && z && w && v && u) g t, zip2 (a && b && c && d && e) (x && y && z && w && v) f u, zip5 a x b y c z d w e v)
+pub zip6 : (a x b y c z d w e v f u : Bool)
+    → (a && b && c && d && e && f && (x && y && z && w && v && u)) ≡ (a && x && (b && y) && (c && z) && (d && w) && (e && v) && (f && u))
+zip6 a x b y c z d w e v f u = rw (zip2 (a && b && c && d && e) (x && y && z && w && v) f u, zip5 a x b y c z d w e v)
 
 left-comm : (a b c : Bool) → (a && (b && c)) ≡ (b && (a && c))
 left-comm true b c = refl
 left-comm false b c = sym (and-false b)
 
 -- the tests of one pass over the rows, those on the form first
-pub sorted7 : (n h z r i u p : Bool) → (n && h && z && r && i && u && p) ≡ (z && i && u && (n && r && h && p))
-sorted7 n h z r i u p = simp (and-assoc, left-comm, and-comm)
+pub sorted6 : (n h r i u p : Bool) → (n && h && r && i && u && p) ≡ (i && u && (n && r && h && p))
+sorted6 n h r i u p = simp (and-assoc, left-comm, and-comm)
+
+-- the tests behind the first taken together; a test that holds adds nothing
+pub behind : (x a c p : Bool) → (x && a && c && p) ≡ (x && (a && c && p))
+behind true a c p = refl
+behind false a c p = refl
+
+pub behind-true : (x a p : Bool) → (x && a && true && p) ≡ (x && (a && p))
+behind-true true true p = refl
+behind-true true false p = refl
+behind-true false a p = refl
+
+pub last-four : (x y n m e : Bool) → (x && y && n && m && e) ≡ (x && y && (true && n && m && e))
+last-four true true n m e = refl
+last-four true false n m e = refl
+last-four false y n m e = refl

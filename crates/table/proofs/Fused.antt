@@ -1,6 +1,6 @@
 -- The one pass over the rows is the rules: `blockPass` is `blockOk`, and `rowPass` the rules on block rows with `blockOk` of every block.
 -- Assumes nothing.
-use mathlib.Core.Bool.{Bool, true, false, _&&_, and-assoc, and-true}
+use mathlib.Core.Bool.{Bool, true, false, _&&_, cond, and-assoc, and-true}
 use mathlib.Core.List.{List, [], _∷_, map}
 use mathlib.Core.Path.{_≡_, refl, sym, ap, _∙_}
 use Prim.Native.Nat.{ℕ, _+_, _≤_}
@@ -8,15 +8,16 @@ use native.Mathlib.Nat.{zero-add, add-zero}
 use native.Mathlib.Numerals.{add-one}
 use native.Mathlib.Omega.{arith}
 use lib.Dec.{ltb, leb, eqb, leb·zero}
+use lib.ListN.{take, drop}
 use borrow.Author.Tests.{leb-true, eqb-true, le-leb}
 use Rattle.rows.specs.declared.FieldRow.{FieldRow}
 use Rattle.rows.specs.declared.Row.{Row}
 use Rattle.table.specs.Lists.{every, chain, neighbours}
-use Rattle.table.specs.Rows.{BlockRow, ends}
+use Rattle.table.specs.Rows.{BlockRow, ends, oneLevel, firstRows, secondRows}
 use Rattle.table.specs.Decode.{blockOf}
-use Rattle.table.specs.Rules.{zeroOk, indexOk, usedFields, usedOk, numberOk, risingOk, highestOk, offsetOk, apart, steady, firstOk, typeOk, markOk, fieldsOk, blockOk}
-use Rattle.table.specs.Code.{fieldStep, fieldPass, blockPass, rowStep, rowPass}
-use Rattle.table.proofs.Bools.{implied, zip5, zip7, sorted7}
+use Rattle.table.specs.Rules.{indexOk, usedFields, usedOk, numberOk, risingOk, highestOk, offsetOk, apart, steady, firstOk, typeOk, markOk, fieldsOk, pairOk, nestOk, shapeOk, blockOk}
+use Rattle.table.specs.Code.{fieldStep, fieldPass, onePass, twoPass, blockPass, rowStep, rowPass}
+use Rattle.table.proofs.Bools.{implied, zip5, zip6, sorted6, behind, behind-true}
 use Rattle.table.proofs.Lists.{starts, chain-starts, neighbours-starts, starts-ext, every-map, neighbours-map}
 use Rattle.wire.proofs.Tests.{both, both-true}
 
@@ -84,9 +85,26 @@ module _ (top : ℕ) (fs : List FieldRow) where
       ∙ ap (λ (x : Bool). x && (b && c && d && e)) (all-from 14 fs) ∙ sym (regroup (starts (from 14) apart fs) b c d e)
       ∙ rw steady-zero (sym (field-fused 14 0 top fs))
 
-pub block-is : (b : BlockRow) → blockOk b ≡ blockPass b
-unfolding blockOk blockPass
-block-is b = rw (body-is (b .highest) (b .body), subs-are (b .highest) (b .subs))
+-- without rows there is nothing to break
+no-rows : (top : ℕ) → fieldsOk top [] ≡ true
+unfolding fieldsOk neighbours every
+no-rows top = refl
+
+module _ (b : BlockRow) where
+  -- the rules on the rows of each level, by whether there is one
+  levels-are : (one x : Bool)
+      → (x && fieldsOk (b .highest) (cond one (b .subs) (take (b .firsts) (b .subs))) && fieldsOk (b .highest) (cond one [] (drop (b .firsts) (b .subs))) && cond one (pairOk b) (nestOk b))
+      ≡ (x && cond one (onePass b) (twoPass b))
+  unfolding onePass twoPass
+  levels-are true x =
+      rw (no-rows (b .highest), subs-are (b .highest) (b .subs)) (behind-true x (fieldPass 0 0 (b .highest) (b .subs)) (pairOk b))
+  levels-are false x =
+      rw (subs-are (b .highest) (take (b .firsts) (b .subs)), subs-are (b .highest) (drop (b .firsts) (b .subs)))
+      (behind x (fieldPass 0 0 (b .highest) (take (b .firsts) (b .subs))) (fieldPass 0 0 (b .highest) (drop (b .firsts) (b .subs))) (nestOk b))
+
+  pub block-is : blockOk b ≡ blockPass b
+  unfolding blockOk blockPass firstRows secondRows shapeOk
+  block-is = rw (body-is (b .highest) (b .body)) (levels-are (oneLevel b) (fieldPass 14 0 (b .highest) (b .body)))
 
 -- Block rows.
 
@@ -111,7 +129,7 @@ module _ (t : List ℕ) where
 
   row-fused : (least used fields : ℕ) (rs : List Row)
       → rowPass t least used fields rs
-      ≡ (every numberRow rs && every highestRow rs && every zeroOk rs && starts (atLeast least) belowRow rs && indexOk used rs && eqb (used + usedFields rs) fields && every passes rs)
+      ≡ (every numberRow rs && every highestRow rs && starts (atLeast least) belowRow rs && indexOk used rs && eqb (used + usedFields rs) fields && every passes rs)
   unfolding rowPass rowStep starts every indexOk usedFields
   row-fused least used fields [] = rw (add-zero used, and-true (eqb used fields))
   row-fused least used fields (r ∷ rs) =
@@ -120,7 +138,7 @@ module _ (t : List ℕ) where
       let fit : (eqb (used + more + usedFields rs) fields ≡ true → leb (used + more) fields ≡ true) =
       λ e. let q = eqb-true (used + more + usedFields rs) fields e in le-leb (used + more) fields (omega arith) in
       rw (row-fused (r .number + 1) (used + more) fields rs, rising-next r rs, n)
-      (zip7 (numberRow r) (every numberRow rs) (highestRow r) (every highestRow rs) (zeroOk r) (every zeroOk rs) (atLeast least r) (chain belowRow r rs)
+      (zip6 (numberRow r) (every numberRow rs) (highestRow r) (every highestRow rs) (atLeast least r) (chain belowRow r rs)
       (eqb (r .start) used) (indexOk (used + more) rs) (leb (used + more) fields) (eqb (used + more + usedFields rs) fields) (passes r) (every passes rs)
       ∙ rw (implied (leb (used + more) fields) (eqb (used + more + usedFields rs) fields) fit))
 
@@ -150,9 +168,9 @@ module _ (t : List ℕ) where
     blocks-are = every-map (blockOf t) blockOk rs ∙ every-ext (λ (r : Row). blockOk (blockOf t r)) passes (λ r. block-is (blockOf t r)) rs
 
     pub rows-are : (fields : ℕ)
-        → (every zeroOk rs && indexOk 0 rs && usedOk fields rs && (every numberOk blocks && risingOk blocks && every highestOk blocks && every blockOk blocks))
+        → (indexOk 0 rs && usedOk fields rs && (every numberOk blocks && risingOk blocks && every highestOk blocks && every blockOk blocks))
         ≡ rowPass t 0 0 fields rs
     rows-are fields =
         rw (numbers-are, rising-is, highest-are, blocks-are)
         (sym (row-fused 0 0 fields rs ∙ rw (zero-add (usedFields rs), ← neighbours-starts belowRow (atLeast 0) (λ r. leb·zero (r .number)) rs)
-        (sorted7 (every numberRow rs) (every highestRow rs) (every zeroOk rs) (neighbours belowRow rs) (indexOk 0 rs) (eqb (usedFields rs) fields) (every passes rs))))
+        (sorted6 (every numberRow rs) (every highestRow rs) (neighbours belowRow rs) (indexOk 0 rs) (eqb (usedFields rs) fields) (every passes rs))))

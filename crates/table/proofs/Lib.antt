@@ -5,3 +5,4 @@ pub mod Passed
 pub mod Loops
 pub mod Laws
 pub mod Told
+pub mod Levels

@@ -5,9 +5,9 @@ use mathlib.Core.List.{List, [], _∷_, map}
 use mathlib.Core.Option.{Option, none, some, Option·map}
 use mathlib.Core.Path.{_≡_, refl, sym, ap, _∙_}
 use Prim.Native.Nat.{ℕ, zero, suc, _+_, _-_, _<_, _≤_}
-use native.Mathlib.Nat.{add-zero, not-suc-le-zero}
+use native.Mathlib.Nat.{add-zero, sub-zero, not-suc-le-zero}
 use native.Mathlib.Omega.{arith}
-use lib.ListN.{length}
+use lib.ListN.{length, take, drop}
 use Rattle.table.specs.Lists.{tabulate, every, chain, neighbours, firstThat, pick}
 use Rattle.wire.proofs.Tests.{both}
 
@@ -24,6 +24,22 @@ module _ {A : Type 0} (f : ℕ → A) where
   unfolding tabulate
   length-tab i zero = refl
   length-tab i (suc k) = ap suc (length-tab (i + 1) k)
+
+  -- the front of a list by index, and the rest
+  pub take-tab : (i k n : ℕ) → n ≤ k → take n (tabulate f i k) ≡ tabulate f i n
+  unfolding tabulate
+  take-tab i k zero h = refl
+  take-tab i zero (suc n) h = absurd (not-suc-le-zero h)
+  take-tab i (suc k) (suc n) h = ap (λ (xs : List A). f i ∷ xs) (take-tab (i + 1) k n (omega arith))
+
+  pub drop-tab : (i k n : ℕ) → n ≤ k → drop n (tabulate f i k) ≡ tabulate f (i + n) (k - n)
+  unfolding tabulate
+  drop-tab i k zero h = rw (add-zero, sub-zero)
+  drop-tab i zero (suc n) h = absurd (not-suc-le-zero h)
+  drop-tab i (suc k) (suc n) h =
+      let m : i + 1 + n ≡ i + suc n = omega arith in
+      let l : suc k - suc n ≡ k - n = omega arith in
+      rw (l, ← m) (drop-tab (i + 1) k n (omega arith))
 
   -- what holds of every one holds of each
   pub every-at : (p : A → Bool) (i k j : ℕ) → every p (tabulate f i k) ≡ true → j < k → p (f (i + j)) ≡ true

@@ -15,7 +15,7 @@ use Rattle.table.specs.Lists.{tabulate, every}
 use Rattle.table.specs.Rows.{Table}
 use Rattle.rows.specs.Places.{blockCount, fieldCount, rowAt}
 use Rattle.table.specs.Decode.{toBlocks, toFields, crcField, covered, rowsOf, blockOf, decode}
-use Rattle.table.specs.Rules.{sizeOk, partsOk, countOk, toBlocksOk, toFieldsOk, crcOk, closingOk, fileOk, zeroOk, indexOk, usedFields, usedOk, formOk}
+use Rattle.table.specs.Rules.{sizeOk, partsOk, countOk, toBlocksOk, toFieldsOk, crcOk, closingOk, fileOk, indexOk, usedFields, usedOk, formOk}
 use Rattle.table.specs.Rules.{numberOk, risingOk, highestOk, blockOk, meaningOk, tableOk}
 use Rattle.table.specs.Lookup.{Stands}
 use Rattle.table.proofs.Lists.{every-at, every-map}
@@ -81,7 +81,6 @@ meaning tab e =
 
 pub record Passed (t : List ℕ) : Type 0 where
   pub file : File t
-  pub zeros : every zeroOk (rowsOf t) ≡ true
   pub index : indexOk 0 (rowsOf t) ≡ true
   pub used : usedFields (rowsOf t) ≡ fieldCount t
   pub meaning : Meaning (decode t)
@@ -90,11 +89,10 @@ pub passed : (t : List ℕ) → tableOk t ≡ true → Passed t
 unfolding tableOk formOk
 passed t e =
     let rs = rowsOf t in
-    let a = both (fileOk t && every zeroOk rs && indexOk 0 rs && usedOk (fieldCount t) rs) _ e in
-    let b = both (fileOk t && every zeroOk rs && indexOk 0 rs) _ (a .0) in
-    let c = both (fileOk t && every zeroOk rs) _ (b .0) in
-    let d = both (fileOk t) _ (c .0) in
-    record { file = file t (d .0); zeros = d .1; index = c .1; used = eqb-true _ _ (b .1); meaning = meaning (decode t) (a .1) }
+    let a = both (fileOk t && indexOk 0 rs && usedOk (fieldCount t) rs) _ e in
+    let b = both (fileOk t && indexOk 0 rs) _ (a .0) in
+    let c = both (fileOk t) _ (b .0) in
+    record { file = file t (c .0); index = c .1; used = eqb-true _ _ (b .1); meaning = meaning (decode t) (a .1) }
 
 -- a row's field rows are among the counted ones
 index-at : (f : ℕ → Row) (before i k j : ℕ) → indexOk before (tabulate f i k) ≡ true → j < k

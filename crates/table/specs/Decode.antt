@@ -1,8 +1,10 @@
 -- From bytes to meaning: the rest of the trailer (rule T2), and what the rows mean (T7, T10). The crate `encode` goes the other
 -- way.
 -- Assumes nothing.
+use mathlib.Core.Bool.{cond}
 use mathlib.Core.List.{List, map}
 use Prim.Native.Nat.{ℕ, _+_, _-_}
+use lib.Dec.{eqb}
 use lib.ListN.{length, take}
 use Rattle.wire.specs.Little.{littleAt}
 use Rattle.rows.specs.declared.Row.{Row}
@@ -28,7 +30,7 @@ covered t = take (length t - 4) t
 unfoldable pub rowsOf : List ℕ → List Row
 rowsOf t = tabulate (rowAt t) 0 (blockCount t)
 
--- T10: from the index on, the body rows and then the sub-field rows
+-- T10, T17: from the index on, the body rows and then the sub-field rows, the first level's first
 unfoldable pub blockOf : List ℕ → Row → BlockRow
 blockOf t r =
     record {
@@ -36,7 +38,12 @@ blockOf t r =
       highest = r .highest;
       body = tabulate (fieldAt t) (r .start) (r .bodies);
       subs = tabulate (fieldAt t) (r .start + r .bodies) (r .subs);
+      firsts = r .firsts;
     }
+
+-- T17: of a row as it stands, how many rows the first level has, or the only one
+unfoldable pub firstCount : Row → ℕ
+firstCount r = cond (eqb (r .firsts) 0) (r .subs) (r .firsts)
 
 -- T2, T7, T11: what the bytes mean
 unfoldable pub decode : List ℕ → Table

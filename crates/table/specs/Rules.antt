@@ -1,7 +1,8 @@
--- The rules of a table, T1 to T17, each by itself: on its form, `formOk`, on its meaning, `meaningOk`, and all, `tableOk`.
+-- The rules of a table, T1 to T17, T19 and T20, each by itself: on its form, `formOk`, on its meaning, `meaningOk`, and all, `tableOk`.
 -- Assumes nothing.
-use mathlib.Core.Bool.{Bool, true, false, _&&_, _||_}
+use mathlib.Core.Bool.{Bool, true, false, _&&_, _||_, cond}
 use mathlib.Core.List.{List, [], _∷_}
+use mathlib.Core.Option.{Option, none, some}
 use Prim.Native.Nat.{ℕ, _+_, _-_, _*_}
 use lib.Dec.{ltb, leb, eqb}
 use lib.ListN.{length, getD}
@@ -11,7 +12,7 @@ use Rattle.kinds.specs.Marks.{unmarked, markFits}
 use Rattle.rows.specs.declared.FieldRow.{FieldRow}
 use Rattle.rows.specs.declared.Row.{Row}
 use Rattle.table.specs.Lists.{every, neighbours}
-use Rattle.table.specs.Rows.{BlockRow, Table, ends}
+use Rattle.table.specs.Rows.{BlockRow, Table, ends, oneLevel, firstRows, secondRows, nestedRow}
 use Rattle.rows.specs.Places.{blockCount, fieldCount}
 use Rattle.table.specs.Decode.{toBlocks, toFields, crcField, covered, rowsOf, decode}
 
@@ -51,10 +52,6 @@ fileOk t = sizeOk t && partsOk t && countOk t && toBlocksOk t && toFieldsOk t &&
 
 -- Block rows, as they stand.
 
--- T17: the last byte
-abbrev pub zeroOk : Row → Bool
-zeroOk r = eqb (r .zero) 0
-
 -- T10: an index is the number of field rows claimed before it, `before` at the first of these rows
 unfoldable pub indexOk : ℕ → List Row → Bool
 indexOk before [] = true
@@ -69,9 +66,9 @@ usedFields (r ∷ rs) = r .bodies + r .subs + usedFields rs
 abbrev pub usedOk : ℕ → List Row → Bool
 usedOk fields rs = eqb (usedFields rs) fields
 
--- T1, T3 to T6, T10, T17
+-- T1, T3 to T6, T10
 unfoldable pub formOk : List ℕ → Bool
-formOk t = fileOk t && every zeroOk (rowsOf t) && indexOk 0 (rowsOf t) && usedOk (fieldCount t) (rowsOf t)
+formOk t = fileOk t && indexOk 0 (rowsOf t) && usedOk (fieldCount t) (rowsOf t)
 
 -- The meaning: nothing in `meaningOk` knows of bytes. Block rows.
 
@@ -105,7 +102,7 @@ steady f g = leb (f .first) (g .first)
 abbrev pub firstOk : ℕ → FieldRow → Bool
 firstOk highest f = leb (f .first) highest
 
--- T16: N or SBLength
+-- T16, T20: a count or a length in one byte
 abbrev pub isCount : ℕ → FieldRow → Bool
 isCount at f = eqb (f .offset) at && eqb (f .kind) u1 && eqb (f .first) 0 && eqb (f .mark) unmarked
 
@@ -116,9 +113,37 @@ isPair (n ∷ []) = false
 isPair (n ∷ s ∷ []) = isCount 14 n && isCount 15 s
 isPair (n ∷ s ∷ f ∷ fs) = false
 
--- T16: only a block with sub-fields has to have that body
+-- T16: of one level, only a block with sub-fields has to have that body
 abbrev pub pairOk : BlockRow → Bool
 pairOk b = eqb (length (b .subs)) 0 || isPair (b .body)
+
+-- T19: the first level's rows are there
+abbrev pub levelsOk : BlockRow → Bool
+levelsOk b = leb (b .firsts) (length (b .subs))
+
+-- T20: N2, at whatever offset
+abbrev pub isNested : Option FieldRow → Bool
+isNested none = false
+isNested (some f) = isCount (f .offset) f
+
+-- T20: the body begins with N1, SB1Length and SB2Length
+unfoldable pub isTriple : List FieldRow → Bool
+isTriple [] = false
+isTriple (n ∷ []) = false
+isTriple (n ∷ s ∷ []) = false
+isTriple (n ∷ s ∷ z ∷ fs) = isCount 14 n && isCount 15 s && isCount 16 z
+
+-- T20: before the sub-blocks
+abbrev pub early : FieldRow → Bool
+early f = leb (ends f) 20
+
+-- T19, T20: of two levels
+unfoldable pub nestOk : BlockRow → Bool
+nestOk b = levelsOk b && isNested (nestedRow b) && isTriple (b .body) && every early (b .body)
+
+-- T16, T19, T20: of one level, and of two
+unfoldable pub shapeOk : BlockRow → Bool
+shapeOk b = cond (oneLevel b) (pairOk b) (nestOk b)
 
 -- T15: the type
 abbrev pub typeOk : FieldRow → Bool
@@ -128,18 +153,19 @@ typeOk f = listed (f .kind)
 abbrev pub markOk : FieldRow → Bool
 markOk f = markFits (f .kind) (f .mark)
 
--- T13 to T15, of a body as of sub-fields
+-- T13 to T15, of a body as of the sub-fields of a level
 unfoldable pub fieldsOk : ℕ → List FieldRow → Bool
 fieldsOk highest fs = neighbours apart fs && neighbours steady fs && every (firstOk highest) fs && every typeOk fs && every markOk fs
 
--- T12 to T16
+-- T12 to T16, T19, T20
 unfoldable pub blockOk : BlockRow → Bool
-blockOk b = every offsetOk (b .body) && fieldsOk (b .highest) (b .body) && fieldsOk (b .highest) (b .subs) && pairOk b
+blockOk b =
+    every offsetOk (b .body) && fieldsOk (b .highest) (b .body) && fieldsOk (b .highest) (firstRows b) && fieldsOk (b .highest) (secondRows b) && shapeOk b
 
--- T8, T9, T12 to T16
+-- T8, T9, T12 to T16, T19, T20
 unfoldable pub meaningOk : Table → Bool
 meaningOk tab = every numberOk (tab .rows) && risingOk (tab .rows) && every highestOk (tab .rows) && every blockOk (tab .rows)
 
--- T1 to T17. T2, T7 and T11 say where things stand: `decode` has them
+-- All of them. T2, T7, T11 and T17 say where things stand and what they are: `decode` has them
 unfoldable pub tableOk : List ℕ → Bool
 tableOk t = formOk t && meaningOk (decode t)

@@ -1,6 +1,7 @@
-// The block table: its check (rules T1 to T17), and the row of a block's number.
+// The block table: its check (rules T1 to T20), and the row of a block's number.
 ghost use mathlib.Core.Path.{_≡_};
 ghost use mathlib.Core.Bool.{true};
+ghost use Rattle.table.specs.Decode.{firstCount};
 ghost use Rattle.table.specs.Rules.{tableOk};
 ghost use Rattle.table.specs.Answer.{checkSays, checkOf};
 ghost use Rattle.table.specs.Lookup.{Finding};
@@ -51,6 +52,13 @@ pub fn find(t: &[u8], number: u16) -> RowFound
         i += 1;
     }
     RowFound::Nothing
+}
+
+// How many field rows the first level of a block row has, or the only one.
+pub fn first_count(r: Row) -> usize
+    ensures { λ n. ⌜ n ≡ firstCount r ⌝ }
+{
+    if r.firsts == 0 { r.subs } else { r.firsts }
 }
 
 // A number has one row.

@@ -30,6 +30,9 @@ KeysHold =
     × Key "body" 0x626f6479
     × Key "subbytes" 0x7375626279746573
     × Key "sub" 0x737562
+    × Key "sub2" 0x73756232
+    × Key "range" 0x72616e6765
+    × Key "range2" 0x72616e676532
     × Key "write" 0x7772697465
     × Key "poke" 0x706f6b65
     × Key "put" 0x707574

@@ -31,7 +31,7 @@ module _ {b : BlockRow} (h : Head) (kinds bits : List ℕ) {subs : ℕ} {z : Mea
 
   pub given-end : 14 ≤ z .end
   unfolding blockEndBy
-  given-end = let n = at-last (h .revision) 14 (b .body) (row-kept b (w .rules) .body .order) in let e = w .sizes .end in omega arith
+  given-end = let n = at-last (h .revision) 14 (b .body) (row-kept b (w .rules) (w .one) .body .order) in let e = w .sizes .end in omega arith
 
   pub given-all : (16 ≤ z .all) × (z .end ≤ z .all)
   given-all = let n = given-end in let e = w .sizes .end in let f = w .sizes .all in (omega arith, omega arith)
@@ -45,8 +45,8 @@ module _ {b : BlockRow} (h : Head) (kinds bits : List ℕ) {subs : ℕ} {z : Mea
       let c = w .count in
       let f = w .fits in
       record {
-        body = row-kept b (w .rules) .body .order;
-        inner = row-kept b (w .rules) .subs .order;
+        body = row-kept b (w .rules) (w .one) .body .order;
+        inner = row-kept b (w .rules) (w .one) .subs .order;
         count = c;
         few = omega arith;
         size = w .sizes .sub;
@@ -55,7 +55,7 @@ module _ {b : BlockRow} (h : Head) (kinds bits : List ℕ) {subs : ℕ} {z : Mea
         ends = omega arith;
         values = values-allowed a;
         lists = lists-allowed a;
-        pair = λ y. pair-end (b .body) (row-kept b (w .rules) .pair y) (h .revision);
+        pair = λ y. pair-end (b .body) (row-kept b (w .rules) (w .one) .pair y) (h .revision);
       }
 
   -- by the stores that the code makes, one after the other
@@ -69,4 +69,4 @@ module _ {b : BlockRow} (h : Head) (kinds bits : List ℕ) {subs : ℕ} {z : Mea
       let sub : z .sub ≡ sbLength b d = w .sizes .sub ∙ ap (sbLengthBy b (h .revision)) (w .count) in
       let f = w .fits in
       let m = w .small in
-      e₄ ∙ rw (e₃, e₂, e₁, end, all) (block-is b h kinds bits (w .rules) (w .ok) (omega arith) s (omega arith))
+      e₄ ∙ rw (e₃, e₂, e₁, end, all) (block-is b h kinds bits (w .rules) (w .one) (w .ok) (omega arith) s (omega arith))

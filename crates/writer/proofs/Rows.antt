@@ -8,14 +8,15 @@ use Prim.Native.Nat.{ℕ, _%_, _≤_, _<_}
 use native.Mathlib.Omega.{arith}
 use lib.Dec.{leb, eqb}
 use lib.ListN.{length}
-use borrow.Author.Tests.{eqb-true, le-leb, lt-ltb}
+use borrow.Author.Tests.{eqb-true, eq-eqb, le-leb, lt-ltb}
 use Rattle.kinds.specs.Types.{u1, sizeOf}
 use Rattle.kinds.specs.Marks.{unmarked, isDoNotUse}
 use Rattle.rows.specs.declared.FieldRow.{FieldRow}
 use Rattle.rows.specs.Places.{fieldRow}
-use Rattle.table.specs.Rows.{BlockRow, ends}
+use Rattle.table.specs.Rows.{BlockRow, ends, firstRows, secondRows}
 use Rattle.table.specs.Lists.{every, chain, neighbours}
-use Rattle.table.specs.Rules.{offsetOk, apart, steady, firstOk, typeOk, markOk, isCount, isPair, fieldsOk, blockOk}
+use Rattle.table.specs.Rules.{offsetOk, apart, steady, firstOk, typeOk, markOk, isCount, isPair, fieldsOk, shapeOk, blockOk}
+use Rattle.table.proofs.Levels.{one-first}
 use Rattle.value.specs.Said.{unsigned}
 use Rattle.block.specs.Block.{hasSubs}
 use Rattle.wire.proofs.Tests.{both, both-true, bool?, never}
@@ -68,17 +69,19 @@ or-right : (a b : Bool) → (a || b) ≡ true → not a ≡ true → b ≡ true
 or-right true b e n = never n refl
 or-right false b e n = e
 
-pub row-kept : (r : BlockRow) → blockOk r ≡ true → RowKept r
-unfolding blockOk
-row-kept r e =
+-- of a row of one level
+pub row-kept : (r : BlockRow) → blockOk r ≡ true → r .firsts ≡ 0 → RowKept r
+unfolding blockOk shapeOk
+row-kept r e one =
     let h = r .highest in
-    let a = both (every offsetOk (r .body) && fieldsOk h (r .body) && fieldsOk h (r .subs)) _ e in
+    let s = both (every offsetOk (r .body) && fieldsOk h (r .body) && fieldsOk h (firstRows r) && fieldsOk h (secondRows r)) _ e in
+    let a = both (every offsetOk (r .body) && fieldsOk h (r .body) && fieldsOk h (firstRows r)) _ (s .0) in
     let b = both (every offsetOk (r .body) && fieldsOk h (r .body)) _ (a .0) in
     let c = both (every offsetOk (r .body)) _ (b .0) in
     record {
       body = fields-kept 14 h (r .body) (c .0) (c .1);
-      subs = fields-kept 0 h (r .subs) (from-zero (r .subs)) (b .1);
-      pair = or-right (eqb (length (r .subs)) 0) (isPair (r .body)) (a .1);
+      subs = fields-kept 0 h (r .subs) (from-zero (r .subs)) (rw (one-first r one) at (b .1));
+      pair = or-right (eqb (length (r .subs)) 0) (isPair (r .body)) (rw (eq-eqb (r .firsts) 0 one) at (s .1));
     }
 
 -- N and SBLength

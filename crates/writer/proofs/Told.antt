@@ -8,7 +8,7 @@ use Prim.Native.Nat.{ℕ, _+_, _*_, _/_, _≤_, _<_}
 use native.Mathlib.Omega.{arith}
 use lib.Dec.{leb}
 use lib.ListN.{length}
-use borrow.Author.Tests.{leb-true, ne-eqb}
+use borrow.Author.Tests.{leb-true, eq-eqb, ne-eqb}
 use Rattle.rows.specs.declared.Row.{Row}
 use Rattle.rows.specs.Places.{fieldCount}
 use Rattle.table.specs.declared.RowFound.{RowFound}
@@ -27,7 +27,7 @@ use Rattle.draft.specs.Draft.{Draft, draftOk, sbLengthBy, sbLength, blockEndBy,
 use Rattle.draft.proofs.Admitted.{admitted}
 use Rattle.draft.specs.Code.{Accepting, Sizing}
 use Rattle.writer.specs.Block.{blockBytes}
-use Rattle.writer.specs.Write.{wrote, writeRefused, WriteOutcome, writeOutcome, writtenBy, writtenOf}
+use Rattle.writer.specs.Write.{wrote, writeRefused, WriteOutcome, writeOutcome, writtenBy, writableRow, writtenOf}
 use Rattle.writer.specs.Code.{Writable}
 
 -- by its row
@@ -65,11 +65,12 @@ module _ (b : BlockRow) (d : Draft) {a : Accepted} (accepting : Accepting (draft
       told-12 e = rw (accepted, sym room-is ∙ e)
 
       module _ (room : roomy ≡ true) where
-        pub told-writable : blockOk b ≡ true → Writable b d (a .subs) z (length buffer)
-        told-writable rules =
+        pub told-writable : blockOk b ≡ true → b .firsts ≡ 0 → Writable b d (a .subs) z (length buffer)
+        told-writable rules one =
             let x = both (leb (z .all) (length buffer) && leb (z .all) 65532) _ room in
             record {
               rules = rules;
+              one = one;
               ok = accepted;
               count = accepting .count yes;
               sizes = sizing;
@@ -81,6 +82,11 @@ module _ (b : BlockRow) (d : Draft) {a : Accepted} (accepting : Accepting (draft
         unfolding writtenBy
         told-length e = rw (accepted, sym room-is ∙ room, e, all-is)
 
+-- a row as it stands
+pub one-seen : (t : List ℕ) (row : Row) → row .firsts ≡ 0 → blockOf t row .firsts ≡ 0
+unfolding blockOf
+one-seen t row one = one
+
 -- by a table
 no-number : (n : ℕ) (bs : List BlockRow) → every numberOk bs ≡ true → 8191 < n → firstThat (hasNumber n) bs ≡ none
 unfolding every firstThat
@@ -91,6 +97,16 @@ no-number n (b ∷ bs) e h =
     let m : (b .number ≡ n → ⊥) = λ q. omega arith in
     rw (ne-eqb (b .number) n m) (no-number n bs (a .1) h)
 
+-- a row of two levels, and one of one level
+two-refused : (t : List ℕ) (row : Row) → (row .firsts ≡ 0 → ⊥) → (d : Draft) (buffer : List ℕ)
+    → writeOutcome (writeRefused 6) buffer ≡ writtenBy (writableRow (some (blockOf t row))) d buffer
+unfolding blockOf writtenBy
+two-refused t row two d buffer = rw (ne-eqb (row .firsts) 0 two)
+
+one-writable : (t : List ℕ) (row : Row) → row .firsts ≡ 0 → writableRow (some (blockOf t row)) ≡ some (blockOf t row)
+unfolding blockOf
+one-writable t row one = rw (eq-eqb (row .firsts) 0 one)
+
 module _ (t : List ℕ) (d : Draft) (buffer : List ℕ) where
   pub told-high : tableOk t ≡ true → 65535 < d .number → writeOutcome (writeRefused 6) buffer ≡ writtenOf (decode t) d buffer
   unfolding writtenOf writtenBy findRow
@@ -99,7 +115,7 @@ module _ (t : List ℕ) (d : Draft) (buffer : List ℕ) where
   module _ {f : RowFound} (finding : Finding t (d .number) f) where
     pub told-6 : f ≡ found.Nothing → writeOutcome (writeRefused 6) buffer ≡ writtenOf (decode t) d buffer
     unfolding writtenOf writtenBy
-    told-6 e = ap (λ (x : Option BlockRow). writtenBy x d buffer) (sym (ap (rowSays t) e) ∙ finding .is)
+    told-6 e = ap (λ (x : Option BlockRow). writtenBy (writableRow x) d buffer) (sym (ap (rowSays t) e) ∙ finding .is)
 
     module _ {row : Row} (e : f ≡ found.At row) where
       stands : Stands t row
@@ -111,6 +127,14 @@ module _ (t : List ℕ) (d : Draft) (buffer : List ℕ) where
       pub told-rules : blockOk (blockOf t row) ≡ true
       told-rules = stands .rules
 
-      pub told-found : {o : WriteOutcome} → o ≡ writtenBy (some (blockOf t row)) d buffer → o ≡ writtenOf (decode t) d buffer
+      found-is : writtenBy (writableRow (some (blockOf t row))) d buffer ≡ writtenOf (decode t) d buffer
       unfolding writtenOf
-      told-found g = g ∙ ap (λ (x : Option BlockRow). writtenBy x d buffer) (sym (ap (rowSays t) e) ∙ finding .is)
+      found-is = ap (λ (x : Option BlockRow). writtenBy (writableRow x) d buffer) (sym (ap (rowSays t) e) ∙ finding .is)
+
+      -- W1: by a row of two levels nothing is written
+      pub told-two : (row .firsts ≡ 0 → ⊥) → writeOutcome (writeRefused 6) buffer ≡ writtenOf (decode t) d buffer
+      told-two two = two-refused t row two d buffer ∙ found-is
+
+      -- and by one of one level the row decides
+      pub told-found : row .firsts ≡ 0 → {o : WriteOutcome} → o ≡ writtenBy (some (blockOf t row)) d buffer → o ≡ writtenOf (decode t) d buffer
+      told-found one g = g ∙ ap (λ (x : Option BlockRow). writtenBy x d buffer) (sym (one-writable t row one)) ∙ found-is

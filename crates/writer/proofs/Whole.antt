@@ -46,7 +46,7 @@ none-of [] h = refl
 none-of (x ∷ xs) h = let f : ⊥ = omega arith in absurd f
 
 -- the parts
-module _ (r : BlockRow) (h : Head) (kinds bits : List ℕ) (rules : blockOk r ≡ true) (ok : draftOk r (draftOf h kinds bits) ≡ true)
+module _ (r : BlockRow) (h : Head) (kinds bits : List ℕ) (rules : blockOk r ≡ true) (one : r .firsts ≡ 0) (ok : draftOk r (draftOf h kinds bits) ≡ true)
     (small : sbLength r (draftOf h kinds bits) ≤ 255) where
   abbrev d : Draft
   d = draftOf h kinds bits
@@ -58,7 +58,7 @@ module _ (r : BlockRow) (h : Head) (kinds bits : List ℕ) (rules : blockOk r �
   unfolding bodyValues subsPart listsOut flatMap
   body-and-subs =
       bool? (hasSubs r)
-      (λ e. rw (e, pair-out (r .body) (row-kept r rules .pair e) (d .revision) (length (d .subs)) (sbLength r d) (admitted r d ok .few) small))
+      (λ e. rw (e, pair-out (r .body) (row-kept r rules one .pair e) (d .revision) (length (d .subs)) (sbLength r d) (admitted r d ok .few) small))
       (λ e. rw (e, none-of (d .subs) (admitted r d ok .alone e)) (append-nil (laid (h .revision) 14 (r .body) (valuesIn kinds bits))))
 
   parts-are : stampsAndBody r d ++ subsPart r d ≡ stampsOut d ++ lists
@@ -66,7 +66,7 @@ module _ (r : BlockRow) (h : Head) (kinds bits : List ℕ) (rules : blockOk r �
       rw (fields-are r d, append-assoc (stampsOut d) (laid (d .revision) 14 (r .body) (bodyValues r d)) (subsPart r d), body-and-subs)
 
   length-parts : 8 + length (stampsOut d ++ lists) ≡ blockEnd r d
-  length-parts = sym (ap (λ (x : List ℕ). 8 + length x) parts-are) ∙ length-all r d (row-kept r rules)
+  length-parts = sym (ap (λ (x : List ℕ). 8 + length x) parts-are) ∙ length-all r d (row-kept r rules one)
 
   -- stored one over the other, and closed, they are the block
   module _ (s : List ℕ) (room : blockLength r d ≤ length s) where
@@ -98,12 +98,12 @@ module _ (r : BlockRow) (h : Head) (kinds bits : List ℕ) (rules : blockOk r �
 
     all-long : 16 ≤ all
     unfolding blockEndBy
-    all-long = let n = at-last (d .revision) 14 (r .body) (row-kept r rules .body .order) in omega arith
+    all-long = let n = at-last (d .revision) 14 (r .body) (row-kept r rules one .body .order) in omega arith
 
     sealed-is : sealed (sets s 8 filled) (idFor d) all ≡ sets s 0 (blockBytes r d)
     unfolding sealed blockBytes littleBytes
     sealed-is =
-        let l : length (unsealedBlock r d) ≡ all - 4 = omega (arith, length-unsealed r d (row-kept r rules)) in
+        let l : length (unsealedBlock r d) ≡ all - 4 = omega (arith, length-unsealed r d (row-kept r rules one)) in
         let n = all-long in
         let c : take (all - 4) (drop 4 (sets s 4 (unsealedBlock r d))) ≡ unsealedBlock r d =
         ap (λ (x : ℕ). take x (drop 4 (sets s 4 (unsealedBlock r d)))) (sym l) ∙ stored-part s 4 (unsealedBlock r d) (omega arith) in
@@ -111,6 +111,6 @@ module _ (r : BlockRow) (h : Head) (kinds bits : List ℕ) (rules : blockOk r �
 
     pub block-is : sealed (sets (sets (sets s 8 (stampsOut d)) 14 lists) end (zeros (all - end))) (idFor d) all ≡ over (blockBytes r d) s
     block-is =
-        let n = length-block r d (row-kept r rules) in
+        let n = length-block r d (row-kept r rules one) in
         let z : 0 + length (blockBytes r d) ≤ length s = omega arith in
         rw filled-is (sealed-is ∙ sets-eq (blockBytes r d) s 0 z ∙ rw zero-add)

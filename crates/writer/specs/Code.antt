@@ -49,6 +49,8 @@ pub record Ready (b : BlockRow) (revision : ℕ) (kinds bits : List ℕ) (subs s
 -- what `put_block` is to be given: a draft that its row accepts, how long its block is, and room
 pub record Writable (b : BlockRow) (d : Draft) (subs : ℕ) (z : Measured) (room : ℕ) : Type 0 where
   pub rules : blockOk b ≡ true
+  -- W1: one level
+  pub one : b .firsts ≡ 0
   pub ok : draftOk b d ≡ true
   pub count : subs ≡ length (d .subs)
   pub sizes : Sizing b (d .revision) subs z

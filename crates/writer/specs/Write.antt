@@ -7,7 +7,7 @@ use mathlib.Core.Option.{Option, none, some}
 use lib.ListN.{length}
 use Rattle.refusal.specs.Numbers.{numberFor}
 use Rattle.copy.specs.Over.{over}
-use Rattle.table.specs.Rows.{BlockRow, Table}
+use Rattle.table.specs.Rows.{BlockRow, Table, oneLevel}
 use Rattle.table.specs.Lookup.{findRow}
 use Rattle.draft.specs.Draft.{Draft, draftOk, blockLength, roomFor}
 use Rattle.writer.specs.declared.Written.{Written}
@@ -39,8 +39,13 @@ writtenBy (some r) d buffer =
     (cond (roomFor r d (length buffer)) (writeOutcome (wrote (blockLength r d)) (over (blockBytes r d) buffer)) (refusesWrite 12 buffer))
     (refusesWrite 11 buffer)
 
+-- R6, W1: the row to write by: one of one level
+abbrev pub writableRow : Option BlockRow → Option BlockRow
+writableRow none = none
+writableRow (some r) = cond (oneLevel r) (some r) none
+
 unfoldable pub writtenOf : Table → Draft → List ℕ → WriteOutcome
-writtenOf tab d buffer = writtenBy (findRow tab (d .number)) d buffer
+writtenOf tab d buffer = writtenBy (writableRow (findRow tab (d .number))) d buffer
 
 -- D9: what the code's answer says
 abbrev pub writtenSays : Written → WriteSaid

@@ -103,9 +103,9 @@ fn put_block(
     pen::seal(out, h.number + 8192 * h.revision, all);
 }
 
-// A draft by its row: R11, R12, then the bytes.
+// A draft by its row, of one level: R11, R12, then the bytes.
 fn put(table: &[u8], row: Row, h: Head, kinds: &[u8], bits: &[u64], out: &mut [u8]) -> Written
-    requires { ⌜ (row .start + row .bodies + row .subs ≤ fieldCount (now table)) × (blockOk (blockOf (now table) row) ≡ true) × (h .number ≤ 65535) ⌝ }
+    requires { ⌜ (row .start + row .bodies + row .subs ≤ fieldCount (now table)) × (blockOk (blockOf (now table) row) ≡ true) × (row .firsts ≡ 0) × (h .number ≤ 65535) ⌝ }
     ensures { λ r. ⌜ writeOutcome (writtenSays r) (now (out .exit)) ≡ writtenBy (some (blockOf (now (table .entry)) row)) (draftOf h (now (kinds .entry)) (now (bits .entry))) (now (out .entry)) ⌝ }
 {
     let a = draft::accepts(table, row, h, kinds, bits);
@@ -132,7 +132,13 @@ pub fn write(table: &[u8], h: Head, kinds: &[u8], bits: &[u64], out: &mut [u8]) 
     }
     let number = h.number as u16;
     match table::find(table, number) {
-        RowFound::At(row) => put(table, row, h, kinds, bits, out),
+        RowFound::At(row) => {
+            // W1: only rows of one level are written by
+            if row.firsts != 0 {
+                return Written::Refused(Refusal::NoRow);
+            }
+            put(table, row, h, kinds, bits, out)
+        }
         RowFound::Nothing => Written::Refused(Refusal::NoRow),
     }
 }

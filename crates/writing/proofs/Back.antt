@@ -9,7 +9,7 @@ use Prim.Native.Nat.{ℕ, zero, suc, _≤_}
 use native.Mathlib.Nat.{zero-add}
 use native.Mathlib.Omega.{arith}
 use lib.ListN.{length, getD}
-use borrow.Author.Tests.{le-leb}
+use borrow.Author.Tests.{le-leb, eq-eqb}
 use Rattle.wire.proofs.Tests.{both, both-true, bool?}
 use Rattle.rows.specs.declared.FieldRow.{FieldRow}
 use Rattle.table.specs.Lists.{tabulate, every, pick}
@@ -176,7 +176,7 @@ written-same tab r d buffer b room ws ss m found a fits =
     let most : length b ≤ 65532 = omega (arith, m .size, m .room .most) in
     let room-is = le-leb (length b) (length room) fits in
     let sub = le-leb (sbLength r d) 255 (m .room .sub) in
-    rw (found, same-draft r d ws ss a (m .draft), n, c, same-sub r d ws ss a, room-is, le-leb (length b) 65532 most, sub)
+    rw (found, eq-eqb (r .firsts) 0 (m .found .one), same-draft r d ws ss a (m .draft), n, c, same-sub r d ws ss a, room-is, le-leb (length b) 65532 most, sub)
 
 pub all-write-back : AllWriteBack
 all-write-back tab r d buffer b room m fits =

@@ -21,7 +21,7 @@ use Rattle.reader.proofs.Laws.{passes}
 use Rattle.records.specs.Calls.{tableInForce, askRefusal, bodyOf, subOf, subBytesRefusal, stampOf}
 use Rattle.records.proofs.Asking.{asked}
 use Rattle.draft.specs.Draft.{Draft}
-use Rattle.writer.specs.Write.{wrote, WriteOutcome, writtenBy, writtenOf}
+use Rattle.writer.specs.Write.{wrote, WriteOutcome, writtenBy, writableRow, writtenOf}
 use Rattle.writes.specs.Calls.{writtenUnless, writeOf}
 use Rattle.writing.specs.Theorems.{Made, ReadsBack}
 use Rattle.writing.specs.InForce.{ReadsBackInForce, AllReadBackInForce}
@@ -34,7 +34,8 @@ asked-none : (o : Option ℕ) (buffer : List ℕ) (w : WriteOutcome) (n : ℕ) �
 asked-none none buffer w n e = refl
 asked-none (some m) buffer w n e = refused-none m n e
 
-row-found : (o : Option BlockRow) (d : Draft) (buffer : List ℕ) (n : ℕ) → writtenBy o d buffer .said ≡ wrote n → (r : BlockRow) × (o ≡ some r)
+row-found : (o : Option BlockRow) (d : Draft) (buffer : List ℕ) (n : ℕ) → writtenBy (writableRow o) d buffer .said ≡ wrote n
+    → (r : BlockRow) × (o ≡ some r)
 unfolding writtenBy
 row-found none d buffer n e = refused-none 6 n e
 row-found (some r) d buffer n e = (r, refl)

@@ -2,17 +2,18 @@
 -- Assumes nothing.
 use mathlib.Core.Bool.{Bool, true, false, cond}
 use mathlib.Core.List.{List, _++_}
-use mathlib.Core.Option.{Option, some}
+use mathlib.Core.Option.{Option, none, some}
 use mathlib.Core.Path.{_≡_, refl, sym, ap, _∙_}
 use Prim.Native.Nat.{ℕ}
 use native.Mathlib.Omega.{arith}
 use lib.ListN.{length, take, drop}
 use lib.Seq.{take-at}
-use Rattle.table.specs.Rows.{BlockRow, Table}
+use borrow.Author.Tests.{eqb-true, eq-eqb}
+use Rattle.table.specs.Rows.{BlockRow, Table, oneLevel}
 use Rattle.copy.specs.Over.{over}
 use Rattle.draft.specs.Draft.{Draft, draftOk, blockLength, roomFor}
 use Rattle.writer.specs.Block.{blockBytes}
-use Rattle.writer.specs.Write.{wrote, writeRefused, WriteOutcome, writeOutcome, refusesWrite, writtenBy, writtenOf}
+use Rattle.writer.specs.Write.{wrote, writeRefused, WriteOutcome, writeOutcome, refusesWrite, writtenBy, writableRow, writtenOf}
 use Rattle.writing.specs.Theorems.{Made}
 use Rattle.draft.proofs.Admitted.{Admitted, admitted, Roomy, roomy}
 use Rattle.writer.proofs.Lengths.{length-block}
@@ -29,6 +30,19 @@ by-tests true true n m bytes buffer e = (refl, refl)
 by-tests true false n m bytes buffer e = refused-none 12 m e
 by-tests false c n m bytes buffer e = refused-none 11 m e
 
+-- R6, W1: a row by which something was written is of one level
+one-by : (x : Bool) (r : BlockRow) (d : Draft) (buffer : List ℕ) (n : ℕ) → writtenBy (cond x (some r) none) d buffer .said ≡ wrote n → x ≡ true
+unfolding writtenBy
+one-by true r d buffer n e = refl
+one-by false r d buffer n e = refused-none 6 n e
+
+pub one-written : (r : BlockRow) (d : Draft) (buffer : List ℕ) (n : ℕ) → writtenBy (writableRow (some r)) d buffer .said ≡ wrote n → r .firsts ≡ 0
+one-written r d buffer n e = eqb-true _ _ (one-by (oneLevel r) r d buffer n e)
+
+-- and by such a row Write writes
+pub writes-by : (r : BlockRow) → r .firsts ≡ 0 → writableRow (some r) ≡ some r
+writes-by r one = rw (eq-eqb (r .firsts) 0 one)
+
 pub record Making (tab : Table) (r : BlockRow) (d : Draft) (buffer b : List ℕ) : Type 0 where
   pub found : FoundKept (d .number) r
   pub draft : Admitted r d
@@ -42,8 +56,11 @@ said-by n m e = cc e
 pub making : (tab : Table) (r : BlockRow) (d : Draft) (buffer b : List ℕ) → Made tab r d buffer b → Making tab r d buffer b
 unfolding writtenOf writtenBy
 making tab r d buffer b m =
-    let f = found-kept tab (d .number) r (m .right) (m .found) in
-    let o : writtenOf tab d buffer ≡ writtenBy (some r) d buffer = ap (λ (x : Option BlockRow). writtenBy x d buffer) (m .found) in
+    let g : writtenOf tab d buffer ≡ writtenBy (writableRow (some r)) d buffer =
+    ap (λ (x : Option BlockRow). writtenBy (writableRow x) d buffer) (m .found) in
+    let one = one-written r d buffer (length b) (ap (λ (x : WriteOutcome). x .said) (sym g) ∙ m .answer) in
+    let f = found-kept tab (d .number) r (m .right) (m .found) one in
+    let o : writtenOf tab d buffer ≡ writtenBy (some r) d buffer = g ∙ ap (λ (x : Option BlockRow). writtenBy x d buffer) (writes-by r one) in
     let whole = over (blockBytes r d) buffer in
     let s = ap (λ (x : WriteOutcome). x .said) (sym o) ∙ m .answer in
     let t = by-tests (draftOk r d) (roomFor r d (length buffer)) (blockLength r d) (length b) whole buffer s in

@@ -1,7 +1,7 @@
 -- Each record call on a block that was made says what was wanted: a field of the body stands in the block, one of a sub-block in the
 -- bytes of that sub-block, which are the fields that were laid.
 -- Assumes nothing.
-use mathlib.Core.Bool.{true, cond}
+use mathlib.Core.Bool.{Bool, true, cond}
 use mathlib.Core.List.{List, [], _++_, append-assoc, append-nil}
 use mathlib.Core.Option.{Option, none, some}
 use mathlib.Core.Path.{_≡_, refl, sym, ap, ap₂, _∙_}
@@ -9,15 +9,17 @@ use Prim.Native.Nat.{ℕ, suc, _+_, _*_}
 use native.Mathlib.Omega.{arith}
 use lib.Dec.{ltb}
 use lib.ListN.{length, getD, take, drop, length-append}
-use borrow.Author.Tests.{le-leb, lt-ltb, le-ltb}
+use borrow.Author.Tests.{le-leb, lt-ltb, le-ltb, eq-eqb}
 use Rattle.wire.proofs.Tests.{bool?}
 use Rattle.rows.specs.declared.FieldRow.{FieldRow}
 use Rattle.table.specs.Lists.{pick}
 use Rattle.table.specs.Rows.{BlockRow, Table}
 use Rattle.table.specs.Lookup.{carried}
+use Rattle.table.proofs.Levels.{one-first}
+use Rattle.walk.specs.Walk.{nestOr}
 use Rattle.value.specs.Said.{notInRevision, fieldRefused}
 use Rattle.value.specs.Bits.{fieldValue}
-use Rattle.block.specs.Block.{subLengthIn, hasSubs, subSpan, refusedBy, row, seenSubRow, seenSub}
+use Rattle.block.specs.Block.{revisionIn, subLengthIn, hasSubs, oneSpan, walkOf, alone, nestOf, subSpan, refusedBy, row, seenSubRow, seenSub}
 use Rattle.record.specs.Calls.{fieldSaid, fieldOr9, bodyBy, bodyField, subSlice, subBy, subField, numberBy, subBlockRefusal, towRow, wncRow, stamp}
 use Rattle.entry.specs.Wanted.{Wanted}
 use Rattle.entry.specs.Bits.{wantedOk, listOk}
@@ -34,7 +36,7 @@ use Rattle.writing.proofs.Picks.{pick-below, pick-past}
 use Rattle.writing.proofs.Wanting.{wanted-bits, wanted-at}
 use Rattle.writing.proofs.Offsets.{laid-reads}
 use Rattle.writing.proofs.Slices.{slice-behind}
-use Rattle.writing.proofs.Seeing.{header, gap, length-header, block-split, Known, kept, values-ok, stamped-reads, size-back, seen-is, count-is, known}
+use Rattle.writing.proofs.Seeing.{header, gap, length-header, block-split, Known, kept, one, values-ok, stamped-reads, size-back, seen-is, count-is, known}
 use Rattle.writing.proofs.Drafts.{stamped, stampedValues, sub-ok}
 
 module _ {tab : Table} {r : BlockRow} {d : Draft} {buffer b : List ℕ} (s : Known tab r d buffer b) where
@@ -85,10 +87,14 @@ module _ {tab : Table} {r : BlockRow} {d : Draft} {buffer b : List ℕ} (s : Kno
     sub-there : seenSub tab b k ≡ row r
     sub-there = sub-seen k ∙ rw (lt-ltb k (length (d .subs)) (pick-below (d .subs) k ws q))
 
+    span-is : subSpan r b k ≡ oneSpan b k
+    unfolding nestOf
+    span-is = ap (λ (x : Bool). cond x (alone (oneSpan b k)) (nestOr (pick (walkOf r b) k)) .first) (eq-eqb (r .firsts) 0 (one s))
+
     -- its bytes are its fields
-    slice-is : subSlice b (subSpan r b k) ≡ laid (d .revision) 0 (r .subs) ws
+    one-slice : subSlice b (oneSpan b k) ≡ laid (d .revision) 0 (r .subs) ws
     unfolding subSlice subsPart
-    slice-is =
+    one-slice =
         let h = sub-fits k ws q .0 in
         let l = pick-below (d .subs) k ws q in
         let front = header r d ++ stampsAndBody r d in
@@ -101,11 +107,15 @@ module _ {tab : Table} {r : BlockRow} {d : Draft} {buffer b : List ℕ} (s : Kno
         ∙ slice-behind (laid (d .revision) 0 (r .subs)) (lastEnd (d .revision) 0 (r .subs)) (λ ws. length-sub (d .revision) (r .subs) ws (kept s .subs .order)) 16 front p (d .subs) (gap r d) k
         ws q
 
+    slice-is : subSlice b (subSpan r b k) ≡ laid (d .revision) 0 (r .subs) ws
+    slice-is = ap (subSlice b) span-is ∙ one-slice
+
     sub-reads : (j : ℕ) → subField tab b k j ≡ rowBack (d .revision) (pick (r .subs) j) (getD ws j none)
     unfolding subField
     sub-reads j =
         let ok = sub-fits k ws q .1 in
         ap (subBy b k j) sub-there
+        ∙ ap (λ (fs : List FieldRow). fieldOr9 (revisionIn b) (subSlice b (subSpan r b k)) (pick fs j)) (one-first r (one s))
         ∙ ap₂ (λ (v : ℕ) (c : List ℕ). fieldOr9 v c (pick (r .subs) j)) (s .revision) slice-is
         ∙ said-back (laid (d .revision) 0 (r .subs) ws) (getD ws j none) (pick (r .subs) j)
         (laid-reads (d .revision) 0 (r .subs) ws (kept s .subs) ok [] [] (laid (d .revision) 0 (r .subs) ws) refl (sym (append-nil _)) j)

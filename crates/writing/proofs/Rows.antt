@@ -29,17 +29,18 @@ first-passes {A = A} p q (y ∷ ys) x f e =
     (subst (λ (z : A). p z ≡ true) i t, subst (λ (z : A). q z ≡ true) i (k .0)))
     (λ t. first-passes p q ys x (sym (ap (λ (b : Bool). cond b (some y) (firstThat p ys)) t) ∙ f) (k .1))
 
--- T8, R6: its number is the one looked for, below 8,192
+-- T8, R6: its number is the one looked for, below 8,192; W1: it is of one level
 pub record FoundKept (n : ℕ) (r : BlockRow) : Type 0 where
   pub kept : RowKept r
   pub small : n ≤ 8191
+  pub one : r .firsts ≡ 0
 
-pub found-kept : (tab : Table) (n : ℕ) (r : BlockRow) → meaningOk tab ≡ true → findRow tab n ≡ some r → FoundKept n r
+pub found-kept : (tab : Table) (n : ℕ) (r : BlockRow) → meaningOk tab ≡ true → findRow tab n ≡ some r → r .firsts ≡ 0 → FoundKept n r
 unfolding findRow
-found-kept tab n r ok f =
+found-kept tab n r ok f one =
     let m = meaning tab ok in
     let a = first-passes (hasNumber n) numberOk (tab .rows) r f (m .numbers) in
     let b = first-passes (hasNumber n) blockOk (tab .rows) r f (m .blocks) in
     let i : r .number ≡ n = eqb-true _ _ (a .0) in
     let l : r .number ≤ 8191 = leb-true _ _ (a .1) in
-    record { kept = row-kept r (b .1); small = omega arith }
+    record { kept = row-kept r (b .1) one; small = omega arith; one = one }

@@ -24,7 +24,7 @@ use Rattle.table.specs.Rows.{BlockRow, Table, ends}
 use Rattle.table.specs.Lookup.{carried, findRow}
 use Rattle.value.specs.Said.{unsigned}
 use Rattle.value.specs.Bits.{fieldValue}
-use Rattle.block.specs.Block.{numberIn, revisionIn, countIn, subLengthIn, endsBy, bodyFits, hasSubs, subsFit, row, seenRow, seen, subCount}
+use Rattle.block.specs.Block.{numberIn, revisionIn, countIn, subLengthIn, endsBy, bodyFits, hasSubs, oneFits, subsFit, row, seenRow, seen, subCount}
 use Rattle.pen.specs.Bytes.{littleBytes}
 use Rattle.entry.specs.Wanted.{Wanted}
 use Rattle.entry.specs.Bits.{listOk}
@@ -152,12 +152,19 @@ module _ {tab : Table} {r : BlockRow} {d : Draft} {buffer b : List ℕ} (s : Kno
       both-true (le-leb 14 (length b) (s .shortest .holds .stamps))
       (rw (s .revision) (holds-every (d .revision) (length b) (r .body) (s .shortest .holds .body)))
 
-  subs-fit : subsFit b r ≡ true
-  unfolding subsFit
-  subs-fit =
+  pub one : r .firsts ≡ 0
+  one = s .making .found .one
+
+  one-fit : oneFits b r ≡ true
+  unfolding oneFits
+  one-fit =
       bool? (hasSubs r)
       (λ h. rw (h, s .revision, size-back h, count-back h) (both-true (subs-hold h) (le-leb _ _ (subs-end h))))
       (λ h. rw h)
+
+  subs-fit : subsFit b r ≡ true
+  unfolding subsFit
+  subs-fit = rw (eq-eqb (r .firsts) 0 one) one-fit
 
   -- R20: no call is refused but with 9
   pub seen-is : seen tab b ≡ row r

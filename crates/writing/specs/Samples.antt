@@ -1,4 +1,4 @@
--- Blocks that are written, each with all its bytes (rules W6 to W9).
+-- Blocks that are written, each with all its bytes (rules W6 to W9), and drafts that their row does not write (R6).
 -- Assumes nothing.
 use Prim.Native.Nat.{ℕ, _+_}
 use mathlib.Core.List.{List, [], _∷_, _++_, map}
@@ -14,12 +14,12 @@ use Rattle.table.specs.Rows.{BlockRow}
 use Rattle.value.specs.Said.{unsigned, signed, single}
 use Rattle.entry.specs.Wanted.{Wanted}
 use Rattle.draft.specs.Draft.{Draft}
-use Rattle.writer.specs.Write.{WriteOutcome, wrote, writeOutcome, writtenBy}
+use Rattle.writer.specs.Write.{WriteSaid, wrote, writeRefused, WriteOutcome, writeOutcome, writtenOf}
 
 -- ---- rows
 
 abbrev blockRow : ℕ → ℕ → List FieldRow → List FieldRow → BlockRow
-blockRow number highest body subs = record { number = number; highest = highest; body = body; subs = subs }
+blockRow number highest body subs = record { number = number; highest = highest; body = body; subs = subs; firsts = 0 }
 
 abbrev bareRow : BlockRow
 bareRow = blockRow 5 0 [] []
@@ -57,6 +57,17 @@ abbrev partedRow : BlockRow
 partedRow =
     blockRow 2 3 (fieldRow 14 u1 0 unmarked ∷ fieldRow 15 u1 0 unmarked ∷ []) (fieldRow 0 u1 1 unmarked ∷ fieldRow 4 u1 1 unmarked ∷ [])
 
+-- of two levels: N1, SB1Length and SB2Length; N2 alone in the first level, and a byte in the second
+abbrev nestingRow : BlockRow
+nestingRow =
+    record {
+      number = 3;
+      highest = 0;
+      body = fieldRow 14 u1 0 unmarked ∷ fieldRow 15 u1 0 unmarked ∷ fieldRow 16 u1 0 unmarked ∷ [];
+      subs = fieldRow 0 u1 0 unmarked ∷ fieldRow 0 u1 0 unmarked ∷ [];
+      firsts = 1;
+    }
+
 -- ---- drafts of the revision, over a row's number
 
 abbrev stampedBy : BlockRow → ℕ → Wanted → Wanted → List Wanted → List (List Wanted) → Draft
@@ -76,10 +87,15 @@ pub record BlockCase : Type 0 where
   pub row : BlockRow
   pub draft : Draft
   pub size : ℕ
+  pub said : WriteSaid
   pub bytes : List ℕ
 
 abbrev blockCase : BlockRow → Draft → ℕ → List ℕ → BlockCase
-blockCase r d n b = record { row = r; draft = d; size = n; bytes = b }
+blockCase r d n b = record { row = r; draft = d; size = n; said = wrote n; bytes = b }
+
+-- R6: refused, with so many bytes that stay as they are
+abbrev unwritten : BlockRow → Draft → ℕ → BlockCase
+unwritten r d n = record { row = r; draft = d; size = n; said = writeRefused 6; bytes = replicate n 0xEE }
 
 abbrev pub blockCases : List BlockCase
 blockCases =
@@ -118,14 +134,17 @@ blockCases =
     -- revision 0 carries no sub-field: N is 3 and SBLength 0
     ∷ blockCase partedRow (oneTwo partedRow 0 [] ([] ∷ (none ∷ []) ∷ [] ∷ [])) 16
     (0x24 ∷ 0x40 ∷ 0x94 ∷ 0x6D ∷ 0x02 ∷ 0x00 ∷ 0x10 ∷ 0x00 ∷ 0x01 ∷ 0x00 ∷ 0x00 ∷ 0x00 ∷ 0x02 ∷ 0x00 ∷ 0x03 ∷ 0x00 ∷ [])
+    -- a row of two levels, without sub-blocks and with one
+    ∷ unwritten nestingRow (oneTwo nestingRow 0 [] []) 20
+    ∷ unwritten nestingRow (oneTwo nestingRow 0 [] (bytePair 1 2 ∷ [])) 24
     ∷ []
 
--- W1: into a buffer of two bytes more, which stay as they are
+-- W1: by a table of this row, into a buffer of two bytes more, which stay as they are
 abbrev pub blockWritten : BlockCase → WriteOutcome
-blockWritten c = writtenBy (some (c .row)) (c .draft) (replicate (c .size + 2) 0xEE)
+blockWritten c = writtenOf (record { version = 1; rows = c .row ∷ [] }) (c .draft) (replicate (c .size + 2) 0xEE)
 
 abbrev pub blockExpected : BlockCase → WriteOutcome
-blockExpected c = writeOutcome (wrote (c .size)) (c .bytes ++ 0xEE ∷ 0xEE ∷ [])
+blockExpected c = writeOutcome (c .said) (c .bytes ++ 0xEE ∷ 0xEE ∷ [])
 
 abbrev pub BlocksHold : Type 0
 BlocksHold = map blockWritten blockCases ≡ map blockExpected blockCases

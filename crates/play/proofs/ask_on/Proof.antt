@@ -29,6 +29,24 @@ enum-known-ask-3 c = search needs
 sub-bytes-requires : tie.Need-sub-bytes-requires
 sub-bytes-requires c κs = search needs
 
+enum-known-ask-4 : tie.Need-enum-known-ask-4
+enum-known-ask-4 c = search needs
+
+sub2-requires : tie.Need-sub2-requires
+sub2-requires c κs = search needs
+
+enum-known-ask-5 : tie.Need-enum-known-ask-5
+enum-known-ask-5 c = search needs
+
+range-requires : tie.Need-range-requires
+range-requires c κs = search needs
+
+enum-known-ask-6 : tie.Need-enum-known-ask-6
+enum-known-ask-6 c = search needs
+
+range2-requires : tie.Need-range2-requires
+range2-requires c κs = search needs
+
 enum-told-2 : tie.Need-enum-told-2
 enum-told-2 c = search needs
 
@@ -54,10 +72,19 @@ returns-4 : tie.Need-returns-4
 returns-4 c = search needs
 
 returns-5 : tie.Need-returns-5
-returns-5 c = answers-no-nan (c .tow .ensures)
+returns-5 c = answers-no-nan (c .sub2 .ensures)
 
 returns-6 : tie.Need-returns-6
-returns-6 c = answers-no-nan (c .wnc .ensures)
+returns-6 c = answers-no-nan (c .range .ensures)
+
+returns-7 : tie.Need-returns-7
+returns-7 c = answers-no-nan (c .range2 .ensures)
+
+returns-8 : tie.Need-returns-8
+returns-8 c = answers-no-nan (c .tow .ensures)
+
+returns-9 : tie.Need-returns-9
+returns-9 c = answers-no-nan (c .wnc .ensures)
 
 pub ask-on-spec : {M : Type 1} → statement M
 ask-on-spec =
@@ -71,6 +98,12 @@ ask-on-spec =
     sub-requires
     enum-known-ask-3
     sub-bytes-requires
+    enum-known-ask-4
+    sub2-requires
+    enum-known-ask-5
+    range-requires
+    enum-known-ask-6
+    range2-requires
     enum-told-2
     tow-requires
     enum-told-3
@@ -80,4 +113,7 @@ ask-on-spec =
     returns-3
     returns-4
     returns-5
-    returns-6)
+    returns-6
+    returns-7
+    returns-8
+    returns-9)

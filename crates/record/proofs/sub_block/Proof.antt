@@ -2,7 +2,7 @@
 -- Assumes nothing.
 use mathlib.Core.Path.{ap, _∙_}
 use Rattle.wire.specs.Parts.{offsetBy}
-use Rattle.block.specs.declared.Span.{Span}
+use Rattle.walk.specs.declared.Span.{Span}
 use Rattle.record.specs.Calls.{subSlice}
 use Rattle.record.proofs.Parts.{part-at}
 use borrow.Author.Needs.{needs}

@@ -8,7 +8,7 @@ use native.Mathlib.Omega.{arith}
 use lib.Seq.{length-take-le}
 use Rattle.wire.specs.Parts.{offsetBy}
 use Rattle.table.specs.Decode.{decode}
-use Rattle.block.specs.declared.Span.{Span}
+use Rattle.walk.specs.declared.Span.{Span}
 use Rattle.record.specs.Calls.{subSlice, subBlock, subPlace}
 use Rattle.reader.specs.declared.State.{State}
 use Rattle.reader.specs.Said.{refusalOf}

@@ -47,24 +47,29 @@ shared-slice-read-wide-2 c = search needs
 wide-requires-2 : tie.Need-wide-requires-2
 wide-requires-2 c κs = search needs
 
-add-t20 : tie.Need-add-t20
-add-t20 c = search needs
+add-wide-3 : tie.Need-add-wide-3
+add-wide-3 c = search needs
 
-shared-slice-read-t22 : tie.Need-shared-slice-read-t22
-shared-slice-read-t22 c = search needs
+shared-slice-read-wide-3 : tie.Need-shared-slice-read-wide-3
+shared-slice-read-wide-3 c = search needs
+
+wide-requires-3 : tie.Need-wide-requires-3
+wide-requires-3 c κs = search needs
 
 returns : tie.Need-returns
 unfolding rowFrom rowAt
 returns c =
-    let wide₂ = c .before in
+    let wide₃ = c in
+    let wide₂ = wide₃ .before .before in
     let word = wide₂ .before .before in
     let wide = word .before .before in
     let number = wide .before .before .before in
     let start = number .before .before in (
-      rw (number .u2 .ensures, wide .wide .ensures .0, word .word .ensures .0, word .before .u22 .ensures, wide₂ .wide2 .ensures .0, start .pre .0),
+      rw (number .u2 .ensures, wide .wide .ensures .0, word .word .ensures .0, word .before .u22 .ensures, wide₂ .wide2 .ensures .0, wide₃ .wide3 .ensures .0, start .pre .0),
       wide .wide .ensures .1,
       word .word .ensures .1,
       wide₂ .wide2 .ensures .1,
+      wide₃ .wide3 .ensures .1,
     )
 
 pub row-at-spec : {M : Type 1} → statement M
@@ -85,6 +90,7 @@ row-at-spec =
     add-wide-2
     shared-slice-read-wide-2
     wide-requires-2
-    add-t20
-    shared-slice-read-t22
+    add-wide-3
+    shared-slice-read-wide-3
+    wide-requires-3
     returns)

@@ -9,7 +9,7 @@ use Rattle.table.specs.Lookup.{findRow}
 use Rattle.kinds.specs.Types.{sizeOf}
 use Rattle.kinds.specs.Marks.{isDoNotUse, unsetOf}
 use Rattle.value.specs.Bits.{withSign, readAs, valueOf, fieldValue}
-use Rattle.block.specs.Block.{bodyFits, subsFit, seenRow, seen}
+use Rattle.block.specs.Block.{bodyFits, subsFit, seenRow, seen, oneFits}
 use Rattle.record.specs.Calls.{fieldSaid, bodyField}
 use Rattle.entry.specs.Bits.{bitsFor, bitsOf, wantedOk, listOk}
 use Rattle.draft.specs.Draft.{stampsOk, bodyOk, subsOk, draftOk, lastEnd, sbLengthBy, blockEndBy, roomFor}
@@ -18,7 +18,7 @@ use Rattle.samples.proofs.pppinfo_holds.Statement.{statement}
 use Rattle.samples.proofs.pppinfo_holds.Tie as tie
 
 returns : tie.Need-returns
-unfolding crcOf crcFrom crcByte crcBits8 crcBit littleAt syncAt allowed endsWithin crcRight frameAt wholeFrame every firstThat pick findRow sizeOf isDoNotUse unsetOf withSign readAs valueOf fieldValue bodyFits subsFit seenRow seen fieldSaid bodyField bitsFor bitsOf wantedOk listOk stampsOk bodyOk subsOk draftOk lastEnd sbLengthBy blockEndBy roomFor writtenBy writtenOf
+unfolding crcOf crcFrom crcByte crcBits8 crcBit littleAt syncAt allowed endsWithin crcRight frameAt wholeFrame every firstThat pick findRow sizeOf isDoNotUse unsetOf withSign readAs valueOf fieldValue bodyFits oneFits subsFit seenRow seen fieldSaid bodyField bitsFor bitsOf wantedOk listOk stampsOk bodyOk subsOk draftOk lastEnd sbLengthBy blockEndBy roomFor writtenBy writtenOf
 returns c = record { row = refl; read = refl; bits = refl; drafts = refl }
 
 pub pppinfo-holds-spec : {M : Type 1} → statement M

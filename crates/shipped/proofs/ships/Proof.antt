@@ -2,9 +2,10 @@
 -- Assumes nothing.
 use mathlib.Core.Path.{refl}
 use Rattle.kinds.specs.Types.{sizeOf}
-use Rattle.table.specs.Lists.{every, chain, neighbours}
+use Rattle.table.specs.Lists.{every, chain, neighbours, pick}
 use Rattle.kinds.specs.Marks.{markFits}
-use Rattle.table.specs.Rules.{risingOk, isPair, fieldsOk, blockOk, meaningOk}
+use Rattle.table.specs.Rows.{firstRows, secondRows}
+use Rattle.table.specs.Rules.{risingOk, isPair, isTriple, nestOk, shapeOk, fieldsOk, blockOk, meaningOk}
 use Rattle.encode.specs.Fits.{fieldRows, fileSize, blockFits, fits}
 use Rattle.encode.proofs.Encoded.{encodes}
 use Rattle.shipped.specs.Rows.{shipped}
@@ -12,7 +13,7 @@ use Rattle.shipped.proofs.ships.Statement.{statement}
 use Rattle.shipped.proofs.ships.Tie as tie
 
 returns : tie.Need-returns
-unfolding sizeOf every chain neighbours markFits risingOk isPair fieldsOk blockOk meaningOk fieldRows fileSize blockFits fits
+unfolding sizeOf every chain neighbours pick markFits firstRows secondRows risingOk isPair isTriple nestOk shapeOk fieldsOk blockOk meaningOk fieldRows fileSize blockFits fits
 returns c = encodes shipped refl refl
 
 pub ships-spec : {M : Type 1} → statement M

@@ -3,7 +3,7 @@
 use native.Mathlib.Omega.{arith}
 use borrow.Author.Needs.{needs}
 use borrow.Author.Tests.{not-true, not-false}
-use Rattle.writer.proofs.Told.{told-11, told-revision, told-few, told-12, told-writable, told-length}
+use Rattle.writer.proofs.Told.{told-11, told-revision, told-few, told-12, told-writable, told-length, one-seen}
 use Rattle.writer.proofs.put.Statement.{statement}
 use Rattle.writer.proofs.put.Tie as tie
 
@@ -26,8 +26,8 @@ put-block-requires : tie.Need-put-block-requires
 put-block-requires c κs =
     let a = c .before .before .before .before .before .before .before .before .before .before .before .before .args in
     let p = c .before .before .before .before .before .before .before .before .before .before .before .before .pre in (
-      (p .0, p .2),
-      told-writable _ _ (c .before .before .before .before .before .before .before .accepts .ensures) (not-false _ (c .before .before .before .before .before .if1 .left)) (c .before .before .before .sizes .ensures) (a .out .now) (not-false _ (c .before .if2 .left)) (p .1),
+      (p .0, p .3),
+      told-writable _ _ (c .before .before .before .before .before .before .before .accepts .ensures) (not-false _ (c .before .before .before .before .before .if1 .left)) (c .before .before .before .sizes .ensures) (a .out .now) (not-false _ (c .before .if2 .left)) (p .1) (one-seen (a .table .now) (a .row) (p .2)),
     )
 
 same-length : tie.Need-same-length

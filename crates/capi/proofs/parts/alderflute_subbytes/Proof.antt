@@ -3,7 +3,7 @@
 use mathlib.Core.Path.{_≡_, sym, ap, _∙_}
 use mathlib.Core.Bool.{false}
 use mathlib.Core.Option.{none}
-use Rattle.block.specs.declared.Span.{Span}
+use Rattle.walk.specs.declared.Span.{Span}
 use Rattle.reader.specs.State.{sound}
 use Rattle.reader.specs.declared.State.{State}
 use Rattle.records.specs.Calls.{subBytesOf, subPlaceOf, subBytesRefusal}

@@ -1,35 +1,25 @@
--- `table::blocks::block_ok` meets its contract: without sub-fields the body decides, else body, sub-fields and pair.
+-- `table::blocks::block_ok` meets its contract: the body, and the sub-fields by one level or two.
 -- Assumes nothing.
 use borrow.Author.Needs.{needs}
-use Rattle.table.proofs.Loops.{block-none, block-some}
+use native.Mathlib.Omega.{arith}
+use Rattle.table.proofs.Loops.{block-one, block-two}
 use Rattle.table.proofs.blocks.block_ok.Statement.{statement}
 use Rattle.table.proofs.blocks.block_ok.Tie as tie
 
 fields-ok-requires : tie.Need-fields-ok-requires
 fields-ok-requires c κs = search needs
 
+one-level-requires : tie.Need-one-level-requires
+one-level-requires c κs = search needs
+
 returns : tie.Need-returns
-returns c = block-none _ _ (c .before .fields-ok .ensures) (c .if1 .taken)
+returns c = block-one _ _ (c .before .before .before .fields-ok .ensures) (c .before .if1 .taken) (c .one-level .ensures)
 
-add-fields-ok : tie.Need-add-fields-ok
-add-fields-ok c = search needs
-
-fields-ok-requires-2 : tie.Need-fields-ok-requires-2
-fields-ok-requires-2 c κs = search needs
-
-pair-ok-requires : tie.Need-pair-ok-requires
-pair-ok-requires c κs = search needs
+two-levels-requires : tie.Need-two-levels-requires
+two-levels-requires c κs = omega arith
 
 returns-2 : tie.Need-returns-2
-returns-2 c = block-some _ _ (c .before .before .before .fields-ok .ensures) (c .before .before .if1 .left) (c .before .fields-ok2 .ensures) (c .pair-ok .ensures)
+returns-2 c = block-two _ _ (c .before .before .before .fields-ok .ensures) (c .before .if1 .left) (c .two-levels .ensures)
 
 pub block-ok-spec : {M : Type 1} → statement M
-block-ok-spec =
-    tie.close
-    (tie.spec
-    fields-ok-requires
-    returns
-    add-fields-ok
-    fields-ok-requires-2
-    pair-ok-requires
-    returns-2)
+block-ok-spec = tie.close (tie.spec fields-ok-requires one-level-requires returns two-levels-requires returns-2)

@@ -1,0 +1,4 @@
+pub mod Seconds
+pub mod Fields
+pub mod Numbers
+pub mod Ranges

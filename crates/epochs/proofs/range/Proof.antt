@@ -1,0 +1,64 @@
+-- `epochs::range` meets its contract: refused, or answered by the table in force.
+-- Assumes nothing.
+use mathlib.Core.Path.{_≡_, sym, ap, _∙_}
+use mathlib.Core.Option.{none}
+use lib.Seq.{length-take-le}
+use Rattle.table.specs.Decode.{decode}
+use Rattle.epoch.specs.Ranges.{rangeField}
+use Rattle.reader.specs.Said.{refusalOf}
+use Rattle.records.specs.Calls.{tableInForce, askRefusal}
+use Rattle.epochs.specs.Calls.{rangeOf}
+use Rattle.records.proofs.Asking.{asked, unless-refused, unless-none}
+use borrow.Author.Needs.{needs}
+use Rattle.epochs.proofs.range.Statement.{statement}
+use Rattle.epochs.proofs.range.Tie as tie
+
+of-ask-requires : tie.Need-of-ask-requires
+of-ask-requires c κs = search needs
+
+enum-known-c : tie.Need-enum-known-c
+enum-known-c c = search needs
+
+enum-told : tie.Need-enum-told
+enum-told c = search needs
+
+free : (e : tie.After-enum-told) → askRefusal (e .before .before .before .before .before .args .s) (e .before .before .before .before .before .args .in-force .now) ≡ none
+free e = sym (e .before .before .of-ask .ensures) ∙ ap refusalOf (e .enum-told .given .1)
+
+slice-aggregate-range : tie.Need-slice-aggregate-range
+slice-aggregate-range c =
+    let e = c .before in
+    let a = e .before .before .before .before .before .args in
+    sym (length-take-le _ _ (asked (a .s) (a .in-force .now) (free e) .fits))
+
+range-requires : tie.Need-range-requires
+range-requires c κs =
+    let e = c .before in
+    let a = e .before .before .before .before .before .args in
+    asked (a .s) (a .in-force .now) (free e) .ok
+
+returns : tie.Need-returns
+unfolding rangeOf
+returns c =
+    let o = c .before .before .before in
+    let a = o .before .before .before .args in
+    unless-refused (askRefusal (a .s) (a .in-force .now)) (c .before .c .given .0 .0) (rangeField (decode (tableInForce (a .s) (a .in-force .now))) (a .block .now) (a .k)) (sym (o .of-ask .ensures) ∙ ap refusalOf (c .before .c .given .1))
+
+returns-2 : tie.Need-returns-2
+unfolding rangeOf
+returns-2 c =
+    let e = c .before .before in
+    let a = e .before .before .before .before .before .args in
+    unless-none (askRefusal (a .s) (a .in-force .now)) (rangeField (decode (tableInForce (a .s) (a .in-force .now))) (a .block .now) (a .k)) (free e) (c .range .ensures)
+
+pub range-spec : {M : Type 1} → statement M
+range-spec =
+    tie.close
+    (tie.spec
+    of-ask-requires
+    enum-known-c
+    enum-told
+    slice-aggregate-range
+    range-requires
+    returns
+    returns-2)
