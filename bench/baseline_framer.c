@@ -1,7 +1,7 @@
 /* A strong hand-written SBF framer in C: the yardstick for speed.
  *
  *   cc -O3 -DCRC=2 baseline_framer.c -o framer
- *   ./framer FILE [REPS [CHUNK [f]]]     f: also read fields of every known block
+ *   ./framer FILE [REPS [CHUNK [CEILING [f]]]]     f: also read fields of every known block
  *   with -DLIST every block is printed (CHUNK 0 only)
  *
  * CRC   1 table, a byte at a time      3 carry-less multiply (aarch64 PMULL), slicing below 64 bytes
@@ -9,9 +9,10 @@
  *       5 prefix CRC: one pass over the buffer, then every frame in constant time
  * CHUNK 0 reads the file in place; otherwise it is copied CHUNK bytes at a time
  *       through one buffer of 256 KiB, as a stream reader would.
+ * CEILING is the greatest length of a frame, 65532 where it is not given.
  *
  * The rule: at each place test the frame; on success go on after it, else one byte on.
- * A frame is "$@", CRC, ID, length L (multiple of 4, at least 8, all present), and the
+ * A frame is "$@", CRC, ID, length L (multiple of 4, 8 to CEILING, all present), and the
  * CRC-16/XMODEM of bytes 4..L-1 equals CRC.
  */
 #include <stdint.h>
@@ -133,6 +134,7 @@ static inline double f8(const uint8_t *p) { double v; memcpy(&v, p, 8); return v
 
 struct totals { uint64_t blocks, bytes, idsum, tries; double fields; };
 static int want_fields;
+static size_t ceiling = 65532;
 
 /* Every field of the known blocks, summed so that nothing is optimised away. */
 static double fields(const uint8_t *b, unsigned id, unsigned len)
@@ -208,7 +210,7 @@ static size_t frames(const uint8_t *p, size_t n, int last, struct totals *t)
         }
         if (p[i+1] != '@') { i++; continue; }
         size_t len = u2(p + i + 6);
-        if (len < 8 || len & 3) { i++; continue; }
+        if (len < 8 || len & 3 || len > ceiling) { i++; continue; }
         if (len > n - i) {
             if (!last) return i;
             i++;
@@ -267,7 +269,7 @@ static double now(void)
 int main(int argc, char **argv)
 {
     FILE *f = argc > 1 ? fopen(argv[1], "rb") : 0;
-    if (!f) return fprintf(stderr, "usage: framer FILE [REPS [CHUNK [f]]]\n"), 2;
+    if (!f) return fprintf(stderr, "usage: framer FILE [REPS [CHUNK [CEILING [f]]]]\n"), 2;
     fseek(f, 0, SEEK_END);
     size_t n = ftell(f);
     rewind(f);
@@ -275,7 +277,8 @@ int main(int argc, char **argv)
     if (fread(d, 1, n, f) != n) return 1;
     int reps = argc > 2 ? atoi(argv[2]) : 1;
     size_t chunk = argc > 3 ? strtoul(argv[3], 0, 0) : 0;
-    want_fields = argc > 4;
+    if (argc > 4) ceiling = strtoul(argv[4], 0, 0);
+    want_fields = argc > 5;
     make_tables();
 #if CRC == 3
     K[0] = xpow(576), K[1] = xpow(512), K[2] = xpow(192), K[3] = xpow(128);

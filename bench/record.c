@@ -17,10 +17,15 @@ static void block(uint8_t *to, unsigned number, unsigned length)
     mend(to, length);
 }
 
+static alderflute_reply opened(alderflute_state s)
+{
+    return alderflute_open(s, alderflute_default_settings(), in_force, sizeof in_force, waiting, sizeof waiting);
+}
+
 static unsigned ask(const char *call, alderflute_state s, const uint8_t *b, size_t length, size_t table_length)
 {
     if (!strcmp(call, "stage")) return alderflute_stage(s, waiting, sizeof waiting, table, table_length).answer.refusal;
-    if (!strcmp(call, "open")) return alderflute_open(s, in_force, sizeof in_force, waiting, sizeof waiting).answer.refusal;
+    if (!strcmp(call, "open")) return opened(s).answer.refusal;
     if (!strcmp(call, "body")) return alderflute_body(s, in_force, sizeof in_force, b, length, 0).refusal;
     if (!strcmp(call, "sub")) return alderflute_sub(s, in_force, sizeof in_force, b, length, 0, 0).refusal;
     if (!strcmp(call, "sub2")) return alderflute_sub2(s, in_force, sizeof in_force, b, length, 0, 0, 0).refusal;
@@ -39,7 +44,7 @@ int main(int argc, char **argv)
     if (length < 16 || length > 65532) return 2;
     block(hold, number, length);
     alderflute_reply r = alderflute_stage(alderflute_new(), waiting, sizeof waiting, table, size);
-    if (strcmp(argv[2], "open")) r = alderflute_open(r.state, in_force, sizeof in_force, waiting, sizeof waiting);
+    if (strcmp(argv[2], "open")) r = opened(r.state);
     if (r.answer.refusal != 0) return 1;
     unsigned refusals = 0;
     for (unsigned long times = strtoul(argv[5], NULL, 10); times > 0; times--) refusals += ask(argv[2], r.state, hold, length, size);

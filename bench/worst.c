@@ -62,7 +62,7 @@ int main(int argc, char **argv)
 {
     call c = make(argc > 1 ? *argv[1] : 'z');
     alderflute_reply r = alderflute_stage(alderflute_new(), waiting, sizeof waiting, alderflute_table, sizeof alderflute_table);
-    r = alderflute_open(r.state, in_force, sizeof in_force, waiting, sizeof waiting);
+    r = alderflute_open(r.state, alderflute_default_settings(), in_force, sizeof in_force, waiting, sizeof waiting);
     r = alderflute_feed(r.state, hold, sizeof hold, bytes, c.held);
     if (r.answer.kind != ALDERFLUTE_MORE || r.state.held != c.held) return 1;
     if (argc < 3) return 0;

@@ -63,7 +63,7 @@ static alderflute_state state;
 static void prepare(void)
 {
     alderflute_reply r = alderflute_stage(alderflute_new(), waiting, sizeof waiting, alderflute_table, sizeof alderflute_table);
-    state = alderflute_open(r.state, in_force, sizeof in_force, waiting, sizeof waiting).state;
+    state = alderflute_open(r.state, alderflute_default_settings(), in_force, sizeof in_force, waiting, sizeof waiting).state;
 }
 static size_t put(const draft *d)
 {
@@ -72,13 +72,13 @@ static size_t put(const draft *d)
         sizeof out).length;
 }
 #else
-extern size_t alderflute_bench_write(const uint8_t *table, size_t length, uint64_t number, uint64_t revision, uint64_t tow, uint64_t wnc,
-    const uint8_t *kinds, size_t kinds_length, const uint64_t *bits, size_t bits_length, uint8_t *to, size_t to_length);
+extern size_t alderflute_bench_write(size_t ceiling, const uint8_t *table, size_t length, uint64_t number, uint64_t revision, uint64_t tow,
+    uint64_t wnc, const uint8_t *kinds, size_t kinds_length, const uint64_t *bits, size_t bits_length, uint8_t *to, size_t to_length);
 static void prepare(void) {}
 static size_t put(const draft *d)
 {
-    return alderflute_bench_write(alderflute_table, sizeof alderflute_table, d->number, d->revision, TOW, WNC, d->kinds, d->count, d->bits, d->count,
-        out, sizeof out);
+    return alderflute_bench_write(65532, alderflute_table, sizeof alderflute_table, d->number, d->revision, TOW, WNC, d->kinds, d->count, d->bits,
+        d->count, out, sizeof out);
 }
 #endif
 

@@ -3,8 +3,8 @@
  * reads their fields by number through a block table; through the same table it makes a block from values. Every call is
  * proved against its definition; crates/capi of the repository has both.
  *
- * RULES. What stands here in short stands in docs/RULES.md of the repository in full, by number: how a run is read F11 to F15,
- * calls and buffers C1 to C16, refusal n as Rn, tables T1 to T21, values V1 to V12, writing W1 to W9. The numbers are named
+ * RULES. What stands here in short stands in docs/RULES.md of the repository in full, by number: how a run is read F11 to F17,
+ * calls and buffers C1 to C17, refusal n as Rn, tables T1 to T21, values V1 to V12, writing W1 to W9. The numbers are named
  * below.
  *
  * WORDS. A run is the bytes from an open to END; a piece is what one feed is given of it, cut anywhere. A block has a number,
@@ -23,7 +23,7 @@
  * LINKING. tools/capi, or make, builds target/staticlib/libalderflute.a; `make install PREFIX=..` puts header, archive and
  * alderflute.pc in place, and then `cc .. $(pkg-config --cflags --libs alderflute)` links; PREFIX/share/alderflute has the
  * examples, and ranges.c for MeasEpoch, with the table that they include as a C header. The archive is position-independent
- * code for x86-64 Linux and the System V ABI, about 23 kB with its constants. Of a C library it wants memmove and memset and
+ * code for x86-64 Linux and the System V ABI, about 24 kB with its constants. Of a C library it wants memmove and memset and
  * nothing else, so it links into a freestanding program that has both. It allocates nothing, keeps no variables, calls nothing
  * back and starts no threads. This header includes stddef.h and stdint.h only. At the start compare alderflute_abi() with
  * ALDERFLUTE_ABI, as the example does: where they differ, header and archive do not belong together.
@@ -40,14 +40,14 @@
  * different readers may run at the same time.
  *
  * STATE (C1, C15, R1, R23). A reader is an alderflute_state and its three buffers. alderflute_new() is the only start. Never
- * start with a struct of zeros: today it happens to be the same, but a later version will refuse it (there the state has a
- * ceiling for block lengths, request M-103, and 0 is a bad one). The state goes into every call by value. A call that returns
- * an alderflute_reply returns the next state in it: go on with that one, and with no older one. The others (bytes, body, sub,
- * subbytes, sub2, range, range2, tow, wnc, write) do not change it. The struct has no pointers: keep it where you like, move
- * or save it with the buffers, but write nothing into it. Of made-up states refusal 1 finds those that its line below names,
- * and no others. Any other is taken at its word: five held bytes are a standing block where the state says so, places and the
- * counts of END come from the state, and a count that was close to its bound may pass it, which the next call refuses. But no
- * call reads or writes past the buffers given.
+ * start with a struct of zeros: every call refuses it with 1, since 0 is no ceiling. The state goes into every call by value.
+ * A call that returns an alderflute_reply returns the next state in it: go on with that one, and with no older one. The others
+ * (bytes, body, sub, subbytes, sub2, range, range2, tow, wnc, write) do not change it. The struct has no pointers: keep it
+ * where you like, move or save it with the buffers, but write nothing into it; and go on with a saved one only under the same
+ * ALDERFLUTE_ABI: another reads it wrongly, and refusal 1 need not find that. Of made-up states refusal 1 finds those that
+ * its line below names, and no others. Any other is taken at its word: five held bytes are a standing block where the state
+ * says so, places and the counts of END come from the state, and a count that was close to its bound may pass it, which the
+ * next call refuses. But no call reads or writes past the buffers given.
  *
  * BUFFERS (C2 to C4). You own every buffer; a call borrows it until it returns, and no pointer is kept after that. Three
  * buffers belong to one reader from alderflute_new on, and between calls nobody else may write to them:
@@ -74,11 +74,29 @@
  * member by member: alderflute_answer, alderflute_block, alderflute_part and alderflute_written have padding, of which nothing
  * is promised, so compare members and not memory.
  *
- * REFUSALS (R1 to R12, their order R20). The numbers have names, ALDERFLUTE_REFUSAL_.., and alderflute_refusal_text gives a
+ * CEILING (F16, F17, C17). Open is given settings, by value: an alderflute_settings, whose one member is the ceiling, the
+ * greatest length that a block of this run may have. alderflute_default_settings() has the greatest one, 65,532: no block is
+ * longer, and every one is reported. To take another, set the member: any number that 4 divides, from 16 to 65,532. Any other
+ * is refused with 13; none is rounded.
+ *   - What it is for. Noise, or a header with a flipped bit, can look like the header of a long block. Nothing behind it is
+ *     reported before as many bytes came as it says: at 115,200 baud 65,532 bytes take 5.7 s. With a ceiling, a header that
+ *     says more is noise as soon as its eight bytes are there; and after each MORE fewer bytes are held than the ceiling says.
+ *   - What it costs. A block that is longer than the ceiling is not reported: its bytes are skipped one by one, and what looks
+ *     like a block among them is reported as one. So take at least the length of the longest block that your receiver sends,
+ *     and where you do not know it, the default. And take no more than you need: a header that says no more than the ceiling
+ *     still waits, at 115,200 baud 0.36 s for 4,096 bytes.
+ *         alderflute_settings settings = alderflute_default_settings();
+ *         settings.ceiling = 4096;
+ *   - How long it holds. The run goes by it, all of it, and after END it stays in the state until the next open that is not
+ *     refused. No other call changes it. Write goes by it too, and refuses a longer block with 12. The calls that read a block
+ *     do not: they take any, a longer one too.
+ * The hold has its ALDERFLUTE_HOLD bytes with every ceiling.
+ *
+ * REFUSALS (R1 to R13, their order R20). The numbers have names, ALDERFLUTE_REFUSAL_.., and alderflute_refusal_text gives a
  * line for a log.
  *    1  BAD_BUFFER. A buffer of the reader is shorter than above, or a number in the state is out of bounds: phase is above
  *       2; held above 65,532, above taken or below standing; in_force or waiting above 8,192; taken above 4,294,967,295;
- *       blocks or skipped above taken.
+ *       blocks or skipped above taken. Or the ceiling in the state is none, as 13 has it.
  *    2  OUT_OF_TURN. open while a run is open; feed or finish while none is; feed once finish was called.
  *    3  RUN_FULL. feed: the run has had its 4,294,967,295 bytes, and no block is left among those held. Only an empty piece
  *       is taken then.
@@ -96,8 +114,10 @@
  *   10  NOT_ONE_FRAME. What was given as a block is not exactly one: sync bytes, length and CRC do not all fit it.
  *   11  BAD_VALUES. write: the revision is above 7; there are more than 255 sub-blocks, or any where the row has no
  *       sub-fields; or TOW, WNc or some value is not allowed, as WRITING has it.
- *   12  NO_ROOM. write: the block is longer than the buffer, or than 65,532 bytes, or its sub-blocks than 255 bytes each.
- * Where several hold, open gives the first of 1, 2, 5, 4; feed of 1, 2, 3; finish of 1, 2; bytes and withdraw 1; stage of
+ *   12  NO_ROOM. write: the block is longer than the buffer, or than the ceiling in the state, or its sub-blocks than 255 bytes
+ *       each.
+ *   13  BAD_CEILING. open: the ceiling that it was given is none: 4 does not divide it, or it is below 16 or above 65,532.
+ * Where several hold, open gives the first of 1, 2, 13, 5, 4; feed of 1, 2, 3; finish of 1, 2; bytes and withdraw 1; stage of
  * 1, 4; body, sub, subbytes, sub2, range and range2 of 1, 5, 4, 10, 6, 7, 8, 9; tow and wnc of 1, 10, 7; write of 1, 5, 4, 6,
  * 11, 12, where 1 does not look at the buffer that is written.
  *
@@ -127,10 +147,11 @@
  * bench/worst and bench/record of the repository with the kit that its README names; by the table shipped as it was before it
  * had MeasEpoch, 380 bytes long.
  *   feed            1,300 for a block of 44 bytes in one piece, 525,000 for the last byte of a block of 65,532.
- *                   A header in noise holds back as many bytes as its length says, up to 65,532, and the feed that ends it
- *                   decides all of them: 600,000 where they are zeros, but 4,570,000,000 where they are full of such
- *                   headers, the dearest that we could make: 1.4 s on one core of an Intel Xeon. Smaller pieces do not help
- *                   there. Each byte more in its piece can add 131,000. With finish it is the same.
+ *                   A header in noise holds back as many bytes as its length says, up to the ceiling, and the feed that ends
+ *                   it decides all of them. Of 65,532: 600,000 where they are zeros, but 4,570,000,000 where they are full
+ *                   of such headers, the dearest that we could make: 1.4 s on one core of an Intel Xeon. Smaller pieces do
+ *                   not help there; with a lower ceiling fewer bytes are held back. Each byte more in its piece can add
+ *                   131,000. With finish it is the same.
  *   body, sub, subbytes   7,200 to 9,300 by the table shipped and blocks of 44 and 272 bytes, 669,000 by a table of 8,192
  *                   bytes and a block of 65,532: each checks the table in force, and the block's CRC. By a row of two levels
  *                   they pass once over its first-level sub-blocks, 255 at the most. So do sub2, range and range2, which are
@@ -141,8 +162,8 @@
  *   stage, open     6,600 for the table shipped, 142,000 for one of 8,192 bytes.
  * The others look at no bytes.
  *
- * MEMORY. A reader has 81,920 bytes of buffers, and 64 of state. Nothing is called back and nothing recurs, so a call's stack
- * does not grow with its input. The deepest measured is feed's, 1,360 bytes, with what its caller has there for arguments and
+ * MEMORY. A reader has 81,920 bytes of buffers, and 72 of state. Nothing is called back and nothing recurs, so a call's stack
+ * does not grow with its input. The deepest measured is feed's, 1,408 bytes, with what its caller has there for arguments and
  * reply: tests/capi/stack.c paints the stack and looks how far down the paint is gone.
  *
  * EXAMPLE (samples/example.c)
@@ -212,8 +233,10 @@
  *             return 2;
  *         }
  *         alderflute_state new_one = alderflute_new();
+ *         alderflute_settings settings = alderflute_default_settings(); // blocks of any length; a ceiling: see CEILING
  *         alderflute_reply r = alderflute_stage(new_one, waiting, sizeof waiting, alderflute_table, sizeof alderflute_table);
- *         if (r.answer.refusal == 0) r = alderflute_open(r.state, in_force, sizeof in_force, waiting, sizeof waiting);
+ *         if (r.answer.refusal == 0)
+ *             r = alderflute_open(r.state, settings, in_force, sizeof in_force, waiting, sizeof waiting);
  *         while (r.answer.refusal == 0 && (n = fread(piece, 1, sizeof piece, stdin)) > 0) r = feed_all(r, piece, n);
  *         if (ferror(stdin)) {
  *             fprintf(stderr, "example: cannot read standard input\n");
@@ -280,8 +303,10 @@
  *             return 2;
  *         }
  *         alderflute_state new_one = alderflute_new();
+ *         alderflute_settings settings = alderflute_default_settings(); // blocks of any length
  *         alderflute_reply r = alderflute_stage(new_one, waiting, sizeof waiting, alderflute_table, sizeof alderflute_table);
- *         if (r.answer.refusal == 0) r = alderflute_open(r.state, in_force, sizeof in_force, waiting, sizeof waiting);
+ *         if (r.answer.refusal == 0)
+ *             r = alderflute_open(r.state, settings, in_force, sizeof in_force, waiting, sizeof waiting);
  *         if (r.answer.refusal != 0) return refused(r.answer.refusal);
  *         give_number(ALDERFLUTE_ATTEULER_ERROR, 0); // three without a Do-Not-Use value: they have to be given
  *         give_number(ALDERFLUTE_ATTEULER_MODE, 2);
@@ -313,11 +338,15 @@ extern "C" {
 #endif
 
 /* The number of this interface. It rises where a program that was compiled with an older header would go wrong. */
-#define ALDERFLUTE_ABI 1
+#define ALDERFLUTE_ABI 2
 
 /* The least lengths of the lent buffers. */
 #define ALDERFLUTE_HOLD 65536
 #define ALDERFLUTE_STORE 8192
+
+/* A ceiling is a number that 4 divides, from the least to the greatest. */
+#define ALDERFLUTE_CEILING_LEAST 16
+#define ALDERFLUTE_CEILING_GREATEST 65532
 
 /* Phases of a run. */
 #define ALDERFLUTE_CLOSED 0
@@ -362,10 +391,17 @@ enum alderflute_refusal {
     ALDERFLUTE_REFUSAL_NO_SUCH_FIELD = 9,
     ALDERFLUTE_REFUSAL_NOT_ONE_FRAME = 10,
     ALDERFLUTE_REFUSAL_BAD_VALUES = 11,
-    ALDERFLUTE_REFUSAL_NO_ROOM = 12
+    ALDERFLUTE_REFUSAL_NO_ROOM = 12,
+    ALDERFLUTE_REFUSAL_BAD_CEILING = 13
 };
 
-/* A reader's state, 64 bytes. Its table lengths are 0 where no table is in force, or none waits. */
+/* What open is given, and a run goes by: CEILING has more. Later versions may have more members: begin with those of
+   alderflute_default_settings, and change what you want otherwise. */
+typedef struct alderflute_settings {
+    uint64_t ceiling; /* the greatest length of a block */
+} alderflute_settings;
+
+/* A reader's state, 72 bytes. Its table lengths are 0 where no table is in force, or none waits. */
 typedef struct alderflute_state {
     uint64_t phase;
     uint64_t held;     /* bytes of the hold that count, a standing block first */
@@ -373,6 +409,7 @@ typedef struct alderflute_state {
     uint64_t taken;    /* bytes of the run so far */
     uint64_t blocks;
     uint64_t skipped;
+    alderflute_settings settings; /* of the last open that was not refused; at first the default ones */
     uint64_t in_force; /* length of the table in force */
     uint64_t waiting;  /* length of the table that waits */
 } alderflute_state;
@@ -402,7 +439,7 @@ typedef struct alderflute_answer {
     alderflute_end end;
 } alderflute_answer;
 
-/* What a call leaves and answers, 136 bytes. */
+/* What a call leaves and answers, 144 bytes. */
 typedef struct alderflute_reply {
     alderflute_state state;
     alderflute_answer answer;
@@ -443,12 +480,16 @@ uint32_t alderflute_abi(void);
 /* C15. A new reader: no run, no table. Not refused. */
 alderflute_state alderflute_new(void);
 
-/* C5. Opens a run. A table that waits is copied to the in-force store first, and waits no more. The counts begin at 0, and the
-   hold counts as empty. TABLE_VERSION: of the table in force from now on. Field numbers belong to a version: where it is not
-   the one that yours were taken from (ALDERFLUTE_NAMES_VERSION of a header by `tools/table c`), ask for no fields by them.
-   That tells tables apart only where you number them all yourself, and give each one that you release a number of its own. */
-alderflute_reply alderflute_open(alderflute_state state, uint8_t *in_force, size_t in_force_length, const uint8_t *waiting,
-                                 size_t waiting_length);
+/* C15, C17. The settings of a new reader: a ceiling of 65,532, with which every block is reported. Not refused. */
+alderflute_settings alderflute_default_settings(void);
+
+/* C5, C17. Opens a run, which goes by the settings. A table that waits is copied to the in-force store first, and waits no
+   more. The counts begin at 0, and the hold counts as empty. TABLE_VERSION: of the table in force from now on. Field numbers
+   belong to a version: where it is not the one that yours were taken from (ALDERFLUTE_NAMES_VERSION of a header by
+   `tools/table c`), ask for no fields by them. That tells tables apart only where you number them all yourself, and give each
+   one that you release a number of its own. */
+alderflute_reply alderflute_open(alderflute_state state, alderflute_settings settings, uint8_t *in_force,
+                                 size_t in_force_length, const uint8_t *waiting, size_t waiting_length);
 
 /* C6, C7. Drops the block last reported and takes bytes of the piece, up to a block that they end, up to the end of the piece,
    or up to 4,294,967,295 bytes in the run. BLOCK or MORE, each with taken. BLOCK with taken 0 is usual: that block was held
@@ -523,7 +564,7 @@ static inline const char *alderflute_refusal_text(uint32_t refusal)
 {
     switch (refusal) {
     case 0: return "not refused";
-    case ALDERFLUTE_REFUSAL_BAD_BUFFER: return "a buffer is too short or the state made up: go on with the last reply's state";
+    case ALDERFLUTE_REFUSAL_BAD_BUFFER: return "a buffer is too short, or the state is no reply's: start with alderflute_new";
     case ALDERFLUTE_REFUSAL_OUT_OF_TURN: return "out of turn: open a run, feed it, finish it until END, then open the next";
     case ALDERFLUTE_REFUSAL_RUN_FULL: return "the run is full: finish it and open the next";
     case ALDERFLUTE_REFUSAL_BAD_TABLE: return "the table breaks a rule: `tools/table show FILE` says which";
@@ -534,7 +575,8 @@ static inline const char *alderflute_refusal_text(uint32_t refusal)
     case ALDERFLUTE_REFUSAL_NO_SUCH_FIELD: return "no such field or sub-block: see the table, and N, N1 or N2";
     case ALDERFLUTE_REFUSAL_NOT_ONE_FRAME: return "no whole block: give the part that alderflute_bytes hands back";
     case ALDERFLUTE_REFUSAL_BAD_VALUES: return "what was given does not fit the row: see its types, marks and revisions";
-    case ALDERFLUTE_REFUSAL_NO_ROOM: return "the block does not fit: lend a longer buffer; above 65,532 bytes none will do";
+    case ALDERFLUTE_REFUSAL_NO_ROOM: return "the block does not fit: lend a longer buffer, or open with a greater ceiling";
+    case ALDERFLUTE_REFUSAL_BAD_CEILING: return "no ceiling: give a number that 4 divides, from 16 to 65,532";
     default: return "a refusal that this header does not know: the archive is newer";
     }
 }

@@ -63,8 +63,10 @@ int main(void)
         return 2;
     }
     alderflute_state new_one = alderflute_new();
+    alderflute_settings settings = alderflute_default_settings(); // blocks of any length; a ceiling: see CEILING
     alderflute_reply r = alderflute_stage(new_one, waiting, sizeof waiting, alderflute_table, sizeof alderflute_table);
-    if (r.answer.refusal == 0) r = alderflute_open(r.state, in_force, sizeof in_force, waiting, sizeof waiting);
+    if (r.answer.refusal == 0)
+        r = alderflute_open(r.state, settings, in_force, sizeof in_force, waiting, sizeof waiting);
     while (r.answer.refusal == 0 && (n = fread(piece, 1, sizeof piece, stdin)) > 0) r = feed_all(r, piece, n);
     if (ferror(stdin)) {
         fprintf(stderr, "example: cannot read standard input\n");

@@ -45,8 +45,10 @@ int main(void)
         fprintf(stderr, "ranges: alderflute.h and libalderflute.a do not belong together\n");
         return 2;
     }
+    alderflute_settings settings = alderflute_default_settings(); // blocks of any length
     alderflute_reply r = alderflute_stage(alderflute_new(), waiting, sizeof waiting, alderflute_table, sizeof alderflute_table);
-    if (r.answer.refusal == 0) r = alderflute_open(r.state, in_force, sizeof in_force, waiting, sizeof waiting);
+    if (r.answer.refusal == 0)
+        r = alderflute_open(r.state, settings, in_force, sizeof in_force, waiting, sizeof waiting);
     while (r.answer.refusal == 0 && (n = fread(piece, 1, sizeof piece, stdin)) > 0) {
         at = 0;
         do {

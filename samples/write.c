@@ -39,8 +39,10 @@ int main(void)
         return 2;
     }
     alderflute_state new_one = alderflute_new();
+    alderflute_settings settings = alderflute_default_settings(); // blocks of any length
     alderflute_reply r = alderflute_stage(new_one, waiting, sizeof waiting, alderflute_table, sizeof alderflute_table);
-    if (r.answer.refusal == 0) r = alderflute_open(r.state, in_force, sizeof in_force, waiting, sizeof waiting);
+    if (r.answer.refusal == 0)
+        r = alderflute_open(r.state, settings, in_force, sizeof in_force, waiting, sizeof waiting);
     if (r.answer.refusal != 0) return refused(r.answer.refusal);
     give_number(ALDERFLUTE_ATTEULER_ERROR, 0); // three without a Do-Not-Use value: they have to be given
     give_number(ALDERFLUTE_ATTEULER_MODE, 2);

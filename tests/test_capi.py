@@ -1,6 +1,6 @@
 #!/usr/bin/env python3
-"""The C interface: the header as C and as C++, what is in the archive, the examples, also from an installed copy, odd states, the
-depth of the stack, and scripts played by tests/capi/play.c and by the program replay, whose output is to be the same byte for
+"""The C interface: the header as C and as C++, what is in the archive, the examples, also from an installed copy, odd states,
+ceilings, the depth of the stack, and scripts played by tests/capi/play.c and by the program replay, whose output is to be the same byte for
 byte. All C is built with the kit's own clang and ld.lld.
 
 test_capi.py         run all cases
@@ -169,9 +169,12 @@ def spoil(rng, words):
     return words
 
 
-NAMES = ["phase", "force", "waits", "held", "stands", "taken", "blocks", "skipped"]
+NAMES = ["phase", "force", "waits", "held", "stands", "taken", "blocks", "skipped", "ceiling"]
+CEILINGS = [16, 20, 44, 68, 96, 120, 200, 204, 256, 4096, 65528, 65532]
+NO_CEILINGS = [0, 4, 12, 15, 17, 18, 65531, 65533, 65536, 2 ** 32 + 16, 2 ** 64 - 4, 2 ** 64 - 1]
 NUMBERS = [0, 1, 2, 7, 8, 9, 380, 8191, 8192, 8193, 65531, 65532, 65533, 4294967294, 4294967295, 4294967296, 2 ** 63, 2 ** 64 - 1]
-BAD = ["opens", "open ", " open", "feed", "feed 0", "feed 0g", "feed 24 40", "body 0", "body x 24", "poke phase 3", "poke held -1",
+BAD = ["opens", "open ", " open", "open x", "open -", "open 16 ", "open 16 16", "open 18446744073709551616",
+       "feed", "feed 0", "feed 0g", "feed 24 40", "body 0", "body x 24", "poke phase 3", "poke held -1",
        "poke held 18446744073709551616", "poke nothing 1", "put hold 65535 0000", "put hold 65537 -", "put nowhere 0 00", "size hold",
        "size nowhere 1", "sub 0 24", "subbytes 24", "open\r", "bytes 1", "withdraw -", "tow", "wnc 2", "feed  24",
        "sub2 0 0 24", "sub2 0 0 0 0 24", "range 24", "range 0 0 24", "range2 0 24",
@@ -226,12 +229,17 @@ def script(seed):
         words = write(rng.choice(numbers), rng.choice([0, 0, 1, 2, 7]), rng.choice([0, 1, 1, 2, 3]), 0.02)
         return room + ["write " + " ".join(spoil(rng, words) if rng.random() < 0.2 else words)]
 
+    def opening():
+        return rng.choice(["open"] * 2 + [f"open {rng.choice(CEILINGS if rng.random() < 0.9 else NO_CEILINGS)}"])
+
     def afresh():
-        return [f"poke {name} 0" for name in NAMES] + ["stage " + rng.choice([new] * 9 + [table(rng)]).hex(), "open"]
+        zeros = [f"poke {name} 0" for name in NAMES if name != "ceiling"]
+        return zeros + ["poke ceiling 65532", "stage " + rng.choice([new] * 9 + [table(rng)]).hex(), opening()]
 
     def spoiled():
-        name, n = rng.choice(NAMES), rng.choice(NUMBERS + [rng.randrange(70000)])
-        calls = rng.choice([feeding, record, writing, lambda: ["finish"], lambda: ["open"], lambda: ["withdraw"], lambda: ["bytes"]])()
+        name = rng.choice(NAMES)
+        n = rng.choice(CEILINGS + NO_CEILINGS if name == "ceiling" else NUMBERS + [rng.randrange(70000)])
+        calls = rng.choice([feeding, record, writing, lambda: ["finish"], lambda: [opening()], lambda: ["withdraw"], lambda: ["bytes"]])()
         return [f"poke {name} {n % 3 if name == 'phase' else n}"] + calls + ["stage " + new.hex()] + afresh()
 
     def written():
@@ -244,7 +252,7 @@ def script(seed):
                 for name in rng.sample(["hold", "force", "waiting", "out"], rng.randrange(1, 3))]
 
     kinds = [feeding] * 6 + [record] * 6 + [writing] * 6 + [afresh, spoiled, written, short, lambda: ["finish", "finish", "bytes"] + afresh(),
-                                            lambda: ["finish", "bytes", "finish", "finish", "open"], lambda: ["open"],
+                                            lambda: ["finish", "bytes", "finish", "finish", opening()], lambda: [opening()],
                                             lambda: ["bytes"], lambda: ["withdraw"], lambda: [rng.choice(BAD)],
                                             lambda: ["stage " + hexed(rng.choice([new, new, new, shipped, table(rng), b"", new[:-1]]))]]
     while len(lines) < 300:
@@ -252,7 +260,8 @@ def script(seed):
             last = some_block(rng, numbers)
         lines += rng.choice(kinds)()
     if seed % 8 == 3:
-        lines += afresh() + ["feed " + block(rng, 5, 0, bytes(65524)).hex(), "bytes", "feed -", "finish"]
+        for word in ("open", "open 65528"):
+            lines += afresh()[:-2] + ["stage " + new.hex(), word, "feed " + block(rng, 5, 0, bytes(65524)).hex(), "bytes", "feed -", "finish"]
     if seed % 8 == 7:
         lines += afresh()[:-2] + ["stage " + new.hex(), "open"] + ["write " + " ".join(write(4043, 0, n, 0)) for n in (254, 255, 256)]
     if seed % 8 == 5:
@@ -268,7 +277,7 @@ def build(env):
     if not expect("tools/capi builds the archive", status == 0 and os.path.exists(ARCHIVE), error.decode(errors="replace")[-2000:]):
         return False
     os.makedirs(BUILT, exist_ok=True)
-    for source in [EXAMPLE, WRITE, RANGES] + [os.path.join(TOP, "tests", "capi", name + ".c") for name in ("play", "odd", "stack", "full")]:
+    for source in [EXAMPLE, WRITE, RANGES] + [os.path.join(TOP, "tests", "capi", name + ".c") for name in ("play", "odd", "ceiling", "stack", "full")]:
         if not compiled(env, source, os.path.join(BUILT, os.path.basename(source)[:-2]), CFLAGS, [ARCHIVE]):
             return False
     return True
@@ -312,16 +321,16 @@ def header(env):
                        if line.split() and line[0] != "#"] for name in ("shipped", "flight-line"))
     expect("two samples say version 1, with other rows", shipped[0] == other[0] == "version 1" and shipped != other, (shipped[0], other[0]))
     listed = re.findall(r"^ \* +(\d+)  \S", text, re.M)
-    expect("the header has a sentence for each refusal", listed == [str(n) for n in range(1, 13)], listed)
+    expect("the header has a sentence for each refusal", listed == [str(n) for n in range(1, 14)], listed)
     names = re.findall(r"^    ALDERFLUTE_REFUSAL_(\w+) = (\d+),?$", text, re.M)
     numbers = re.findall(r"Refusal::(\w+) => (\d+),", read(os.path.join(TOP, "crates", "refusal", "src", "lib.rt")))
     wanted = [(re.sub(r"(?<!^)([A-Z])", r"_\1", name).upper(), n) for name, n in numbers]
-    expect("the header's refusals are those of the crate refusal", names == wanted and len(names) == 12, names)
+    expect("the header's refusals are those of the crate refusal", names == wanted and len(names) == 13, names)
     told = re.findall(r"^ \* +(\d+)  ([A-Z_]+)\. ", text, re.M)
     expect("the header's sentences name them", [(name, n) for n, name in told] == wanted, told)
     exported = exports()
     declared = set(re.findall(r"^\w+ (alderflute_\w+)\(", text, re.M))
-    expect("the header declares what the crate exports", exported == declared and len(exported) == 17, exported ^ declared)
+    expect("the header declares what the crate exports", exported == declared and len(exported) == 18, exported ^ declared)
 
 
 def exports():
@@ -553,8 +562,9 @@ def write_example(env):
 
 
 def odd(env):
-    status, out, _ = ran([os.path.join(TOP, "tools", "x86run"), os.path.join(BUILT, "odd")], env)
-    expect("odd states and empty buffers", status == 0 and re.fullmatch(rb"\d\d+ passed, 0 failed\n", out), out.decode(errors="replace"))
+    for program, what in [("odd", "odd states and empty buffers"), ("ceiling", "ceilings")]:
+        status, out, _ = ran([os.path.join(TOP, "tools", "x86run"), os.path.join(BUILT, program)], env)
+        expect(what, status == 0 and re.fullmatch(rb"\d\d+ passed, 0 failed\n", out), out.decode(errors="replace"))
 
 
 def difference(a, b):

@@ -1,6 +1,6 @@
 #!/usr/bin/env python3
-"""The replay program on scripts written by hand: the flight line of samples/, each kind of bad line, size, put and poke, blocks
-that are written; and on those that tools/script writes of recordings.
+"""The replay program on scripts written by hand: the flight line and the false header of samples/, each kind of bad line, size,
+put and poke, blocks that are written, ceilings; and on those that tools/script writes of recordings.
 
 What is expected is written down here, with the CRCs of the buffers from binascii.crc_hqx(data, 0).
 Needs target/bin/replay, which `rt check` makes. The last line is 'N passed, M failed'.
@@ -37,8 +37,9 @@ def crcs(hold=HOLD, force=FORCE, waiting=WAITING):
     return f"{crc(hold)} {crc(force)} {crc(waiting)}"
 
 
-def line(answer, state, buffers="- - -"):
-    return f"{answer} | {state} | {buffers}\n"
+def line(answer, state, buffers="- - -", ceiling=65532):
+    """A line of the output; the ceiling is the last number of the state."""
+    return f"{answer} | {state} {ceiling} | {buffers}\n"
 
 
 ZERO = "0 0 0 0 0 0 0 0"
@@ -51,12 +52,32 @@ def bad(*numbers):
     return "".join(f"bad line {n}\n" for n in numbers)
 
 
+def text(name):
+    """A file of samples/."""
+    with open(os.path.join(TOP, "samples", name), encoding="ascii") as f:
+        return f.read()
+
+
+def false_header():
+    """samples/false-header.script: the output file, and that its answers are what the script tells: without a ceiling three blocks
+    that come at Finish, with one each at its Feed."""
+    script, out = text("false-header.script"), text("false-header.out")
+    yield "samples/false-header.script", script, out, ""
+    blocks = [f"block {8 + 44 * n} 5938 0 44" for n in range(3)]
+    late = ["opened 1", "fed 8 more", *["fed 44 more"] * 3, *blocks, "end 140 3 8"]
+    soon = ["opened 1", "fed 8 more", *[f"fed 44 {block}" for block in blocks], "end 140 3 8"]
+    yield "the answers to samples/false-header.script", None, str(["staged 1", *late, *soon]), str([said.split(" | ")[0] for said in out.splitlines()])
+    with open(os.path.join(TOP, "README.md"), encoding="utf-8") as f:
+        readme = f.read()
+    for name, lines in (("without", out.splitlines()[2:6]), ("with", out.splitlines()[11:15])):
+        yield f"README.md shows the answers {name} a ceiling", None, "True", str("".join(f"    {words}\n" for words in lines) in readme)
+    fed = [words for words in script.split("\n") if words.startswith("feed ")]
+    yield "samples/false-header.script feeds the same bytes twice", None, str(fed[:4]), str(fed[4:])
+
+
 def flight():
     """samples/flight-line.script: the output file, and that the script's tables are those of the texts. They are from before
     request M-101, and PPPInfo is read by mark 2 there."""
-    def text(name):
-        with open(os.path.join(TOP, "samples", name), encoding="ascii") as f:
-            return f.read()
     script = text("flight-line.script")
     yield "samples/flight-line.script", script, text("flight-line.out"), ""
     with open(os.path.join(TOP, "README.md"), encoding="utf-8") as f:
@@ -81,7 +102,7 @@ def flight():
 
 # A line that is no call, with why; each is tried alone and between two good lines.
 BAD = [
-    ("an unknown word", "opened"), ("a word in capitals", "OPEN"), ("a word too many", "open now"),
+    ("an unknown word", "opened"), ("a word in capitals", "OPEN"), ("a word too many", "finish now"),
     ("a word too many behind hex", "feed 00 00"), ("a missing word", "feed"), ("a missing number", "body 00"),
     ("a space at the front", " open"), ("a space at the end", "open "), ("a space at the end of hex", "feed 00 "),
     ("two spaces", "feed  00"), ("a tab", "feed\t00"), ("a carriage return", "open\r"), ("a lone carriage return", "\r"),
@@ -126,6 +147,17 @@ BAD_VALUES = [
     ("i over 2^63 - 1", "i9223372036854775808"), ("i far over", "i99999999999999999999999999"), ("i below -2^63", "i-9223372036854775809"),
     ("i far below", "i-99999999999999999999999999"), ("a bad value between good ones", "u1 / x - /"),
 ]
+# The same of lines about ceilings.
+BAD_CEILINGS = [
+    ("open and a word", "open now"), ("two numbers for open", "open 16 16"), ("a dash for open", "open -"), ("open in hex", "open 0x10"),
+    ("a negative number for open", "open -16"), ("a sign for open", "open +16"), ("a fraction for open", "open 16.0"),
+    ("two spaces for open", "open  16"), ("a space behind open's number", "open 16 "), ("a carriage return behind open's number", "open 16\r"),
+    ("open over 2^64 - 1", "open 18446744073709551616"), ("open far over 2^64 - 1", "open 99999999999999999999999999"),
+    ("a number for finish", "finish 16"), ("poke without a ceiling", "poke ceiling"), ("poke of no number", "poke ceiling -"),
+    ("poke of two", "poke ceiling 16 16"), ("poke over 2^64 - 1", "poke ceiling 18446744073709551616"), ("put into the ceiling", "put ceiling 0 00"),
+    ("size of the ceiling", "size ceiling 16"),
+]
+BAD += BAD_CEILINGS
 BAD += [(f"write: {why}", f"write{words}") for why, words in BAD_WRITES]
 BAD += [(f"write: {why}", f"write 5943 0 1000 2100 {words}") for why, words in BAD_VALUES]
 
@@ -174,9 +206,9 @@ def size_put_poke():
     yield "a put past the buffer writes nothing", "put waiting 8191 0000\nwithdraw\n", NONE, bad(1)
     yield "put and bytes", "poke held 4\npoke taken 4\npoke stands 3\nput hold 0 010203\nbytes\n", \
         line(f"part 3 {crc(bytes((1, 2, 3)))}", "0 0 0 4 3 4 0 0"), ""
-    names = ["phase", "force", "waits", "held", "stands", "taken", "blocks", "skipped"]
+    names = ["phase", "force", "waits", "held", "stands", "taken", "blocks", "skipped", "ceiling"]
     pokes = "".join(f"poke {name} {n + 1 if n else 2}\n" for n, name in enumerate(names))
-    yield "poke of every number", pokes + "bytes\n", line("refused 1", "2 2 3 4 5 6 7 8"), ""
+    yield "poke of every number", pokes + "bytes\n", line("refused 1", "2 2 3 4 5 6 7 8", ceiling=9), ""
     yield "poke changes one number", "poke taken 9\npoke skipped 3\nbytes\n", line("part 0 0000", "0 0 0 0 0 9 0 3"), ""
     yield "a poked waiting table", "poke waits 20\nwithdraw\nwithdraw\n", line("withdrawn 1", ZERO, crcs()) + NONE, ""
     yield "phase 2", "poke phase 2\nfeed -\nfinish\n", \
@@ -316,6 +348,52 @@ def writes():
     yield "as many sub-blocks as a line holds", f"{OPENED}{fits.replace(' -', ' /')}\n", OPENING + refused(11), ""
 
 
+NO_CEILINGS = (0, 1, 4, 8, 12, 14, 15, 17, 18, 19, 4095, 65529, 65530, 65531, 65533, 65534, 65535, 65536, 65540, 65552, 2**32, 2**32 + 16, 2**32 + 65532,
+               2**63, 2**64 - 65536 + 16, 2**64 - 4, 2**64 - 1)
+FALSE = "24400000000060ea"  # S14: a header with the length 60,000
+STAGED = f"0 0 {len(TABLE)} 0 0 0 0 0"
+CLOSED = f"0 {len(TABLE)} 0 0 0 0 0 0"
+
+
+def begun(ceiling):
+    """The answers to a stage and to an open with a ceiling."""
+    return OPENING.replace(f"{IN_RUN} 65532", f"{IN_RUN} {ceiling}")
+
+
+def ceilings():
+    stage = f"stage {TABLE.hex()}\n"
+    staged = crcs(waiting=over(TABLE, WAITING))
+    for number in NO_CEILINGS:
+        yield f"no ceiling: {number}", f"{stage}open {number}\n", OPENING.splitlines(True)[0] + line("refused 13", STAGED, staged), ""
+        yield f"no ceiling in the state: {number}", f"poke ceiling {number}\nbytes\ntow {END.hex()}\nwithdraw\nopen 16\n", \
+            line("refused 1", ZERO, ceiling=number) * 2 + line("refused 1", ZERO, crcs(), ceiling=number) * 2, ""
+    for words, number in (("16", 16), ("20", 20), ("4096", 4096), ("65528", 65528), ("65532", 65532), ("00000000000000000000000016", 16)):
+        yield f"open {words}", f"{stage}open {words}\n", begun(number), ""
+    held = over(bytes.fromhex(FALSE + BLOCK), HOLD)
+    found = over(bytes.fromhex(BLOCK), HOLD)
+    in_run, stored = IN_RUN[:-len(" 0 0 0 0 0")], STORED[4:]
+    yield "S14 without a ceiling", f"{OPENED}feed {FALSE}{BLOCK}\n", OPENING + line("fed 16 more", f"{in_run} 16 0 16 0 0", crc(held) + stored), ""
+    yield "S14 with 4096", f"{stage}open 4096\nfeed {FALSE}{BLOCK}\n", \
+        begun(4096) + line("fed 16 block 8 0 0 8", f"{in_run} 8 8 16 1 8", crc(found) + stored, ceiling=4096), ""
+    yield "a header above the ceiling, byte by byte", f"{stage}open 16\nfeed 24400000000014\nfeed 00\n", \
+        begun(16) + line("fed 7 more", f"{in_run} 7 0 7 0 0", crc(over(bytes.fromhex("24400000000014"), HOLD)) + stored, ceiling=16) \
+        + line("fed 1 more", f"{in_run} 0 0 8 0 8", crc(over(bytes.fromhex("24400000000014"), HOLD)) + stored, ceiling=16), ""
+    yield "a block as long as the ceiling", f"{stage}open 16\nfeed {END.hex()}\n", \
+        begun(16) + line("fed 16 block 0 5943 0 16", f"{in_run} 16 16 16 1 0", crc(over(END, HOLD)) + stored, ceiling=16), ""
+    yield "no table and no ceiling", "open 15\nopen 16\n", line("refused 13", ZERO, crcs()) + OPEN5, ""
+    yield "a bad table and no ceiling", "poke waits 19\nopen 15\nopen 16\n", "".join(line(f"refused {n}", "0 0 19 0 0 0 0 0", crcs()) for n in (13, 4)), ""
+    yield "a run open and no ceiling", f"{stage}open 16\nopen 15\nopen 20\n", begun(16) + line("refused 2", IN_RUN, STORED, ceiling=16) * 2, ""
+    yield "a ceiling from one open to the next", f"{stage}open 16\nfinish\nopen 15\nopen\n", \
+        begun(16) + line("end 0 0 0", CLOSED, STORED, ceiling=16) + line("refused 13", CLOSED, STORED, ceiling=16) + line("opened 1", IN_RUN, STORED), ""
+    long = cartesian(0x2000)
+    yield "a record of a block above the ceiling", f"{stage}open 16\ntow {long.hex()}\nbody 21 {long.hex()}\n", \
+        begun(16) + line("unsigned 5", IN_RUN, ceiling=16) + line("unsigned 8192", IN_RUN, ceiling=16), ""
+    assert len(long) == 88
+    yield "write: blocks about the ceiling", f"{stage}open 84\nwrite {CARTESIAN} u8192\nfinish\nwrite {CARTESIAN} u8192\nopen 88\nwrite {CARTESIAN} u8192\n", \
+        begun(84) + line("refused 12", IN_RUN, ceiling=84) + line("end 0 0 0", CLOSED, STORED, ceiling=84) + line("refused 12", CLOSED, ceiling=84) \
+        + line("opened 1", IN_RUN, STORED, ceiling=88) + line(f"written 88 {crc(over(long, OUT))}", IN_RUN, ceiling=88), ""
+
+
 def longest():
     """270,000 bytes without the line feed are fine, one more is a bad line, on every side of a read."""
     fits = "stage " + "00" * ((LONGEST - len("stage ")) // 2)
@@ -350,16 +428,20 @@ def failures(env):
         yield "a full device as standard output", "replay: cannot write to standard output\n", told(script, full)
 
 
+def script_of(env, *words, data=b""):
+    """What tools/script writes, on either stream."""
+    return subprocess.run([os.path.join(TOP, "tools", "script"), *words], input=data, env=env, stdout=subprocess.PIPE,
+                          stderr=subprocess.STDOUT, timeout=60).stdout.decode("ascii")
+
+
 def recordings(env):
     """(name, the lister's lines, what replay reports of the script of tools/script): streams with their lists beside them, and a
-    false header whose last byte stands within a block, with blocks on either side."""
+    false header whose last byte stands within a block, with blocks on either side; the same with ceilings about its length."""
     table = os.path.join(TOP, "samples", "shipped-v1.table")
 
-    def told(*words, data=b""):
+    def told(*words, data=b"", ceiling=()):
         """Blocks and end in the answers, and every answer that is neither such nor usual."""
-        script = subprocess.run([os.path.join(TOP, "tools", "script"), table, *words], input=data, env=env, stdout=subprocess.PIPE,
-                                stderr=subprocess.STDOUT, timeout=60).stdout.decode("ascii")
-        said, wrong = played(script, env)
+        said, wrong = played(script_of(env, *ceiling, table, *words, data=data), env)
         answers = re.sub(r"(?m)^(fed \d+ (?=block)|(staged|opened) 1$|fed \d+ more$)\n?", "", re.sub(r"(?m) \|.*$", "", said))
         return answers + wrong
     for path in sorted(glob.glob(os.path.join(TOP, "tests", "streams", "*.sbf"))) + [os.path.join(TOP, "samples", "flight.sbf")]:
@@ -369,6 +451,10 @@ def recordings(env):
     want = "".join(f"block {8 + 8 * n} 0 0 8\n" for n in range(20)) + "end 168 20 8\n"
     yield "the script of blocks in a false header and behind it", want, told(data=held_back)
     yield "the script of nothing", "end 0 0 0\n", told("-")
+    for number in ("56", "60"):
+        yield f"the script of a false header of 60 with the ceiling {number}", want, told(data=held_back, ceiling=("--ceiling", number))
+    yield "the script of a number that is no ceiling", "tools/script: --ceiling 15: is no ceiling; give a number that 4 divides, from 16 to 65532\n", \
+        script_of(env, "--ceiling", "15", table, data=held_back)
     with open(os.path.join(TOP, "samples", "flight.sbf"), "rb") as sbf, open(table, "rb") as rows:
         pieces = [f"feed {piece.hex()}\n" for piece in iter(lambda: sbf.read(512), b"")]
         said, _ = played(f"stage {rows.read().hex()}\nopen\n{''.join(pieces)}finish\n", env)
@@ -378,7 +464,7 @@ def recordings(env):
 
 
 def cases():
-    for group in (flight, bad_lines, numbers, passed_over, size_put_poke, writes, longest, many):
+    for group in (flight, false_header, bad_lines, numbers, passed_over, size_put_poke, writes, ceilings, longest, many):
         yield from group()
 
 

@@ -3,25 +3,29 @@
 
     test_replay.py            the gate's amount: 220 scripts of about 100
                               calls, 110 of about 200 record calls, 40 of
-                              about 150 on blocks of two levels, 60 of about
-                              100 blocks to be written, 20 runs
+                              about 150 on blocks of two levels, 30 of about
+                              120 on ceilings, 60 of about 100 blocks to be
+                              written, 20 runs
     test_replay.py N          N times as many seeds
     test_replay.py --model    the model's own samples alone; no program is run
     test_replay.py --seed S   writes the script S to standard output: 17 a
                               script, r17 a script of record calls, m17 one
-                              of blocks of two levels, w17 one of blocks to
-                              be written, l17 the bytes of a run for the
-                              lister
+                              of blocks of two levels, c17 one of ceilings,
+                              w17 one of blocks to be written, l17 the bytes
+                              of a run for the lister
 
 Standard output and standard error are compared byte for byte.  At the first
 difference it says where and stops.  The last line is `N passed, M failed`; N
 counts the samples of the model's own test, the scripts and runs compared, and
-the answer kinds and the cases of mark 5 and of two levels that had to be met.
+the answer kinds and the cases of mark 5, of two levels and of ceilings that
+had to be met.
 """
 
 import collections
 import concurrent.futures
 import functools
+import glob
+import itertools
 import os
 import random
 import struct
@@ -42,7 +46,7 @@ TOP = programs.TOP
 RUNNER = os.path.join(TOP, "tools", "x86run")
 REPLAY = os.path.join(TOP, "target", "bin", "replay")
 LISTER = os.path.join(TOP, "target", "bin", "lister")
-SCRIPTS, RECORDS, LEVELS, WRITES, RUNS = 220, 110, 40, 60, 20
+SCRIPTS, RECORDS, LEVELS, CEILINGS, WRITES, RUNS = 220, 110, 40, 30, 60, 20
 LEAST_RECORD_ANSWERS = 20000
 LEAST_WRITTEN = 2500    # blocks
 RECORD_WORDS = ("body", "sub", "subbytes", "tow", "wnc", "sub2", "range",
@@ -54,13 +58,13 @@ SECONDS = 300
 SAMPLE_S2 = bytes.fromhex("2440A98900000800")
 
 
-def run_by_calls(data, cuts):
+def run_by_calls(data, cuts, ceiling=model.CEILING_MOST):
     """A run through the model's calls, cut at random; the unread rest is
     offered again first.  ([blocks], end answer, [bytes of each block])"""
     table = model.shipped_table(1)
     player = model.Player()
     player.line(b"stage " + scripts.hexed(table))
-    player.line(b"open")
+    player.line(b"open %d" % ceiling)
     blocks, parts, rest = [], [], data
     while True:
         size = min(len(rest), cuts())
@@ -69,7 +73,10 @@ def run_by_calls(data, cuts):
         if answer[2] == "block":
             blocks.append(answer[3:])
             parts.append(player.call(b"bytes", [])[1])
-        elif not rest:
+            continue
+        # F17
+        assert player.state.held < ceiling, "fewer are held than the ceiling"
+        if not rest:
             break
     answer = player.call(b"finish", [])
     while answer[0] == "block":
@@ -79,9 +86,9 @@ def run_by_calls(data, cuts):
     return blocks, answer, parts
 
 
-def whole(data):
+def whole(data, ceiling=model.CEILING_MOST):
     """The run's blocks and its end, without calls."""
-    blocks, skipped = model.read_run(data)
+    blocks, skipped = model.read_run(data, ceiling)
     return blocks, ("end", len(data), len(blocks), skipped)
 
 
@@ -140,26 +147,38 @@ def crcs_agree():
             and all(model.crc(s) == model.crc_plain(s) for s in samples))
 
 
+def some_run(rng, count):
+    """The bytes of a run and a ceiling: of two runs, one with the ceiling
+    that leaves out no length."""
+    if rng.random() < 0.5:
+        return (content.stream(rng, model.shipped_rows(), count),
+                model.CEILING_MOST)
+    ceiling = content.good_ceiling(rng)
+    return content.ceiling_stream(rng, model.shipped_rows(), ceiling,
+                                  count), ceiling
+
+
 def feeds_agree():
     """feed_fast is feed_plain."""
     rng = random.Random(2)
-    for _ in range(300):
-        data = content.stream(rng, model.shipped_rows(), rng.randrange(6))
+    for _ in range(400):
+        data, ceiling = some_run(rng, rng.randrange(6))
         cut = rng.randrange(len(data) + 1)
-        pair = data[:cut][-500:], data[cut:][:500]
-        if model.feed_fast(*pair) != model.feed_plain(*pair):
+        given = data[:cut][-500:], data[cut:][:500], ceiling
+        if model.feed_fast(*given) != model.feed_plain(*given):
             return False
     return True
 
 
 def cuts_agree():
-    """However a run is cut, it gives the blocks of its whole bytes."""
+    """However a run is cut, it gives the blocks of its whole bytes, with the
+    ceiling that it was opened with."""
     rng = random.Random(3)
-    for _ in range(60):
-        data = content.stream(rng, model.shipped_rows(), rng.randrange(12))
+    for _ in range(90):
+        data, ceiling = some_run(rng, rng.randrange(12))
         blocks, end, parts = run_by_calls(
-            data, lambda: rng.choice((0, 1, 2, 9, 50, 700)))
-        if (blocks, end) != whole(data):
+            data, lambda: rng.choice((0, 1, 2, 9, 50, 700)), ceiling)
+        if (blocks, end) != whole(data, ceiling):
             return False
         for block, part in zip(blocks, parts):
             if data[block[0]:block[0] + block[3]] != part:
@@ -174,7 +193,8 @@ def moved_agree():
     for _ in range(25):
         data = content.stream(rng, model.shipped_rows(), rng.randrange(1, 9))
         block = content.row_block(rng, rng.choice(model.shipped_rows()))
-        start = [b"stage " + scripts.hexed(model.shipped_table(1)), b"open"]
+        start = [b"stage " + scripts.hexed(model.shipped_table(1)),
+                 b"open %d" % content.good_ceiling(rng)]
         run, table = [], []
         for at in range(0, len(data), 40):
             run.append(b"feed " + scripts.hexed(data[at:at + 40]))
@@ -380,6 +400,12 @@ def sample_s13_tables(player):
     return True
 
 
+def met_of(player, *words):
+    """What a Watcher has counted under these words."""
+    return {(word, kind): count for (word, kind), count in player.met.items()
+            if word in words}
+
+
 def sample_watched():
     """What a Watcher counts of the samples of mark 5."""
     player = Watcher()
@@ -397,7 +423,7 @@ def sample_watched():
                         ("refused, 0", 2), ("refused, 8191", 1),
                         ("refused, other", 2)):
         want["mark 5", "write body " + kind] = count
-    return held and player.met == want
+    return held and met_of(player, "mark 5", "PPPInfo") == want
 
 
 def sample_lines():
@@ -584,10 +610,14 @@ def as_given(answers):
 
 
 def one_frame():
-    """W22."""
+    """W22: with the longest ceiling, with one that is the block's length, and
+    not with one below."""
     for _, wanted, block in made():
         one = (0, wanted.number, wanted.revision, len(block))
-        if model.read_run(block) != ([one], 0):
+        for ceiling in (model.CEILING_MOST, len(block)):
+            if model.read_run(block, ceiling) != ([one], 0):
+                return False
+        if one in model.read_run(block, len(block) - 4)[0]:
             return False
     return True
 
@@ -871,6 +901,148 @@ def sample_ranges():
     return True
 
 
+# ------------------------------------------------------- samples of ceilings
+# Request M-103.
+
+FALSE_60000 = bytes.fromhex("24400000000060EA")
+FALSE_20 = "2440000037171400"
+EULER_LINE = (b"write 5938 0 345600000 2200 u12 u0 u4 u0 f1119092736"
+              b" f3217031168 f1073741824")
+# (line, the first words of its answer or None, the ceiling that stands then)
+CEILING_LINES = (
+    (b"open 15", "refused 13", 65532), (b"open 12", "refused 13", 65532),
+    (b"open 65536", "refused 13", 65532), (b"open 0016", "opened 1", 16),
+    (b"feed " + END_OF_ATT.replace(" ", "").encode(),
+     "fed 16 block 0 5943 0 16", 16),
+    (b"feed " + FALSE_20[:14].encode(), "fed 7 more", 16),
+    (b"feed " + FALSE_20[14:].encode(), "fed 1 more", 16),
+    (b"write 5943 0 1000 2100", "written 16", 16),
+    (EULER_LINE, "refused 12", 16), (EULER_LINE + b" u0", "refused 11", 16),
+    (b"open 20", "refused 2", 16), (b"finish", "end 24 1 8", 16),
+    (EULER_LINE, "refused 12", 16), (b"open 20 20", None, 16),
+    (b"open 18446744073709551616", None, 16), (b"open x", None, 16),
+    (b"open 18446744073709551615", "refused 13", 16),
+    (b"tow " + ATT_EULER.replace(" ", "").encode(), "unsigned", 16),
+    (b"body 0 " + ATT_EULER.replace(" ", "").encode(), "unsigned 12", 16),
+    (b"open", "opened 1", 65532), (EULER_LINE, "written 44", 65532),
+    (b"poke ceiling 40", None, 40), (EULER_LINE, "refused 12", 40),
+    (b"poke ceiling 44", None, 44), (EULER_LINE, "written 44", 44),
+    (b"poke ceiling 42", None, 42), (EULER_LINE, "refused 1", 42),
+    (b"withdraw", "refused 1", 42), (b"open", "refused 1", 42))
+
+
+def opened(*words):
+    """A player with a run open, by the rows shipped."""
+    player = model.Player()
+    player.line(b"stage " + scripts.hexed(model.shipped_table(1)))
+    player.line(b" ".join((b"open",) + words))
+    return player
+
+
+def sample_s14():
+    """S14: the block shows at Finish, or at once."""
+    data = FALSE_60000 + SAMPLE_S2
+    slow, fast = opened(), opened(b"4096")
+    return (slow.call(b"feed", [data]) == ("fed", 16, "more")
+            and slow.state.held == 16
+            and slow.call(b"finish", []) == ("block", 8, 0, 0, 8)
+            and fast.call(b"feed", [data]) == ("fed", 16, "block", 8, 0, 0, 8)
+            and fast.state.skipped == 8)
+
+
+def sample_ceilings():
+    """F16, of every number up to 70,000 and of those above that the scripts
+    have; the scripts' own good and bad ones."""
+    rng = random.Random(10)
+    right = [n for n in range(70000) if model.ceiling_right(n)]
+    return (right == list(range(16, 65533, 4))
+            and all(model.ceiling_right(content.good_ceiling(rng))
+                    for _ in range(300))
+            and not any(model.ceiling_right(n) for n in content.BAD_CEILINGS)
+            and not any(model.ceiling_right(content.bad_ceiling(rng))
+                        for _ in range(300)))
+
+
+def sample_ceiling_lines():
+    """The lines above."""
+    player = model.Player()
+    player.line(b"stage " + scripts.hexed(model.shipped_table(1)))
+    for line, want, ceiling in CEILING_LINES:
+        try:
+            told = player.line(line)
+        except model.BadLine:
+            told = None
+        right = told.startswith(want + " ") if told and want else told == want
+        if not right or player.state.ceiling != ceiling:
+            print("  %s: %s" % (shown(line), told))
+            return False
+        if told and told.split(" | ")[1].split(" ")[8] != str(ceiling):
+            return False
+    return True
+
+
+def sample_open_orders():
+    """R20, of Open: with any of its refusals' conditions together the first
+    in the order is given, and the state stays."""
+    order = (1, 2, 13, 5, 4)
+    for holds in itertools.product((False, True), repeat=5):
+        one, two, thirteen, five, four = holds
+        if five and four:    # these two exclude each other
+            continue
+        player = model.Player()
+        player.line(b"stage " + scripts.hexed(model.shipped_table(1)))
+        player.state = player.state._replace(
+            ceiling=15 if one else 20, phase=2 if two else 0,
+            waits=0 if five else 19 if four else player.state.waits)
+        before = player.state
+        answer = player.call(b"open", [14 if thirteen else 44])
+        want = [("refused", n) for n, now in zip(order, holds) if now]
+        if answer != (want + [("opened", 1)])[0]:
+            return False
+        after = before if want else opened(b"44").state
+        if player.state != after:
+            return False
+    return True
+
+
+def decided_soon():
+    """F17: a place is decided by as many bytes as the ceiling says, whatever
+    they are."""
+    rng = random.Random(11)
+    for _ in range(500):
+        ceiling = content.good_ceiling(rng)
+        data = content.header_near(rng, ceiling)
+        data = data[rng.choice((0, 0, 0, 1)):][:ceiling]
+        data += content.noise(rng, ceiling - len(data) + 1)[1:]
+        if model.decided(data, 0, ceiling) is None:
+            return False
+        soon = model.decided(data[:8], 0, ceiling)
+        length = model.length_field(data, 0)
+        if data[:2] == b"\x24\x40" and (soon is None) != (
+                8 < length <= ceiling):
+            return False
+    return True
+
+
+def scripts_kept():
+    """The scripts of samples/ and the output that is kept of each."""
+    paths = sorted(glob.glob(os.path.join(TOP, "samples", "*.script")))
+    for path in paths:
+        with open(path, "rb") as file, open(path[:-6] + "out", "rb") as out:
+            if model.play(file.read()) != (out.read(), b""):
+                print("  %s" % os.path.relpath(path, TOP))
+                return False
+    return len(paths) > 1
+
+
+def ceiling_samples():
+    return [("S14", sample_s14()), ("F16", sample_ceilings()),
+            ("F17", decided_soon()), ("ceilings", sample_ceiling_lines()),
+            ("ceilings, R20", sample_open_orders()),
+            ("ceilings, counted", sample_ceilings_watched()),
+            ("samples/*.script", scripts_kept())]
+
+
 def level_samples():
     return [("two levels, by hand", sample_epoch()),
             ("two levels, R8", sample_eights()),
@@ -915,19 +1087,21 @@ def samples():
         ("crc", crcs_agree()), ("feed", feeds_agree()),
         ("cuts", cuts_agree()), ("moved", moved_agree()),
         ("tables", tables_agree()), ("shipped", shipped_agree())
-    ] + write_samples() + level_samples()
+    ] + write_samples() + level_samples() + ceiling_samples()
 
 
 # ------------------------------------------------------- one script compared
 
 
 def material(name):
-    """The script, or the run, of a seed's name: 17, r17, m17, w17 or
+    """The script, or the run, of a seed's name: 17, r17, m17, c17, w17 or
     l17."""
     if name.startswith("r"):
         return scripts.record_script(int(name[1:]))
     if name.startswith("m"):
         return scripts.level_script(int(name[1:]))
+    if name.startswith("c"):
+        return scripts.ceiling_script(int(name[1:]))
     if name.startswith("w"):
         return scripts.write_script(int(name[1:]))
     if name.startswith("l"):
@@ -1067,16 +1241,29 @@ def compare(name):
 
 
 class Watcher(model.Player):
-    """A player that counts what comes up of mark 5, as MARK_5 has it, and of
-    two levels, as TWO_LEVELS has it."""
+    """A player that counts what comes up of mark 5, as MARK_5 has it, of two
+    levels, as TWO_LEVELS has it, and of ceilings, as CEILINGS_MET has it."""
 
     def __init__(self):
         super().__init__()
         self.met = collections.Counter()
+        self.begun = self.state.ceiling    # by the last Open
+
+    def poke(self, name, number):
+        super().poke(name, number)
+        if name == "ceiling":
+            self.met["ceiling", "poke in phase %d, %s" % (
+                self.state.phase, "a ceiling" if model.ceiling_right(number)
+                else "none")] += 1
 
     def call(self, word, arguments):
         state, force = self.state, self.lent("force")
+        seen = Seen(self, word, arguments)
         answer = super().call(word, arguments)
+        self.met.update(("ceiling", kind) for kind in ceilings_met(
+            seen, word.decode(), arguments, answer, self.state))
+        if answer[0] == "opened":
+            self.begun = self.state.ceiling
         self.met.update(levels_met(state, force, word.decode(), arguments,
                                    answer))
         if word in (b"body", b"sub", b"sub2") and answer[0] != "refused":
@@ -1426,9 +1613,226 @@ def list_faults(fields, highest):
                                 for f in fields))) if holds]
 
 
+# -------------------------------------------------- what ceilings came to
+# Request M-103.  A line of output tells the ceiling but not what it did.  So
+# a call is made twice, the second time on copies and with the ceiling 65,532
+# in the state: what is otherwise there is the ceiling's doing.
+
+
+class Seen:
+    """What there is before a call: the state, the bytes that Feed and Finish
+    read first, the buffers as they are lent, and old, the answer and the next
+    state by 65,532 (None where they are not asked for)."""
+
+    def __init__(self, player, word, arguments):
+        self.state, self.begun = player.state, player.begun
+        self.lent = {name: player.lent(name) for name in player.buffers}
+        self.held = self.old = None
+        if word in (b"feed", b"finish"):
+            self.held = bytes(self.lent["hold"][
+                self.state.stands:self.state.held])
+        right = model.ceiling_right(self.state.ceiling)
+        if self.state.ceiling != model.CEILING_MOST and (
+                not right or word in (b"feed", b"finish")):
+            twin = model.Player()
+            twin.state = self.state._replace(ceiling=model.CEILING_MOST)
+            twin.buffers = {name: bytearray(data)
+                            for name, data in player.buffers.items()}
+            twin.sizes = player.sizes
+            self.old = twin.call(word, arguments), twin.state
+
+
+def ceilings_met(seen, word, arguments, answer, after):
+    """The kinds that a call came to, as CEILINGS_MET has them."""
+    ceiling = seen.state.ceiling
+    if not model.ceiling_right(ceiling):
+        yield "refused 1, " + ceiling_flaw(ceiling)
+        if seen.old[0][0] != "refused":
+            yield word + " refused 1, the ceiling alone"
+    if word == "open":
+        yield from opens_met(seen, arguments, answer)
+    elif word == "write":
+        yield from room_met(seen, arguments, answer)
+    elif answer[0] == "refused":
+        return
+    elif word in ("feed", "finish"):
+        yield from runs_met(seen, word, arguments, answer, after)
+    elif word in RECORD_WORDS and len(arguments[-1]) > ceiling:
+        yield word + " answered, a block above"
+    elif word == "bytes" and seen.state.stands > ceiling:
+        yield "bytes answered, a longer block stands"
+
+
+def ceiling_flaw(number):
+    """What is wrong with a number that is no ceiling."""
+    if number in (0, 4, 8, 12, 65536):
+        return str(number)
+    for bits in (32, 16):
+        if number >> bits and model.ceiling_right(number % 2 ** bits):
+            return "low %d bits right" % bits
+    if number > model.CEILING_MOST:
+        return "above" if number % 4 == 0 else "above and by 4"
+    return "by 4" if number > model.CEILING_LEAST else "below and by 4"
+
+
+def opens_met(seen, arguments, answer):
+    """Of an Open: which of its conditions hold, and what becomes of the
+    ceiling that there was."""
+    state = seen.state
+    force, waiting = seen.lent["force"], seen.lent["waiting"]
+    given = (arguments + [model.CEILING_MOST])[0]
+    changes = state.ceiling != given
+    if answer[0] == "opened":
+        word = "with one" if arguments else "without one"
+        yield "opened %s, %s" % (word, "another before" if changes
+                                 else "the same before")
+        if arguments and given in CEILING_ENDS:
+            yield "opened with %d" % given
+        return
+    if changes and leaves_out(state.ceiling):
+        yield "open refused %d, the ceiling kept" % answer[1]
+    if answer == ("refused", 13):
+        yield "open refused 13, " + ceiling_flaw(given)
+    table = waiting[:state.waits] if state.waits else force[:state.force]
+    none = state.waits == 0 and state.force == 0
+    holds = [number for number, now in (
+        (1, model.fault_one(state, force=force, waiting=waiting)),
+        (2, state.phase != model.CLOSED),
+        (13, not model.ceiling_right(given)), (5, none),
+        (4, not none and not model.read_table(bytes(table)))) if now]
+    if len(holds) == 2:
+        yield "open refused %d, %d too" % tuple(holds)
+    elif holds == [13]:
+        yield "open refused 13, alone"
+
+
+def leaves_out(ceiling):
+    """Is it a ceiling that leaves lengths out?"""
+    return model.ceiling_right(ceiling) and ceiling != model.CEILING_MOST
+
+
+def runs_met(seen, word, arguments, answer, after):
+    """Of a Feed or a Finish that was not refused."""
+    state, ceiling = seen.state, seen.state.ceiling
+    kind = answer[2] if word == "feed" else answer[0]
+    if ceiling == model.CEILING_MOST:
+        # Finish has none so long, unless the hold was written to
+        if word == "feed" and kind == "block" and answer[-1] == ceiling:
+            yield "feed block, 65532 by 65532"
+        return
+    data = seen.held
+    if word == "feed":
+        data += bytes(arguments[0][:answer[1]])
+    yield from skips_met(word, data, after.skipped - state.skipped, ceiling)
+    if kind == "block" and answer[-1] == ceiling:
+        yield word + " block, as long as the ceiling"
+    if kind == "more" and after.held >= 8 and model.length_field(
+            data, len(data) - after.held) == ceiling:
+        yield "feed waits, as long as the ceiling"
+    if kind == "end":
+        yield "end, the ceiling stays"
+    yield from otherwise_met(word, kind, answer, after, *seen.old)
+    if seen.begun != ceiling:
+        yield "%s %s, poked in the run" % (word, kind)
+    if state.stands > ceiling:
+        yield word + " answered, a longer block stands"
+    elif state.held > ceiling:
+        yield word + " answered, more held"
+
+
+def skips_met(word, data, skipped, ceiling):
+    """Of the places that a call skipped: those with a header that the ceiling
+    alone does not allow, and those with one that it just allows."""
+    place = data.find(b"\x24\x40")
+    while 0 <= place < skipped:
+        length = 0
+        if place + 8 <= len(data):
+            length = model.length_field(data, place)
+        if length == ceiling:
+            yield word + " skips, as long as the ceiling"
+        if length % 4 == 0 and length > ceiling:
+            yield "%s skips, %s" % (word, "4 above" if length == ceiling + 4
+                                    else "further above")
+            if model.frame_at(data, place, model.CEILING_MOST):
+                yield word + " skips, a whole block above"
+            elif place + length > len(data):
+                yield word + " skips, above and not all there"
+            if word == "feed" and place + 8 == len(data):
+                yield "feed skips, above with the eighth byte"
+        place = data.find(b"\x24\x40", place + 1)
+
+
+def otherwise_met(word, kind, answer, after, old, old_after):
+    """Of a Feed or a Finish that would not have answered, or left, the same
+    by 65,532."""
+    other = old[2] if word == "feed" else old[0]
+    if kind != other:
+        yield "%s %s, %s by 65532" % (word, kind, other)
+    elif kind == "block" and answer != old:
+        yield word + " block, another by 65532"
+    elif kind == "more" and after.held < old_after.held:
+        yield "feed more, more held by 65532"
+
+
+def room_met(seen, arguments, answer):
+    """Of a Write, where the ceiling leaves lengths out."""
+    state, ceiling = seen.state, seen.state.ceiling
+    if not leaves_out(ceiling) or answer in [
+            ("refused", n) for n in (1, 4, 5, 6)]:
+        return
+    number, revision, subs = arguments[0], arguments[1], arguments[-1]
+    row = row_in(state, seen.lent["force"], number)
+    length = model.block_length(row, min(revision, 7), len(subs))
+    if answer[0] == "written":
+        if length == ceiling:
+            yield "written, as long as the ceiling"
+        return
+    if answer == ("refused", 11):
+        if length > ceiling:
+            yield "write refused 11, above too"
+        return
+    causes = [name for name, now in (
+        ("the ceiling", length > ceiling),
+        ("the buffer", length > len(seen.lent["out"])),
+        ("SBLength", model.sub_length(row, revision, len(subs)) > 255)) if now]
+    yield "write refused 12, " + " and ".join(causes)
+    if causes == ["the ceiling"] and length == ceiling + 4:
+        yield "write refused 12, 4 above"
+    if causes == ["the ceiling"] and state.phase == model.CLOSED and (
+            seen.begun == ceiling):
+        yield "write refused 12, the ceiling of a run that ended"
+
+
+def sample_ceilings_watched():
+    """What a Watcher counts of a few lines by hand."""
+    player = Watcher()
+    for line in (b"stage " + scripts.hexed(model.shipped_table(1)), b"open 14",
+                 b"open 16", b"feed " + scripts.hexed(FALSE_60000),
+                 b"feed " + scripts.hexed(SAMPLE_S2), b"write 5924 0 1 1",
+                 EULER_LINE, b"open 20", b"poke ceiling 12", b"bytes",
+                 b"feed -", b"poke ceiling 20", b"feed -", b"finish",
+                 b"finish", b"open"):
+        player.line(line)
+    kinds = [
+        "open refused 13, alone", "open refused 13, below and by 4",
+        "opened with one, another before", "opened with 16",
+        "feed skips, further above", "feed skips, above and not all there",
+        "feed skips, above with the eighth byte",
+        "feed more, more held by 65532",
+        "write refused 11, above too", "write refused 12, the ceiling",
+        "open refused 2, the ceiling kept", "poke in phase 1, none",
+        "bytes refused 1, the ceiling alone",
+        "feed refused 1, the ceiling alone", "refused 1, 12",
+        "refused 1, 12", "poke in phase 1, a ceiling",
+        "feed more, poked in the run", "finish end, poked in the run",
+        "end, the ceiling stays", "opened without one, another before"]
+    return met_of(player, "ceiling") == collections.Counter(
+        ("ceiling", kind) for kind in kinds)
+
+
 # --------------------------------------------------------- what must be met
 
-REFUSALS = {"open": (1, 2, 4, 5), "feed": (1, 2, 3), "finish": (1, 2),
+REFUSALS = {"open": (1, 2, 4, 5, 13), "feed": (1, 2, 3), "finish": (1, 2),
             "bytes": (1,), "stage": (1, 4), "withdraw": (1,),
             "body": (1, 4, 5, 6, 7, 8, 9, 10),
             "sub": (1, 4, 5, 6, 7, 8, 9, 10),
@@ -1531,12 +1935,56 @@ LEVEL_KINDS = {
                        in SHIPPED_EPOCH.items() for kind in kinds)}
 
 
+# What a Watcher counts of ceilings below 65,532, or that are none.
+CEILING_ENDS = (16, 20, 65528, 65532)
+CEILING_FLAWS = ("0", "4", "8", "12", "65536", "low 16 bits right",
+                 "low 32 bits right", "above", "above and by 4", "by 4",
+                 "below and by 4")
+CEILINGS_MET = {
+    "open": ["opened with %d" % n for n in CEILING_ENDS] + [
+        "opened %s, %s before" % (word, what)
+        for word in ("with one", "without one")
+        for what in ("another", "the same")] + [
+        "open refused %d, the ceiling kept" % n for n in REFUSALS["open"]] + [
+        "open refused 13, " + what for what in ("alone",) + CEILING_FLAWS] + [
+        "open refused %d, %d too" % pair for pair in itertools.combinations(
+            (1, 2, 13, 5, 4), 2) if pair != (5, 4)],
+    "state": [word + " refused 1, the ceiling alone" for word in ANSWERS] + [
+        "refused 1, " + what for what in CEILING_FLAWS] + [
+        "poke in phase %d, %s" % (phase, what) for phase in (0, 1, 2)
+        for what in ("a ceiling", "none")],
+    "run": [word + " skips, " + what for word in ("feed", "finish")
+            for what in ("4 above", "further above", "a whole block above",
+                         "above and not all there",
+                         "as long as the ceiling")] + [
+        word + " block, " + what for word in ("feed", "finish")
+        for what in ("as long as the ceiling", "another by 65532")] + [
+        "feed block, 65532 by 65532", "feed skips, above with the eighth byte",
+        "feed waits, as long as the ceiling", "feed block, more by 65532",
+        "feed more, block by 65532", "feed more, more held by 65532",
+        "finish end, block by 65532", "end, the ceiling stays"],
+    "poked": [kind + ", poked in the run" for kind in (
+        "feed block", "feed more", "finish block", "finish end")] + [
+        word + " answered, more held" for word in ("feed", "finish")] + [
+        word + " answered, a longer block stands"
+        for word in ("bytes", "feed", "finish")],
+    "record": [word + " answered, a block above" for word in RECORD_WORDS],
+    "write": ["written, as long as the ceiling",
+              "write refused 11, above too"] + [
+        "write refused 12, " + why for why in (
+            "the ceiling", "the buffer", "SBLength",
+            "the ceiling and the buffer", "the ceiling and SBLength",
+            "4 above", "the ceiling of a run that ended")]}
+CEILING_KINDS = {"ceiling": tuple(kind for group in CEILINGS_MET.values()
+                                  for kind in group)}
+
+
 def must_be_met():
     out = []
     for word in ANSWERS:
         out += [(word, kind) for kind in ANSWERS[word]]
         out += [(word, "refused %d" % n) for n in REFUSALS[word]]
-    for kinds in (MARK_5, LEVEL_KINDS):
+    for kinds in (MARK_5, LEVEL_KINDS, CEILING_KINDS):
         for word in kinds:
             out += [(word, kind) for kind in kinds[word]]
     return out
@@ -1546,11 +1994,13 @@ def must_be_met():
 MAY_BE_MET = {("two levels", "%s answered, %s" % (word, what))
               for word in LEVEL_WORDS for what in (
                   "SB2Length 0", "N1 255", "N2 255")}
+MAY_BE_MET |= {("ceiling", "write refused 12, " + why) for why in (
+    "the buffer and SBLength", "the ceiling and the buffer and SBLength")}
 
 
 def print_counts(counts):
     """The table of what was met."""
-    for word in list(ANSWERS) + list(MARK_5) + list(LEVEL_KINDS):
+    for word in [*ANSWERS, *MARK_5, *LEVEL_KINDS, *CEILING_KINDS]:
         kinds = sorted(k for w, k in counts if w == word)
         print("  %-10s %s" % (word, ", ".join(
             "%s: %d" % (kind, counts[word, kind]) for kind in kinds)))
@@ -1580,7 +2030,8 @@ def check_counts(tally, times):
               counts["lister", "line"]))
     print_counts(counts)
     for name, have, least in (("scripts", tally.scripts,
-                               SCRIPTS + RECORDS + LEVELS + WRITES),
+                               SCRIPTS + RECORDS + LEVELS + CEILINGS
+                               + WRITES),
                               ("record answers", records,
                                LEAST_RECORD_ANSWERS),
                               ("blocks written", written, LEAST_WRITTEN),
@@ -1616,6 +2067,7 @@ def names_of(times):
     return (["%d" % n for n in range(1, SCRIPTS * times + 1)]
             + ["r%d" % n for n in range(1, RECORDS * times + 1)]
             + ["m%d" % n for n in range(1, LEVELS * times + 1)]
+            + ["c%d" % n for n in range(1, CEILINGS * times + 1)]
             + ["w%d" % n for n in range(1, WRITES * times + 1)]
             + ["l%d" % n for n in range(1, RUNS * times + 1)])
 

@@ -1,5 +1,6 @@
-/* What no script of `replay` can say: states whose phase is none, buffers of length 0 at NULL, values that are to be 0, the
-   number of the interface, the texts of refusals. Prints each case that fails, and last 'N passed, M failed'. */
+/* What no script of `replay` can say: states whose phase is none, a struct of zeros, buffers of length 0 at NULL, values that
+   are to be 0, the number of the interface, the texts of refusals. And states without a ceiling, in every call. Prints each
+   case that fails, and last 'N passed, M failed'. */
 #include "alderflute.h"
 
 extern int printf(const char *form, ...);
@@ -12,12 +13,14 @@ static const uint8_t sample[8] = {0x24, 0x40, 0xa9, 0x89, 0, 0, 8, 0};
 /* The smallest table that T1 to T20 allow: version 7, one row, block 0, no fields. */
 static const uint8_t table[20] = {0, 0, 0, 0, 0, 0, 0, 0, 7, 0, 1, 0, 20, 0, 20, 0, 0x59, 0x9c, 0x42, 0x54};
 static const alderflute_value tow = {ALDERFLUTE_GIVE_UNSIGNED, 0x04030201}, wnc = {ALDERFLUTE_GIVE_UNSIGNED, 0x0605};
+static const alderflute_settings plain = {65532};
 static unsigned passed, failed;
 
-static void check(int holds, const char *what, uint64_t phase)
+/* `number` is the odd one: a phase, a ceiling or a refusal. */
+static void check(int holds, const char *what, uint64_t number)
 {
     if (holds) passed++;
-    else failed++, printf("odd: %s, phase %lu\n", what, phase);
+    else failed++, printf("odd: %s, %lu\n", what, number);
 }
 
 static int same(const void *a, const void *b, size_t count) { return memcmp(a, b, count) == 0; }
@@ -50,33 +53,48 @@ static int no_part(alderflute_part p, uint32_t n) { return p.refusal == n && p.o
 
 static int no_block(alderflute_written w, uint32_t n) { return w.refusal == n && w.length == 0 && untouched(); }
 
-/* A phase that is none: refusal 1 from every call, the state as it was, and nothing written. */
+/* A state that refusal 1 names: it comes from every call, the state is as it was, and nothing is written. */
+static void unsound(alderflute_state s, uint64_t number)
+{
+    check(refuses(alderflute_open(s, plain, in_force, sizeof in_force, waiting, sizeof waiting), s, 1), "open", number);
+    check(refuses(alderflute_feed(s, hold, sizeof hold, sample, sizeof sample), s, 1), "feed", number);
+    check(refuses(alderflute_finish(s, hold, sizeof hold), s, 1), "finish", number);
+    check(refuses(alderflute_stage(s, waiting, sizeof waiting, table, sizeof table), s, 1), "stage", number);
+    check(refuses(alderflute_withdraw(s), s, 1), "withdraw", number);
+    check(no_part(alderflute_bytes(s, hold, sizeof hold), 1), "bytes", number);
+    check(no_part(alderflute_subbytes(s, in_force, sizeof in_force, sample, sizeof sample, 0), 1), "subbytes", number);
+    check(no_field(alderflute_body(s, in_force, sizeof in_force, sample, sizeof sample, 0), 1), "body", number);
+    check(no_field(alderflute_sub(s, in_force, sizeof in_force, sample, sizeof sample, 0, 0), 1), "sub", number);
+    check(no_field(alderflute_sub2(s, in_force, sizeof in_force, sample, sizeof sample, 0, 0, 0), 1), "sub2", number);
+    check(no_field(alderflute_range(s, in_force, sizeof in_force, sample, sizeof sample, 0), 1), "range", number);
+    check(no_field(alderflute_range2(s, in_force, sizeof in_force, sample, sizeof sample, 0, 0), 1), "range2", number);
+    check(no_field(alderflute_tow(s, sample, sizeof sample), 1), "tow", number);
+    check(no_field(alderflute_wnc(s, sample, sizeof sample), 1), "wnc", number);
+    check(no_block(alderflute_write(s, in_force, sizeof in_force, 0, 0, tow, wnc, NULL, 0, NULL, 0, out, sizeof out), 1), "write",
+          number);
+}
+
+/* A phase that is none. */
 static void unknown(uint64_t phase)
 {
-    alderflute_state s = {phase, 8, 8, 9, 1, 1, 20, 20};
-    check(refuses(alderflute_open(s, in_force, sizeof in_force, waiting, sizeof waiting), s, 1), "open", phase);
-    check(refuses(alderflute_feed(s, hold, sizeof hold, sample, sizeof sample), s, 1), "feed", phase);
-    check(refuses(alderflute_finish(s, hold, sizeof hold), s, 1), "finish", phase);
-    check(refuses(alderflute_stage(s, waiting, sizeof waiting, table, sizeof table), s, 1), "stage", phase);
-    check(refuses(alderflute_withdraw(s), s, 1), "withdraw", phase);
-    check(no_part(alderflute_bytes(s, hold, sizeof hold), 1), "bytes", phase);
-    check(no_part(alderflute_subbytes(s, in_force, sizeof in_force, sample, sizeof sample, 0), 1), "subbytes", phase);
-    check(no_field(alderflute_body(s, in_force, sizeof in_force, sample, sizeof sample, 0), 1), "body", phase);
-    check(no_field(alderflute_sub(s, in_force, sizeof in_force, sample, sizeof sample, 0, 0), 1), "sub", phase);
-    check(no_field(alderflute_sub2(s, in_force, sizeof in_force, sample, sizeof sample, 0, 0, 0), 1), "sub2", phase);
-    check(no_field(alderflute_range(s, in_force, sizeof in_force, sample, sizeof sample, 0), 1), "range", phase);
-    check(no_field(alderflute_range2(s, in_force, sizeof in_force, sample, sizeof sample, 0, 0), 1), "range2", phase);
-    check(no_field(alderflute_tow(s, sample, sizeof sample), 1), "tow", phase);
-    check(no_field(alderflute_wnc(s, sample, sizeof sample), 1), "wnc", phase);
-    check(no_block(alderflute_write(s, in_force, sizeof in_force, 0, 0, tow, wnc, NULL, 0, NULL, 0, out, sizeof out), 1), "write",
-          phase);
+    alderflute_state s = {phase, 8, 8, 9, 1, 1, {65532}, 20, 20};
+    unsound(s, phase);
+}
+
+/* A ceiling that is none, in a state that is sound but for it: of a reader that is new, and of one that has a block standing. */
+static void no_ceiling(uint64_t ceiling)
+{
+    alderflute_state s = alderflute_new(), at_a_block = {ALDERFLUTE_FEEDING, 8, 8, 9, 1, 1, {ceiling}, 20, 20};
+    s.settings.ceiling = ceiling;
+    unsound(s, ceiling);
+    unsound(at_a_block, ceiling);
 }
 
 /* Buffers of length 0 at NULL. */
 static void nothing_lent(void)
 {
     alderflute_state s = alderflute_new();
-    check(refuses(alderflute_open(s, NULL, 0, NULL, 0), s, 1), "open, nothing lent", 0);
+    check(refuses(alderflute_open(s, plain, NULL, 0, NULL, 0), s, 1), "open, nothing lent", 0);
     check(refuses(alderflute_feed(s, NULL, 0, NULL, 0), s, 1), "feed, nothing lent", 0);
     check(refuses(alderflute_finish(s, NULL, 0), s, 1), "finish, nothing lent", 0);
     check(refuses(alderflute_stage(s, NULL, 0, NULL, 0), s, 1), "stage, nothing lent", 0);
@@ -154,7 +172,7 @@ static void done(void)
     a = alderflute_withdraw(r.state).answer;
     check(a.refusal == 0 && a.kind == ALDERFLUTE_WITHDRAWN && a.version == 0 && a.waited == 1 && a.taken == 0 && zeros(a.block, a.end),
           "withdraw", 0);
-    r = alderflute_open(r.state, in_force, sizeof in_force, waiting, sizeof waiting), a = r.answer;
+    r = alderflute_open(r.state, plain, in_force, sizeof in_force, waiting, sizeof waiting), a = r.answer;
     check(a.refusal == 0 && a.kind == ALDERFLUTE_TABLE_VERSION && a.version == 7 && a.waited == 0 && a.taken == 0 && zeros(a.block, a.end),
           "open", 0);
     made(r.state);
@@ -171,24 +189,28 @@ static void done(void)
           "finish", 1);
 }
 
-/* A text for each number, and those of 0 to 12 and of an unknown one are different. */
+/* A text for each number, and those of 0 to 13 and of an unknown one are different. */
 static void texts(void)
 {
-    for (uint32_t n = 0; n < 14; n++) {
+    for (uint32_t n = 0; n < 15; n++) {
         const char *text = alderflute_refusal_text(n);
         int apart = text && *text;
         for (uint32_t m = 0; m < n; m++) apart = apart && strcmp(text, alderflute_refusal_text(m)) != 0;
         check(apart, "the text of a refusal", n);
     }
-    check(strcmp(alderflute_refusal_text(13), alderflute_refusal_text((uint32_t)-1)) == 0, "the text of an unknown refusal", 0);
+    check(strcmp(alderflute_refusal_text(14), alderflute_refusal_text((uint32_t)-1)) == 0, "the text of an unknown refusal", 0);
 }
 
 int main(void)
 {
     static const uint64_t phases[] = {3, 4, 255, 256, 65536, 4294967296u, 4294967297u, 9223372036854775808u, (uint64_t)-1};
+    static const uint64_t ceilings[] = {1, 4, 12, 15, 17, 18, 4098, 65533, 65536, 65548, 4294967296u, 4294967312u, (uint64_t)-4};
+    static const alderflute_state zeros_alone;
     memset(hold, 0xa5, sizeof hold), memset(in_force, 0xa5, sizeof in_force), memset(waiting, 0xa5, sizeof waiting);
     memset(out, 0xa5, sizeof out);
     for (size_t i = 0; i < sizeof phases / sizeof *phases; i++) unknown(phases[i]);
+    for (size_t i = 0; i < sizeof ceilings / sizeof *ceilings; i++) no_ceiling(ceilings[i]);
+    unsound(zeros_alone, 0);
     nothing_lent();
     done();
     texts();

@@ -81,6 +81,7 @@ static void state_and(int buffers)
     text(" |");
     word(state.phase), word(state.in_force), word(state.waiting), word(state.held);
     word(state.standing), word(state.taken), word(state.blocks), word(state.skipped);
+    word(state.settings.ceiling);
     text(" | ");
     if (buffers) {
         crc(hold.bytes, hold.length), text(" ");
@@ -218,10 +219,10 @@ static buffer *named(span s)
 
 static int poke(span name, uint64_t n)
 {
-    static const char *const names[] = {"phase", "force", "waits", "held", "stands", "taken", "blocks", "skipped"};
+    static const char *const names[] = {"phase", "force", "waits", "held", "stands", "taken", "blocks", "skipped", "ceiling"};
     uint64_t *const numbers[] = {&state.phase,    &state.in_force, &state.waiting, &state.held,
-                                 &state.standing, &state.taken,    &state.blocks,  &state.skipped};
-    for (int i = 0; i < 8; i++)
+                                 &state.standing, &state.taken,    &state.blocks,  &state.skipped, &state.settings.ceiling};
+    for (int i = 0; i < 9; i++)
         if (is(name, names[i])) return i == 0 && n > 2 ? 0 : (*numbers[i] = n, 1);
     return 0;
 }
@@ -310,12 +311,19 @@ static int write_call(const char *line, size_t length, size_t at)
 
 /* ---- a line: 0 where it is none */
 
+/* Open, by the default settings where the line has no ceiling. */
+static int open_call(const span *w, int words)
+{
+    alderflute_settings settings = alderflute_default_settings();
+    if (words > 2 || (words == 2 && !decimal(w[1], &settings.ceiling))) return 0;
+    return reply(alderflute_open(state, settings, force.bytes, force.lent, waiting.bytes, waiting.lent), "opened", 0), 1;
+}
+
 static int call(const span *w, int words)
 {
     size_t n;
     uint64_t i, j, k;
-    if (words == 1 && is(w[0], "open"))
-        return reply(alderflute_open(state, force.bytes, force.lent, waiting.bytes, waiting.lent), "opened", 0), 1;
+    if (is(w[0], "open")) return open_call(w, words);
     if (words == 1 && is(w[0], "finish")) return reply(alderflute_finish(state, hold.bytes, hold.lent), "", 0), 1;
     if (words == 1 && is(w[0], "bytes")) return part(alderflute_bytes(state, hold.bytes, hold.lent), hold.bytes, hold.lent), 1;
     if (words == 1 && is(w[0], "withdraw")) return reply(alderflute_withdraw(state), "", 0), 1;

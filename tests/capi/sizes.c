@@ -9,15 +9,19 @@
 #define AT(type, member, offset) ASSERT(offsetof(alderflute_##type, member) == offset)
 #define SIZE(type, size) ASSERT(sizeof(alderflute_##type) == size)
 
-SIZE(state, 64);
+SIZE(settings, 8);
+AT(settings, ceiling, 0);
+
+SIZE(state, 72);
 AT(state, phase, 0);
 AT(state, held, 8);
 AT(state, standing, 16);
 AT(state, taken, 24);
 AT(state, blocks, 32);
 AT(state, skipped, 40);
-AT(state, in_force, 48);
-AT(state, waiting, 56);
+AT(state, settings, 48);
+AT(state, in_force, 56);
+AT(state, waiting, 64);
 
 SIZE(block, 24);
 AT(block, place, 0);
@@ -39,9 +43,9 @@ AT(answer, taken, 16);
 AT(answer, block, 24);
 AT(answer, end, 48);
 
-SIZE(reply, 136);
+SIZE(reply, 144);
 AT(reply, state, 0);
-AT(reply, answer, 64);
+AT(reply, answer, 72);
 
 SIZE(field, 32);
 AT(field, refusal, 0);

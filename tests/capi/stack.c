@@ -9,6 +9,7 @@ enum { DEEP = 16384, PAINT = 0xa5 };
 
 static uint8_t hold[ALDERFLUTE_HOLD], in_force[ALDERFLUTE_STORE], waiting[ALDERFLUTE_STORE];
 static alderflute_reply r;
+static alderflute_settings settings;
 static alderflute_field field;
 static alderflute_part part;
 static alderflute_written written;
@@ -28,9 +29,10 @@ static const alderflute_value now = {ALDERFLUTE_GIVE_UNSIGNED, 1};
 static const uint8_t held_back[16] = {0x24, 0x40, 0, 0, 0, 0, 20, 0, 0x24, 0x40, 0xa9, 0x89, 0, 0, 8, 0};
 
 static void new(void) { r.state = alderflute_new(); }
+static void default_settings(void) { settings = alderflute_default_settings(); }
 static void stage(void) { r = alderflute_stage(r.state, waiting, sizeof waiting, alderflute_table, sizeof alderflute_table); }
 static void withdraw(void) { alderflute_withdraw(r.state); }
-static void open(void) { r = alderflute_open(r.state, in_force, sizeof in_force, waiting, sizeof waiting); }
+static void open(void) { r = alderflute_open(r.state, settings, in_force, sizeof in_force, waiting, sizeof waiting); }
 static void feed(void) { r = alderflute_feed(r.state, hold, sizeof hold, block, sizeof block); }
 static void bytes(void) { part = alderflute_bytes(r.state, hold, sizeof hold); }
 static void body(void) { field = alderflute_body(r.state, in_force, sizeof in_force, block, sizeof block, 0); }
@@ -52,7 +54,8 @@ static void finish(void) { r = alderflute_finish(r.state, hold, sizeof hold); }
 static const struct {
     const char *name;
     void (*call)(void);
-} calls[] = {{"new", new}, {"stage", stage}, {"withdraw", withdraw}, {"open", open}, {"feed", feed}, {"bytes", bytes}, {"body", body},
+} calls[] = {{"new", new}, {"default_settings", default_settings}, {"stage", stage}, {"withdraw", withdraw}, {"open", open}, {"feed", feed},
+             {"bytes", bytes}, {"body", body},
              {"sub", sub}, {"subbytes", subbytes}, {"sub2", sub2}, {"range", range}, {"range2", range2}, {"tow", tow}, {"wnc", wnc}, {"write", write}, {"feed", hold_back}, {"finish", finish}};
 
 /* Paints the stack below this frame, makes the call, and looks how far down the paint is gone. */

@@ -1,6 +1,7 @@
 """Seeded content for the replay scripts: field values, blocks, streams and
 block tables, good ones and ones with exactly one rule broken, of one level
-and of two; and blocks to be written, allowed ones and ones with a fault.
+and of two; ceilings, and streams about their length; and blocks to be
+written, allowed ones and ones with a fault.
 
 Every function draws only from the random.Random it is given.
 """
@@ -325,6 +326,8 @@ def level_block(rng, row, revision, slack):
         level_spoiled(rng, row, revision, nested, sizes)
     if len(nested) * sizes[0] + sum(nested) * sizes[1] > 12000:
         nested = nested[:2]
+    if len(nested) * sizes[0] + sum(nested) * sizes[1] > 65400:
+        nested = nested[:1]    # no block has room for both
     if draw > 0.7 and len(nested) == 1 and sizes[0] < 250:
         sizes[0] += -(sizes[0] + nested[0] * sizes[1]) % 4    # ends at L
     data = level_bytes(rng, row, revision, nested, sizes)
@@ -493,6 +496,103 @@ def big_block(rng):
     """A sealed block of a great length, up to 65,532."""
     length = rng.choice((65532, 65528, 4 * rng.randrange(4000, 16384)))
     return seal(blank(rng, rng.randrange(8192), rng.randrange(8), length))
+
+
+# ----------------------------------------------------------- ceilings (F16)
+
+# The bounds, lengths that blocks often have, and those of before ceilings.
+GOOD_CEILINGS = (16, 16, 20, 24, 44, 96, 4096, 4096, 65528, 65532)
+# Each bound's other side, lengths that are allowed in a block (8 and 12), and
+# numbers whose low 16 or 32 bits would be a ceiling.
+BAD_CEILINGS = (
+    0, 1, 4, 8, 8, 12, 12, 13, 14, 15, 17, 18, 19, 4095, 4097, 4098, 65529,
+    65530, 65531, 65533, 65534, 65535, 65536, 65536, 65540, 65536 + 16,
+    65536 + 4096, 2 ** 31, 2 ** 32, 2 ** 32 + 16, 2 ** 32 + 4096,
+    2 ** 32 + 65532, 2 ** 63, 2 ** 63 + 16, 2 ** 64 - 65536, 2 ** 64 - 16,
+    2 ** 64 - 4, 2 ** 64 - 1)
+
+
+def good_ceiling(rng):
+    """A ceiling: mostly so low that blocks of the rows shipped are above."""
+    return rng.choice(GOOD_CEILINGS + (
+        4 * rng.randrange(4, 60), 4 * rng.randrange(4, 60),
+        4 * rng.randrange(4, 300), 4 * rng.randrange(4, 16384)))
+
+
+def bad_ceiling(rng):
+    """A number that is no ceiling."""
+    between = 4 * rng.randrange(4, 16383) + rng.randrange(1, 4)
+    return rng.choice(BAD_CEILINGS + (
+        between, between, 4 * rng.randrange(16384, 2 ** 30),
+        4 * rng.randrange(16384, 2 ** 62)))
+
+
+def length_near(rng, ceiling):
+    """A length that 4 divides: the ceiling itself, one beside it, or one far
+    above or below."""
+    length = rng.choice((
+        ceiling, ceiling, ceiling, ceiling + 4, ceiling + 4, ceiling + 4,
+        ceiling - 4, ceiling + 8, 2 * ceiling, 60000, 65532, 8, 12, 16,
+        ceiling + 4 * rng.randrange(1, 50), 4 * rng.randrange(2, 16384)))
+    return min(65532, max(8, length))
+
+
+def small_blocks(rng, ceiling, room):
+    """A few sealed blocks one behind the other, in so many bytes; a ceiling
+    lets most of them through."""
+    parts = b""
+    for _ in range(rng.choice((1, 1, 2, 3))):
+        length = rng.choice((8, 12, 16, min(ceiling, 64),
+                             4 * rng.randrange(2, 12)))
+        if len(parts) + length <= room:
+            parts += seal(blank(rng, rng.randrange(8192), rng.randrange(8),
+                                length))
+    return parts
+
+
+def sized_block(rng, length, ceiling):
+    """A sealed block of this length.  Mostly there are blocks in it, which
+    are read where its own length is not allowed."""
+    data = blank(rng, rng.randrange(8192), rng.randrange(8), length)
+    if length >= 24 and rng.random() < 0.7:
+        at = rng.choice((8, 14, 16, 4 * rng.randrange(2, length // 4 - 1)))
+        inner = small_blocks(rng, ceiling, length - at)
+        data[at:at + len(inner)] = inner
+    return seal(data)
+
+
+def header_near(rng, ceiling):
+    """A header whose length is about the ceiling and whose CRC is wrong
+    (nearly surely), with blocks behind it that it may hold back."""
+    head = b"\x24\x40" + noise(rng, 4) + struct.pack(
+        "<H", length_near(rng, ceiling))
+    return head + small_blocks(rng, ceiling, 400)
+
+
+def ceiling_chunk(rng, rows, ceiling):
+    """One piece of a stream that is read with this ceiling."""
+    kind = rng.choice(("block", "block", "block", "header", "header", "spoilt",
+                       "cut", "usual", "usual"))
+    if kind == "usual":
+        return chunk(rng, rows)
+    length = length_near(rng, ceiling)
+    if kind == "header" or length > 1500:
+        return header_near(rng, ceiling)
+    data = bytearray(sized_block(rng, length, ceiling))
+    if kind == "spoilt":
+        data[rng.choice((2, 3, len(data) - 1))] ^= 1 << rng.randrange(8)
+    cut = rng.randrange(len(data)) if kind == "cut" else len(data)
+    return bytes(data[:cut])
+
+
+def ceiling_stream(rng, rows, ceiling, count):
+    return b"".join(ceiling_chunk(rng, rows, ceiling) for _ in range(count))
+
+
+def small_epoch(rng):
+    """A MeasEpoch block by the row shipped that every record call answers."""
+    row = next(row for row in SHIPPED if row.number == MEAS_EPOCH)
+    return seal(level_bytes(rng, row, rng.randrange(2), [1, 2], [20, 12]))
 
 
 # ------------------------------------------------------------- valid tables

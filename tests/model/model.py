@@ -6,8 +6,8 @@ part names was put in later, the code is as it was.  Write came with request
 M-100, again without a look at the code: from the request, from section W of
 docs/RULES.md and from docs/REPLAY.md, whose text language is at the end of
 this file.  Mark 5 came with request M-101, in the same way, and so did the
-sub-blocks of two levels with request M-102.  Choices between readings are in
-CHOICES.md.
+sub-blocks of two levels with request M-102 and the ceiling for lengths with
+request M-103.  Choices between readings are in CHOICES.md.
 
 Run as a program it behaves like `replay`: python3 model.py < script
 """
@@ -41,10 +41,19 @@ def crc_plain(data):
 
 # ----------------------------------------------------------------- a frame
 
+# F16: the bounds of a ceiling.  The greatest is a new reader's, the lister's
+# and a record call's: with it no length is ruled out that was not before.
+CEILING_LEAST, CEILING_MOST = 16, 65532
 
-def length_allowed(length):
+
+def ceiling_right(ceiling):
+    """F16: is this number a ceiling?"""
+    return ceiling % 4 == 0 and CEILING_LEAST <= ceiling <= CEILING_MOST
+
+
+def length_allowed(length, ceiling):
     """F4: is this length allowed?"""
-    return length % 4 == 0 and length >= 8
+    return length % 4 == 0 and 8 <= length <= ceiling
 
 
 def length_field(data, place):
@@ -58,15 +67,15 @@ def crc_right(data, place, length):
     return field == crc(data[place + 4:place + length])
 
 
-def frame_at(data, place):
+def frame_at(data, place, ceiling):
     """The length of the frame that stands at `place` of the run `data`, the
-    run's end being the end of data; 0 if none stands there (F8)."""
+    run's end being the end of data; 0 if none stands there (F8, F16)."""
     if place + 8 > len(data):
         return 0
     if data[place] != 0x24 or data[place + 1] != 0x40:
         return 0
     length = length_field(data, place)
-    if not length_allowed(length) or place + length > len(data):
+    if not length_allowed(length, ceiling) or place + length > len(data):
         return 0
     return length if crc_right(data, place, length) else 0
 
@@ -81,12 +90,12 @@ def block_of(data, place):
 # F11: what is a block, and what is skipped.
 
 
-def read_run(data):
+def read_run(data, ceiling=CEILING_MOST):
     """The whole run at once: (list of (place, number, revision, length),
     bytes skipped)."""
     place, skipped, blocks = 0, 0, []
     while place < len(data):
-        length = frame_at(data, place)
+        length = frame_at(data, place, ceiling)
         if length:
             blocks.append((place,) + block_of(data, place))
             place += length
@@ -96,7 +105,7 @@ def read_run(data):
     return blocks, skipped
 
 
-def decided(data, place):
+def decided(data, place, ceiling):
     """F12.  None: not decided by these bytes; 0: skipped; L: a block."""
     have = len(data) - place
     if have < 1:
@@ -110,21 +119,21 @@ def decided(data, place):
     if have < 8:
         return None
     length = length_field(data, place)
-    if not length_allowed(length):
+    if not length_allowed(length, ceiling):
         return 0
     if have < length:
         return None
     return length if crc_right(data, place, length) else 0
 
 
-def feed_plain(held, piece):
+def feed_plain(held, piece, ceiling):
     """C6, after the drop: byte by byte, to a block or to the end of the piece
     (the caller has cut the piece at the run's limit).  Answers (bytes
     skipped, bytes taken, length of the block or 0).  Literal; feed_fast is
     compared with it in the self-test."""
     data, place, took = bytearray(held), 0, 0
     while True:
-        length = decided(data, place)
+        length = decided(data, place, ceiling)
         if length is None:
             if took == len(piece):
                 return place, took, 0
@@ -136,7 +145,7 @@ def feed_plain(held, piece):
             return place, took, length
 
 
-def bytes_to_decide(data, place):
+def bytes_to_decide(data, place, ceiling):
     """How many bytes of data, counted from its start, must be there before
     `place` (which holds 0x24) is decided, and the block's length or 0.  More
     than len(data) bytes: not decided within data."""
@@ -148,14 +157,14 @@ def bytes_to_decide(data, place):
     if place + 8 > end:
         return place + 8, 0
     length = length_field(data, place)
-    if not length_allowed(length):
+    if not length_allowed(length, ceiling):
         return place + 8, 0
     if place + length > end or not crc_right(data, place, length):
         return place + length, 0
     return place + length, length
 
 
-def feed_fast(held, piece):
+def feed_fast(held, piece, ceiling):
     """The same answer as feed_plain.  Places are decided in order, so when
     place p is decided the bytes taken are the most that any place up to p
     has needed, and never fewer than those held."""
@@ -167,7 +176,7 @@ def feed_fast(held, piece):
             place = end if stop < 0 else stop
             seen = max(seen, place)
             continue
-        need, length = bytes_to_decide(data, place)
+        need, length = bytes_to_decide(data, place, ceiling)
         if need > end:
             break
         seen = max(seen, need)
@@ -177,7 +186,7 @@ def feed_fast(held, piece):
     return place, len(piece), 0
 
 
-def finish_scan(data):
+def finish_scan(data, ceiling):
     """F13: no place waits for bytes past the end.  (skipped, length or 0)"""
     place = 0
     while place < len(data):
@@ -185,7 +194,7 @@ def finish_scan(data):
             stop = data.find(b"\x24", place)
             place = len(data) if stop < 0 else stop
             continue
-        length = frame_at(data, place)
+        length = frame_at(data, place, ceiling)
         if length:
             return place, length
         place += 1
@@ -194,15 +203,16 @@ def finish_scan(data):
 
 # ---------------------------------------------------------------- the state
 # C1: by value.  force and waits are the lengths of the tables, 0 for none;
-# stands the length of the standing block, 0 for none.
+# stands the length of the standing block, 0 for none; ceiling is what Open
+# was given last (C17).
 
 CLOSED, FEEDING, FINISHING = 0, 1, 2
 RUN_LIMIT = 4294967295
 HOLD_LEAST, STORE_LEAST, HELD_MOST, TABLE_MOST = 65536, 8192, 65532, 8192
 
 State = namedtuple(
-    "State", "phase force waits held stands taken blocks skipped")
-NEW_READER = State(CLOSED, 0, 0, 0, 0, 0, 0, 0)
+    "State", "phase force waits held stands taken blocks skipped ceiling")
+NEW_READER = State(CLOSED, 0, 0, 0, 0, 0, 0, 0, CEILING_MOST)
 
 
 def refused(number, state):
@@ -217,7 +227,8 @@ def spoiled(state):
             or state.stands > state.held
             or state.force > TABLE_MOST or state.waits > TABLE_MOST
             or state.taken > RUN_LIMIT
-            or state.blocks > state.taken or state.skipped > state.taken)
+            or state.blocks > state.taken or state.skipped > state.taken
+            or not ceiling_right(state.ceiling))
 
 
 def fault_one(state, hold=None, force=None, waiting=None):
@@ -351,12 +362,15 @@ def read_table(data):
 # A buffer is a bytearray or a writable memoryview of one.
 
 
-def call_open(state, force, waiting):
-    """Open (C5); order of refusals 1, 2, 5, 4 (R20)."""
+def call_open(state, force, waiting, ceiling=CEILING_MOST):
+    """Open (C5, C17); order of refusals 1, 2, 13, 5, 4 (R20)."""
     if fault_one(state, force=force, waiting=waiting):
         return refused(1, state)
     if state.phase != CLOSED:
         return refused(2, state)
+    # R13
+    if not ceiling_right(ceiling):
+        return refused(13, state)
     if state.waits == 0 and state.force == 0:
         return refused(5, state)
     length = state.waits or state.force
@@ -367,7 +381,8 @@ def call_open(state, force, waiting):
         return refused(4, state)
     # C5: the copy, the answer and the state of a fresh run
     force[:length] = raw
-    return ("opened", table.version), State(FEEDING, length, 0, 0, 0, 0, 0, 0)
+    return ("opened", table.version), State(
+        FEEDING, length, 0, 0, 0, 0, 0, 0, ceiling)
 
 
 def report(state, hold, held, phase, skipped, length):
@@ -391,7 +406,7 @@ def call_feed(state, hold, piece):
     held = bytes(hold[state.stands:state.held])
     # C6: what the run may still take
     room = RUN_LIMIT - state.taken
-    skipped, took, length = feed_fast(held, piece[:room])
+    skipped, took, length = feed_fast(held, piece[:room], state.ceiling)
     # R3: the run is full
     if room == 0 and length == 0 and len(piece) > 0:
         return refused(3, state)
@@ -414,7 +429,7 @@ def call_finish(state, hold):
         return refused(2, state)
     # C8: the drop, then a block or the run's end
     held = bytes(hold[state.stands:state.held])
-    skipped, length = finish_scan(held)
+    skipped, length = finish_scan(held, state.ceiling)
     if length:
         return report(state, hold, held[skipped:], FINISHING, skipped, length)
     after = state._replace(phase=CLOSED, held=0, stands=0,
@@ -525,13 +540,18 @@ def row_numbered(table, number):
     return None
 
 
+def one_frame(data):
+    """R10: one whole frame, and nothing more; the state's ceiling does not
+    matter (C17)."""
+    return len(data) > 0 and frame_at(data, 0, CEILING_MOST) == len(data)
+
+
 def row_for(state, force, data):
     """(refusal 1 to 8 and 10, or 0; the block's row)."""
     fault, table = table_for(state, force)
     if fault:
         return fault, None
-    # R10: one whole frame, and nothing more
-    if len(data) == 0 or frame_at(data, 0) != len(data):
+    if not one_frame(data):
         return 10, None
     row = row_numbered(table, block_of(data, 0)[0])
     if row is None:
@@ -711,7 +731,7 @@ def call_time(state, data, at, kind):
     """TOW and WNc (V8); order of refusals 1, 10, 7 (R20)."""
     if fault_one(state):
         return refused(1, state)
-    if len(data) == 0 or frame_at(data, 0) != len(data):
+    if not one_frame(data):
         return refused(10, state)
     if len(data) < 14:
         return refused(7, state)
@@ -731,7 +751,7 @@ def call_wnc(state, data):
 # answer of it: ("unsigned", N), ("signed", N), ("single", bits) or ("double",
 # bits).  So what is read can be given, and what is given compared with it.
 
-BLOCK_MOST, SUBS_MOST, SUB_MOST, REVISION_MOST = 65532, 255, 255, 7
+SUBS_MOST, SUB_MOST, REVISION_MOST = 255, 255, 7
 # V8: what every block has, and every revision carries.
 TOW, WNC = Field(8, 3, 0, 1), Field(12, 2, 0, 1)
 # V10: the least number that mark 5 lets stand.
@@ -882,9 +902,9 @@ def call_write(state, force, out, number, revision, tow, wnc, body, subs):
     lists = lists_given(row, revision, (tow, wnc), body, subs)
     if lists is None:
         return refused(11, state)
-    # R12
+    # R12: room in the buffer, under the ceiling, and for SBLength
     length = block_length(row, revision, len(subs))
-    if length > len(out) or length > BLOCK_MOST:
+    if length > len(out) or length > state.ceiling:
         return refused(12, state)
     if sub_length(row, revision, len(subs)) > SUB_MOST:
         return refused(12, state)
@@ -1011,13 +1031,14 @@ BUFFERS = {b"hold": "hold", b"force": "force", b"waiting": "waiting"}
 LENT = {**BUFFERS, b"out": "out"}
 NAMES = {name.encode(): name for name in State._fields}
 # The kinds of the words after each call's own word; `write` has values after
-# those here.
+# those here, and `open` may have the word of MORE.
 CALLS = {
     b"open": "", b"feed": "x", b"finish": "", b"bytes": "", b"stage": "x",
     b"withdraw": "", b"body": "nx", b"sub": "nnx", b"subbytes": "nx",
     b"sub2": "nnnx", b"range": "nx", b"range2": "nnx",
     b"tow": "x", b"wnc": "x", b"poke": "sn", b"put": "bnx", b"size": "ln",
     b"write": "nntt"}
+MORE = {b"open": "n"}
 # The letter of a value in a `write` line.
 LETTERS = {b"u": "unsigned", b"i": "signed", b"f": "single", b"d": "double"}
 WRITERS = (b"open", b"feed", b"finish", b"stage", b"withdraw")
@@ -1101,6 +1122,8 @@ def read_line(line):
     kinds = CALLS.get(words[0])
     if kinds is None or len(words) < 1 + len(kinds):
         raise BadLine
+    if len(words) > 1 + len(kinds):
+        kinds += MORE.get(words[0], "")
     arguments = [READERS[k](w) for k, w in zip(kinds, words[1:])]
     rest = words[1 + len(kinds):]
     if words[0] == b"write":

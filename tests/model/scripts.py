@@ -6,6 +6,8 @@ script(seed)         about 100 calls of all kinds
 record_script(seed)  a table opened, then about 200 record calls
 level_script(seed)   tables with rows of two levels, good and bad, and about
                      150 record calls on blocks of theirs
+ceiling_script(seed) runs with ceilings, and about 120 calls on blocks whose
+                     lengths are about them
 write_script(seed)   tables opened, and about 100 blocks to be written;
                      write_blocks(seed) gives those that were
 whole_stream(seed)   a run of 100 kB and more for the lister
@@ -98,6 +100,9 @@ class Maker:
 
     def refill(self):
         rng, rows = self.rng, self.rows()
+        if self.state.ceiling < model.CEILING_MOST and rng.random() < 0.5:
+            self.ceiling_refill()
+            return
         draw = rng.random()
         if draw < 0.02:
             self.rest += content.big_block(rng)
@@ -149,16 +154,25 @@ class Maker:
             self.block = bytes(
                 self.player.buffers["hold"][:self.state.stands])
 
+    def open(self, good=0.35, bad=0.05):
+        """Open: with a ceiling, with a number that is none, or without."""
+        draw = self.rng.random()
+        if draw < good:
+            return self.call("open", content.good_ceiling(self.rng))
+        if draw < good + bad:
+            return self.call("open", content.bad_ceiling(self.rng))
+        return self.call("open")
+
     def start(self):
         """In a closed reader: mostly a table, then Open."""
         if self.rng.random() < 0.03:
-            return self.call("open")
+            return self.open()
         if self.state.waits == 0 and (self.state.force == 0
                                       or self.rng.random() < 0.5):
             self.call("stage", hexed(content.valid_table(self.rng)))
         if self.rng.random() < 0.5:
             self.rest = b""
-        return self.call("open")
+        return self.open()
 
     def run(self):
         """Whatever carries the run on."""
@@ -190,8 +204,10 @@ class Maker:
         word = self.rng.choice(("open", "feed", "finish", "finish", "open"))
         if word == "feed":
             self.call(word, hexed(content.chunk(self.rng, self.rows())))
+        elif word == "open":
+            self.open(bad=0.3)
         else:
-            self.keep_block(self.call(word))
+            self.finish()
 
     # ------------------------------------------------- record calls
 
@@ -439,7 +455,7 @@ class Maker:
         elif draw < 0.42:
             self.call("bytes")
         elif draw < 0.52:
-            self.call("open")
+            self.open(bad=0.2)
         elif draw < 0.6:
             self.table()
         elif draw < 0.65:
@@ -478,7 +494,10 @@ class Maker:
             "taken": (4294967295, 4294967296, s.held, s.held - 1, s.blocks,
                       s.blocks - 1, s.skipped, s.skipped - 1, 4294967294),
             "blocks": (s.taken, s.taken + 1, s.taken - 1, 0),
-            "skipped": (s.taken, s.taken + 1, s.taken - 1, 0)}
+            "skipped": (s.taken, s.taken + 1, s.taken - 1, 0),
+            "ceiling": (12, 16, 18, 65530, 65532, 65536, s.stands,
+                        s.stands - 4, content.good_ceiling(self.rng),
+                        content.bad_ceiling(self.rng))}
         table = (8192, 8193, 0, 1, 19, 20, s.force, s.force + 1, s.force - 1,
                  s.waits)
         values = [v for v in near.get(name, table) if v >= 0]
@@ -522,8 +541,9 @@ class Maker:
             name = self.rng.choice(("hold", "force", "waiting"))
             self.call("size", name, 65535 if name == "hold" else 8191)
         elif kind == "one":
-            name = self.rng.choice(("blocks", "skipped"))
-            self.poke(name, s.taken + 1)
+            name = self.rng.choice(("blocks", "skipped", "ceiling"))
+            self.poke(name, content.bad_ceiling(self.rng)
+                      if name == "ceiling" else s.taken + 1)
         elif kind == "turn":
             self.poke("phase", (s.phase + self.rng.choice((1, 2))) % 3)
         elif kind == "none":
@@ -552,8 +572,10 @@ class Maker:
             self.call(word, hexed(content.broken_table(rng)))
         elif word == "feed":
             self.call(word, hexed(content.chunk(rng, self.rows())))
+        elif word == "open":
+            self.open(good=0.2, bad=0.5)
         else:
-            self.keep_block(self.call(word))
+            self.finish()
         self.poke_to(before)
 
     def edge(self):
@@ -646,7 +668,8 @@ class Maker:
     def spoil_record(self):
         """Record calls with nothing in force, a spoiled store or state."""
         rng = self.rng
-        name = rng.choice(("force", "force", "held", "blocks", "waits"))
+        name = rng.choice(("force", "force", "held", "blocks", "waits",
+                           "ceiling"))
         old = getattr(self.state, name)
         self.poke(name, rng.choice(self.spoil_values(name)))
         for _ in range(3):
@@ -699,9 +722,7 @@ class Maker:
 
     def sizes(self, wanted):
         """`size out` lines about the length that the block has."""
-        rng = self.rng
-        length = model.block_length(wanted.row, min(wanted.revision, 7),
-                                    len(wanted.subs))
+        rng, length = self.rng, self.length_of(wanted)
         for _ in range(rng.choice((1, 1, 1, 2))):
             self.call("size", "out", rng.choice((
                 length, length, length - 1, length - 1, length - 4,
@@ -868,12 +889,247 @@ class Maker:
             return None
         return answer[0], int(answer[1])
 
-    def reopen(self, table):
-        """Another table in force, in a state that is not spoiled."""
+    def reopen(self, table, good=0.3):
+        """Another table in force, in a state that is not spoiled; with a
+        ceiling now and then."""
         self.call("stage", hexed(table))
         while self.state.phase != model.CLOSED:
             self.call("finish")
-        self.call("open")
+        self.open(good, bad=0)
+
+    # ------------------------------------------------- ceilings
+
+    def ceiling_refill(self):
+        """More to be fed, of lengths about the ceiling."""
+        rng, ceiling = self.rng, self.state.ceiling
+        if not model.ceiling_right(ceiling):
+            ceiling = content.good_ceiling(rng)
+        self.rest += content.ceiling_stream(rng, self.rows(), ceiling,
+                                            rng.randrange(1, 5))
+
+    def ceiling_start(self):
+        """In a closed reader: a table, mostly the one shipped, and Open."""
+        rng = self.rng
+        if not (self.state.waits or self.state.force) or rng.random() < 0.1:
+            table = (model.shipped_table(1) if rng.random() < 0.7
+                     else content.valid_table(rng))
+            self.call("stage", hexed(table))
+        if rng.random() < 0.5:
+            self.rest = b""
+        self.open(good=0.7, bad=0.1)
+
+    def ceiling_feed(self):
+        """A piece that often ends with a header, or one byte before that."""
+        rng = self.rng
+        if len(self.rest) < 8:
+            self.ceiling_refill()
+        at = self.rest.find(b"\x24\x40", rng.choice((0, 0, 1)))
+        size = rng.choice((1, 2, 7, 8, 9, rng.randrange(150), at + 7, at + 8,
+                           at + 8, len(self.rest), len(self.rest)))
+        piece = self.rest[:size]
+        answer = self.call("feed", hexed(piece))
+        if answer[0] == "fed":
+            self.rest = self.rest[int(answer[1]):]
+        self.keep_block(answer)
+
+    def ceiling_run(self):
+        """Whatever carries the run on."""
+        phase = self.state.phase
+        if phase == model.CLOSED:
+            self.ceiling_start()
+        elif phase == model.FINISHING or self.rng.random() < 0.1:
+            self.finish()
+        else:
+            self.ceiling_feed()
+
+    def ceiling_call(self):
+        """Mostly a call that goes by the ceiling."""
+        draw = self.rng.random()
+        if draw < 0.45:
+            self.ceiling_run()
+        elif draw < 0.6:
+            self.keep_block(self.call("feed", b"-"))
+        else:
+            self.any_call()
+
+    def waited_for(self):
+        """The length of the block that reading waits for, 0 for none."""
+        s, hold = self.state, self.player.buffers["hold"]
+        if s.held - s.stands < 8 or hold[s.stands:s.stands + 2] != b"\x24\x40":
+            return 0
+        return model.length_field(hold, s.stands)
+
+    def ceiling_poke(self):
+        """Another ceiling in whatever phase, about what stands or is waited
+        for; calls go by it, and mostly the old one is back then."""
+        rng, before = self.rng, self.state.ceiling
+        near = rng.choice((self.state.stands, self.waited_for(),
+                           self.state.held))
+        self.poke("ceiling", rng.choice((
+            near, near, max(near, 4) - 4, near + 4, 16, 20,
+            model.CEILING_MOST, content.good_ceiling(rng),
+            content.good_ceiling(rng))))
+        for _ in range(rng.choice((1, 2, 3))):
+            self.ceiling_call()
+        if rng.random() < 0.6 or model.spoiled(self.state):
+            self.poke("ceiling", before)
+        self.mend()
+
+    def sound_call(self, word):
+        """A call with nothing to refuse it for, where the rows shipped are in
+        force, but what the state was spoiled with."""
+        rng = self.rng
+        phase = {"open": 0, "feed": 1, "finish": rng.choice((1, 2))}.get(word)
+        if phase is not None and phase != self.state.phase:
+            self.poke("phase", phase)
+        numbers = {"body": 1, "sub": 2, "subbytes": 1, "sub2": 3, "range": 1,
+                   "range2": 2, "tow": 0, "wnc": 0}
+        if word == "open":
+            self.open(good=0.5, bad=0)
+        elif word == "feed":
+            self.call(word, hexed(content.small_blocks(rng, 16, 100)))
+        elif word == "stage":
+            self.call(word, hexed(content.valid_table(rng)))
+        elif word == "write":
+            self.ask(self.wanted())
+        elif word in numbers:
+            self.call(word, *[0] * numbers[word],
+                      hexed(content.small_epoch(rng)))
+        else:
+            self.call(word)
+
+    def ceiling_spoil(self):
+        """A number in the state that is no ceiling: every call is refused."""
+        rng, before = self.rng, self.state
+        self.poke("ceiling", content.bad_ceiling(rng))
+        for word in rng.sample(WORDS, rng.choice((2, 3, 4))):
+            self.sound_call(word)
+        self.poke_to(before)
+
+    def ceiling_orders(self):
+        """Open, with the conditions of some of its refusals at once."""
+        rng, before = self.rng, self.state
+        kinds = rng.sample((1, 2, 13, 5, 4), rng.choice((1, 2, 2, 2, 3)))
+        self.poke("phase", rng.choice((1, 2)) if 2 in kinds else 0)
+        if 1 in kinds:
+            self.twist(rng.choice(("one", "one", "size")))
+        if 5 in kinds:
+            self.twist("none")
+        if 4 in kinds:
+            self.poke("waits", rng.choice((19, 1, 8192)))
+        if 13 in kinds:
+            self.call("open", content.bad_ceiling(rng))
+        else:
+            self.open(good=0.7, bad=0)
+        self.poke_to(before)
+        self.mend()
+
+    def length_of(self, wanted):
+        """The length that a block has once it is written."""
+        return model.block_length(wanted.row, min(wanted.revision, 7),
+                                  len(wanted.subs))
+
+    def ceiling_write(self):
+        """A block as long as the ceiling, longer or shorter; the buffer is
+        too short as well now and then, or a value is wrong."""
+        rng, before, wanted = self.rng, self.state.ceiling, self.wanted()
+        length = self.length_of(wanted)
+        self.poke("ceiling", rng.choice((
+            length, length, length - 4, length - 4, length + 4, 16,
+            model.CEILING_MOST, content.good_ceiling(rng), length + 1, 12)))
+        if rng.random() < 0.15:
+            content.spoil(rng, wanted)
+        if rng.random() < 0.35:
+            self.call("size", "out", rng.choice((length, length - 1, length,
+                                                 length - 1, 15, 0)))
+        self.ask(wanted)
+        self.poke("ceiling", before)
+
+    def close(self):
+        """To the run's End; a spoiled state, which has none, is set to a
+        closed one."""
+        while self.state.phase != model.CLOSED:
+            if model.spoiled(self.state):
+                self.poke_to(self.sane._replace(
+                    phase=model.CLOSED, held=0, stands=0, blocks=0,
+                    skipped=0))
+            else:
+                self.finish()
+
+    def ceiling_life(self):
+        """A ceiling from one Open to the next: it is there after End, and
+        past refused Opens, and the next that is not refused replaces it.
+        Blocks that are written show it."""
+        rng, wanted = self.rng, self.wanted()
+        length = self.length_of(wanted)
+        self.close()
+        self.call("open", rng.choice((max(16, length - 4), length, 16)))
+        self.call("feed", hexed(content.small_blocks(rng, 16, 100)))
+        self.close()
+        self.ask(wanted)
+        if rng.random() < 0.5:
+            self.call("open", content.bad_ceiling(rng))
+            self.ask(wanted)
+        self.open(good=0.3, bad=0)
+        self.ask(wanted)
+
+    def ceiling_hold(self):
+        """More bytes held, or a longer block standing, than the ceiling has:
+        no call minds."""
+        rng, before = self.rng, self.state
+        low = rng.choice((16, 20, 24, 44))
+        block = content.sized_block(rng, low + 4 * rng.randrange(1, 9), low)
+        data = block + content.ceiling_stream(rng, self.rows(), low, 2)[:2000]
+        self.put("hold", 0, data)
+        for name, values in (("taken", (len(data),)), ("held", (len(data),)),
+                             ("stands", (0, len(block))), ("blocks", (0, 1)),
+                             ("phase", (1, 1, 2)), ("skipped", (0,)),
+                             ("ceiling", (low,))):
+            self.poke(name, rng.choice(values))
+        if rng.random() < 0.6:
+            self.call("bytes")
+        if self.state.phase == model.FEEDING and rng.random() < 0.6:
+            self.call("feed", rng.choice((b"-", b"00", b"2440")))
+        else:
+            self.call("finish")
+        self.poke_to(before)
+        self.mend()
+
+    def ceiling_record(self):
+        """Record calls on a block that a low ceiling would not let through."""
+        rng, before = self.rng, self.state.ceiling
+        self.poke("ceiling", rng.choice((16, 20, before, 40)))
+        data = content.small_epoch(rng) if rng.random() < 0.5 else None
+        for _ in range(rng.choice((1, 2, 3))):
+            self.record(data)
+        self.poke("ceiling", before)
+
+    def ceiling_far(self):
+        """The longest blocks there are, about a ceiling as great."""
+        rng = self.rng
+        ceiling, length = rng.choice(((65528, 65532), (65528, 65528),
+                                      (65532, 65532), (32768, 32772)))
+        self.close()
+        self.call("open", ceiling)
+        data = content.sized_block(rng, length, 100)
+        while data:
+            piece = data[:rng.choice((8, 40000, length))]
+            answer = self.call("feed", hexed(piece))
+            data = data[int(answer[1]):] if answer[0] == "fed" else b""
+
+    def ceiling_bad(self):
+        """Lines about ceilings that are no call, and some that just are."""
+        self.say(self.rng.choice((
+            b"open 16 16", b"open  16", b"open 16 ", b"open x", b"open -",
+            b"open +16", b"open -16", b"open 0x10", b"open 16.0", b"open 16\r",
+            b"open ceiling", b"open 16 -", b"OPEN 16", b"open16",
+            b"open 18446744073709551616", b"open 99999999999999999999999",
+            b"open 18446744073709551615", b"open 0016",
+            b"open 00000000000000000000000000004096", b"open 0", b"open 65536",
+            b"open 04096 4096", b"finish 16", b"poke ceiling",
+            b"poke ceiling x", b"poke ceiling -", b"poke ceiling 16 16",
+            b"poke ceiling 18446744073709551616", b"poke Ceiling 16",
+            b"poke ceilings 16", b"size ceiling 16", b"put ceiling 0 00")))
 
     # ------------------------------------------------- lines that are no call
 
@@ -882,6 +1138,8 @@ class Maker:
             self.say(self.bad_line())
         if self.rng.random() < 0.2:
             self.write_bad()
+        if self.rng.random() < 0.1:
+            self.ceiling_bad()
         if self.rng.random() < 0.05:
             self.long_lines()
 
@@ -971,6 +1229,11 @@ class Maker:
         return joined if self.rng.random() < 0.2 else joined + b"\n"
 
 
+# Every call.
+WORDS = ("open", "feed", "finish", "bytes", "stage", "withdraw", "body",
+         "sub", "subbytes", "sub2", "range", "range2", "tow", "wnc", "write")
+
+
 def stretched(line, fill):
     """A `write` line of exactly as many bytes as a line may have, by two
     bytes over and over."""
@@ -1011,7 +1274,7 @@ def record_script(seed, answers=200):
         maker.call("stage", hexed(content.valid_table(maker.rng)))
         if maker.state.phase != model.CLOSED:
             maker.call("finish")
-        maker.call("open")
+        maker.open(bad=0)
         while maker.calls < min(stop, maker.goal + 4):
             draw = maker.rng.random()
             if draw < 0.93:
@@ -1053,11 +1316,34 @@ def level_script(seed, answers=150):
     return maker.text()
 
 
+# ------------------------------------------------------ scripts of ceilings
+
+CEILING_ACTIONS = {"ceiling_run": 60, "ceiling_poke": 7, "ceiling_spoil": 4,
+                   "ceiling_orders": 6, "ceiling_write": 6,
+                   "ceiling_life": 1.5, "ceiling_hold": 3,
+                   "ceiling_record": 3, "ceiling_bad": 2, "bytes": 3,
+                   "table": 1, "turn": 1}
+
+
+def ceiling_script(seed, calls=120):
+    """Runs with ceilings, one after the other.  Every sixth has a block as
+    long as they get."""
+    maker = Maker("ceiling %s" % seed, calls)
+    if maker.rng.random() < 0.2:
+        maker.open(good=0.5, bad=0.5)    # no table yet
+    maker.ceiling_start()
+    if seed % 6 == 1:
+        maker.ceiling_far()
+    while maker.calls < maker.goal:
+        maker.act(CEILING_ACTIONS)
+    return maker.text()
+
+
 # ------------------------------------------------------------- write scripts
 
 WRITE_ACTIONS = {"write": 62, "write_room": 9, "write_spoiled": 6,
                  "write_pair": 4, "write_bad": 8, "write_many": 0.7,
-                 "read_back": 5, "write_again": 1.5}
+                 "read_back": 5, "write_again": 1.5, "ceiling_write": 3}
 
 
 def write_maker(seed, writes):
@@ -1072,7 +1358,7 @@ def write_maker(seed, writes):
     while maker.writes < maker.goal:
         stop = maker.writes + rng.choice((15, 25, 40))
         maker.reopen(model.make_table(rng.randrange(65536),
-                                      content.write_rows(rng)))
+                                      content.write_rows(rng)), good=0.1)
         if long is not None:
             maker.write_long(long)
             long = None

@@ -28,6 +28,7 @@ fn four(r: HoldNumbers) -> [usize; 4]
 
 #[no_mangle]
 pub extern "C" fn alderflute_bench_feed(
+    ceiling: usize,
     hold: &mut [u8],
     held: usize,
     standing: usize,
@@ -35,30 +36,32 @@ pub extern "C" fn alderflute_bench_feed(
     room: usize,
     out: &mut [usize; 4],
 )
-    requires { ⌜ (standing ≤ held) × (held ≤ 65532) × (65532 ≤ length (now hold)) ⌝ }
-    ensures { λ _. ⌜ now (out .exit) ≡ fourOf (numbersOf (feedLit (restOf (now (hold .entry)) held standing) (now (piece .entry)) room)) ⌝ }
-    ensures { λ _. ⌜ now (hold .exit) ≡ holdOf (feedLit (restOf (now (hold .entry)) held standing) (now (piece .entry)) room) (now (hold .entry)) ⌝ }
+    requires { ⌜ (ceiling ≤ 65532) × (standing ≤ held) × (held ≤ 65532) × (65532 ≤ length (now hold)) ⌝ }
+    ensures { λ _. ⌜ now (out .exit) ≡ fourOf (numbersOf (feedLit ceiling (restOf (now (hold .entry)) held standing) (now (piece .entry)) room)) ⌝ }
+    ensures { λ _. ⌜ now (hold .exit) ≡ holdOf (feedLit ceiling (restOf (now (hold .entry)) held standing) (now (piece .entry)) room) (now (hold .entry)) ⌝ }
 {
-    *out = four(feed::feed(hold, held, standing, piece, room));
+    *out = four(feed::feed(ceiling, hold, held, standing, piece, room));
 }
 
 #[no_mangle]
 pub extern "C" fn alderflute_bench_finish(
+    ceiling: usize,
     hold: &mut [u8],
     held: usize,
     standing: usize,
     out: &mut [usize; 4],
 )
     requires { ⌜ (standing ≤ held) × (held ≤ 65532) × (65532 ≤ length (now hold)) ⌝ }
-    ensures { λ _. ⌜ now (out .exit) ≡ fourOf (numbersOf (stop (settle judgedLast (restOf (now (hold .entry)) held standing)))) ⌝ }
-    ensures { λ _. ⌜ now (hold .exit) ≡ holdOf (stop (settle judgedLast (restOf (now (hold .entry)) held standing))) (now (hold .entry)) ⌝ }
+    ensures { λ _. ⌜ now (out .exit) ≡ fourOf (numbersOf (stop (settle (judgedLast ceiling) (restOf (now (hold .entry)) held standing)))) ⌝ }
+    ensures { λ _. ⌜ now (hold .exit) ≡ holdOf (stop (settle (judgedLast ceiling) (restOf (now (hold .entry)) held standing))) (now (hold .entry)) ⌝ }
 {
-    *out = four(feed::finish(hold, held, standing));
+    *out = four(feed::finish(ceiling, hold, held, standing));
 }
 
 // A block of a table that passes, by the writer alone: its length, or 0 where it is refused. TOW and WNc are unsigned numbers.
 #[no_mangle]
 pub extern "C" fn alderflute_bench_write(
+    ceiling: usize,
     table: &[u8],
     number: u64,
     revision: u64,
@@ -69,8 +72,8 @@ pub extern "C" fn alderflute_bench_write(
     out: &mut [u8],
 ) -> usize
     requires { ⌜ tableOk (now table) ≡ true ⌝ }
-    ensures { λ r. ⌜ r ≡ lengthSaid (writtenOf (decode (now (table .entry))) (draftOf (plainHead number revision tow wnc) (now (kinds .entry)) (now (bits .entry))) (now (out .entry)) .said) ⌝ }
-    ensures { λ _. ⌜ now (out .exit) ≡ writtenOf (decode (now (table .entry))) (draftOf (plainHead number revision tow wnc) (now (kinds .entry)) (now (bits .entry))) (now (out .entry)) .buffer ⌝ }
+    ensures { λ r. ⌜ r ≡ lengthSaid (writtenOf ceiling (decode (now (table .entry))) (draftOf (plainHead number revision tow wnc) (now (kinds .entry)) (now (bits .entry))) (now (out .entry)) .said) ⌝ }
+    ensures { λ _. ⌜ now (out .exit) ≡ writtenOf ceiling (decode (now (table .entry))) (draftOf (plainHead number revision tow wnc) (now (kinds .entry)) (now (bits .entry))) (now (out .entry)) .buffer ⌝ }
 {
     let head = Head {
         number,
@@ -78,7 +81,7 @@ pub extern "C" fn alderflute_bench_write(
         tow: Entry { kind: 1, bits: tow },
         wnc: Entry { kind: 1, bits: wnc },
     };
-    let w = writer::write(table, head, kinds, bits, out);
+    let w = writer::write(ceiling, table, head, kinds, bits, out);
     match w {
         Written::Length(n) => n,
         Written::Refused(_) => 0,

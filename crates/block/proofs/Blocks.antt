@@ -9,7 +9,8 @@ use native.Mathlib.Nat.{mul-le-mul}
 use lib.ListN.{length}
 use lib.Dec.{leb, eqb}
 use borrow.Author.Tests.{leb-true, eqb-true, lt-ltb, le-ltb, eq-eqb, ne-eqb}
-use Rattle.frame.specs.Frame.{lengthAt, syncAt, allowed, endsWithin, frameAt, wholeFrame}
+use Rattle.frame.proofs.View.{allows}
+use Rattle.frame.specs.Frame.{greatestCeiling, lengthAt, syncAt, allowed, endsWithin, frameAt, wholeFrame}
 use Rattle.refusal.specs.declared.Refusal.{Refusal}
 use Rattle.refusal.specs.declared.Refusal.the-variants.{NoRow, TooShort, BadSubBlocks, NoSuchField, NotOneFrame}
 use Rattle.rows.specs.declared.Row.{Row}
@@ -48,16 +49,16 @@ span-is b k e = ap {B = Span} (λ (n : ℕ). span (16 + k * n) n) e
 -- a whole frame has an allowed length
 module _ (b : List ℕ) (e : wholeFrame b ≡ true) where
   lengths : (8 ≤ length b) × (length b % 4 ≡ 0)
-  unfolding wholeFrame frameAt allowed
+  unfolding wholeFrame frameAt
   lengths =
-      let a = both (frameAt b 0) _ e in
+      let a = both (frameAt greatestCeiling b 0) _ e in
       let l : lengthAt b 0 ≡ length b = eqb-true _ _ (a .1) in
-      let f = both (syncAt b 0 && allowed (lengthAt b 0) && endsWithin b 0) _ (a .0) in
-      let g = both (syncAt b 0 && allowed (lengthAt b 0)) _ (f .0) in
+      let f = both (syncAt b 0 && allowed greatestCeiling (lengthAt b 0) && endsWithin b 0) _ (a .0) in
+      let g = both (syncAt b 0 && allowed greatestCeiling (lengthAt b 0)) _ (f .0) in
       let h = both (syncAt b 0) _ (g .0) in
-      let m = both (eqb (lengthAt b 0 % 4) 0) _ (h .1) in
-      let x : 8 ≤ lengthAt b 0 = leb-true _ _ (m .1) in
-      let y : lengthAt b 0 % 4 ≡ 0 = eqb-true _ _ (m .0) in
+      let m = allows greatestCeiling (lengthAt b 0) (h .1) in
+      let x : 8 ≤ lengthAt b 0 = m .not-small in
+      let y : lengthAt b 0 % 4 ≡ 0 = m .by-four in
       (rw l at x, rw l at y)
 
   pub eight : 8 ≤ length b

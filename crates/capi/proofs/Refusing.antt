@@ -6,6 +6,7 @@ use mathlib.Core.List.{List, []}
 use mathlib.Core.Option.{some}
 use Prim.Native.Nat.{ℕ}
 use Rattle.record.specs.Answer.{fieldRefused}
+use Rattle.reader.specs.declared.Settings.{Settings}
 use Rattle.reader.specs.declared.State.{State}
 use Rattle.reader.specs.State.{sound}
 use Rattle.reader.specs.Said.{refused}
@@ -20,9 +21,9 @@ use Rattle.epochs.specs.Calls.{sub2Of, rangeOf, range2Of}
 use Rattle.records.specs.Calls.{askRefusal, bodyOf, subOf, subBytesRefusal, stampOf, towOf, wncOf}
 
 module _ (t : State) (e : sound t ≡ false) where
-  pub open-one : (force wait : List ℕ) → openOf t force wait ≡ outcome (refused 1) t force
+  pub open-one : (x : Settings) (force wait : List ℕ) → openOf t x force wait ≡ outcome (refused 1) t force
   unfolding openOf openRefusal
-  open-one force wait = rw e
+  open-one x force wait = rw e
 
   pub stage-one : (wait table : List ℕ) → stageOf t wait table ≡ outcome (refused 1) t wait
   unfolding stageOf stageRefusal

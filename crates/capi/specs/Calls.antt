@@ -17,11 +17,12 @@ use Rattle.draft.specs.Draft.{Draft}
 use Rattle.writer.specs.Write.{WriteOutcome, writeRefused}
 use Rattle.writes.specs.Calls.{writeOf}
 use Rattle.cform.specs.declared.CState.{CState}
+use Rattle.cform.specs.declared.CSettings.{CSettings}
 use Rattle.cform.specs.declared.CReply.{CReply}
 use Rattle.cform.specs.declared.CField.{CField}
 use Rattle.cform.specs.declared.CPart.{CPart}
 use Rattle.cform.specs.declared.CWritten.{CWritten}
-use Rattle.cform.specs.State.{stateOf, stateC}
+use Rattle.cform.specs.State.{settingsBack, stateOf, stateC}
 use Rattle.cform.specs.Answer.{replyC, fieldC, partC}
 use Rattle.cform.specs.Draft.{writtenC}
 
@@ -40,8 +41,9 @@ abbrev pub goesOn : (State → Outcome) → CState → List ℕ → Option State
 goesOn call s lent none = left (replyC (refused 1) s) lent
 goesOn call s lent (some t) = left (replyC (call t .said) (stateC (call t .state))) (call t .lent)
 
-unfoldable pub openC : CState → List ℕ → List ℕ → Left
-openC s force wait = goesOn (λ t. openOf t force wait) s force (stateOf s)
+-- C17: with the settings that C gave, whatever they are
+unfoldable pub openC : CState → CSettings → List ℕ → List ℕ → Left
+openC s x force wait = goesOn (λ t. openOf t (settingsBack x) force wait) s force (stateOf s)
 
 unfoldable pub feedC : CState → List ℕ → List ℕ → Left
 feedC s hold piece = goesOn (λ t. feedOf t hold piece) s hold (stateOf s)

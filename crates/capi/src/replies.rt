@@ -4,14 +4,21 @@ ghost use mathlib.Core.Path.{_≡_};
 ghost use mathlib.Core.List.{[]};
 ghost use Rattle.capi.specs.Calls.{left, openC, feedC, finishC, stageC, withdrawC};
 use cform::CReply;
+use cform::CSettings;
 use cform::CState;
 
 #[no_mangle]
-pub extern "C" fn alderflute_open(s: CState, in_force: &mut [u8], waiting: &[u8]) -> CReply
-    ensures { λ r. ⌜ left r (now («in_force» .exit)) ≡ openC s (now («in_force» .entry)) (now (waiting .entry)) ⌝ }
+pub extern "C" fn alderflute_open(
+    s: CState,
+    settings: CSettings,
+    in_force: &mut [u8],
+    waiting: &[u8],
+) -> CReply
+    ensures { λ r. ⌜ left r (now («in_force» .exit)) ≡ openC s settings (now («in_force» .entry)) (now (waiting .entry)) ⌝ }
 {
     let t = cform::states::state_of(s);
-    let o = tables::open(t, in_force, waiting);
+    let x = cform::states::settings_back(settings);
+    let o = tables::open(t, x, in_force, waiting);
     let next = o.state;
     let answer = o.answer;
     cform::replies::reply(s, next, cform::replies::opened_c(answer))

@@ -11,6 +11,7 @@ use Rattle.reader.specs.declared.Run.{Run}
 use Rattle.reader.specs.declared.State.{State}
 use Rattle.reader.specs.Said.{Report, Said, refused, took, found, waited}
 use Rattle.reader.specs.Outcome.{Outcome, unless}
+use Rattle.reader.specs.declared.Settings.{Settings}
 use Rattle.tables.specs.Calls.{openOf, opening, openRefusal, stageOf, staging, stageRefusal, withdrawOf, withdrawing, withdrawRefusal}
 use Rattle.runs.specs.Refusals.{feedRefusal, finishRefusal}
 use Rattle.runs.specs.Calls.{feedOf, feedingBy, feedingOf, finishOf, finishSaid, finishingBy, finishingOf}
@@ -37,9 +38,9 @@ waited-back true = refl
 waited-back false = refl
 
 module _ (s : State) where
-  pub open-back : (force wait : List ℕ) → answerBack false (answerC (openOf s force wait .said)) ≡ openOf s force wait .said
+  pub open-back : (x : Settings) (force wait : List ℕ) → answerBack false (answerC (openOf s x force wait .said)) ≡ openOf s x force wait .said
   unfolding openOf
-  open-back force wait = unless-back false (openRefusal s force wait) s force (opening s force wait) refl
+  open-back x force wait = unless-back false (openRefusal s x force wait) s force (opening s x force wait) refl
 
   pub feed-back : (hold piece : List ℕ) → answerBack false (answerC (feedOf s hold piece .said)) ≡ feedOf s hold piece .said
   unfolding feedOf

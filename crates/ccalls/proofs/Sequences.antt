@@ -19,6 +19,7 @@ use Rattle.runs.specs.Calls.{feedOf, finishOf, bytesOf}
 use Rattle.epochs.specs.Calls.{sub2Of, rangeOf, range2Of}
 use Rattle.records.specs.Calls.{tableInForce, askRefusal, firstOf, placeUnless, subBytesOf, subPlaceOf, subBytesRefusal}
 use Rattle.reader.specs.Outcome.{Outcome, partUnless}
+use Rattle.reader.specs.declared.Settings.{Settings}
 use Rattle.tables.specs.Calls.{openOf, stageOf, withdrawOf}
 use Rattle.records.specs.Calls.{bodyOf, subOf, towOf, wncOf}
 use Rattle.draft.specs.Draft.{Draft}
@@ -27,7 +28,7 @@ use Rattle.writes.specs.Calls.{writeOf}
 use Rattle.record.specs.Answer.{FieldSaid}
 use Rattle.cform.specs.declared.CField.{CField}
 use Rattle.cform.specs.declared.CState.{CState}
-use Rattle.cform.specs.State.{stateOf, stateC, inPhase}
+use Rattle.cform.specs.State.{settingsC, stateOf, stateC, inPhase}
 use Rattle.cform.specs.Answer.{replyC, fieldC, partC}
 use Rattle.cform.specs.Draft.{writtenC}
 use Rattle.cform.specs.Theorems.{answerBack, fieldBack, writtenBack}
@@ -101,9 +102,10 @@ hands-it : (refusal : State → Option ℕ) (offset : State → ℕ) (cut : Stat
 hands-it refusal offset cut s = ap (hands refusal offset cut) (back s)
 
 module _ (w : World) where
-  opens : openC (stateC (w .state)) (w .force) (w .wait) ≡ record { reply = replyC (openOf (w .state) (w .force) (w .wait) .said) (stateC (openOf (w .state) (w .force) (w .wait) .state)); lent = openOf (w .state) (w .force) (w .wait) .lent }
+  opens : (x : Settings) → openC (stateC (w .state)) (settingsC x) (w .force) (w .wait)
+      ≡ record { reply = replyC (openOf (w .state) x (w .force) (w .wait) .said) (stateC (openOf (w .state) x (w .force) (w .wait) .state)); lent = openOf (w .state) x (w .force) (w .wait) .lent }
   unfolding openC
-  opens = goes (λ t. openOf t (w .force) (w .wait)) (w .state) (w .force)
+  opens x = goes (λ t. openOf t x (w .force) (w .wait)) (w .state) (w .force)
 
   feeds : (piece : List ℕ) → feedC (stateC (w .state)) (w .hold) piece ≡ record { reply = replyC (feedOf (w .state) (w .hold) piece .said) (stateC (feedOf (w .state) (w .hold) piece .state)); lent = feedOf (w .state) (w .hold) piece .lent }
   unfolding feedC
@@ -174,7 +176,7 @@ looks (write d buffer) w = ap penned (makes-it (λ t. writeOf t (w .force) d buf
 
 means : (c : Call) (w : World) → replyBack c (worldC w) (stepC c (worldC w) .answer) ≡ step c w .answer
 unfolding stepC step
-means openRun w = ap said (ap (λ (l : Left). answerBack false (l .reply .answer)) (opens w) ∙ open-back (w .state) (w .force) (w .wait))
+means (openRun x) w = ap said (ap (λ (l : Left). answerBack false (l .reply .answer)) (opens w x) ∙ open-back (w .state) x (w .force) (w .wait))
 means (feed piece) w = ap said (ap (λ (l : Left). answerBack false (l .reply .answer)) (feeds w piece) ∙ feed-back (w .state) (w .hold) piece)
 means finish w = ap said (ap (λ (l : Left). answerBack true (l .reply .answer)) (finishes w) ∙ end-back (w .state) (w .hold))
 means (table (stage t)) w = ap said (ap (λ (l : Left). answerBack false (l .reply .answer)) (stages w t) ∙ stage-back (w .state) (w .wait) t)
@@ -183,7 +185,7 @@ means (look l) w = looks l w
 
 leaves : (c : Call) (w : World) → stepC c (worldC w) .world ≡ worldC (step c w .world)
 unfolding stepC step
-leaves openRun w = ap (λ (l : Left). record { state = l .reply .state; hold = w .hold; force = l .lent; wait = w .wait }) (opens w)
+leaves (openRun x) w = ap (λ (l : Left). record { state = l .reply .state; hold = w .hold; force = l .lent; wait = w .wait }) (opens w x)
 leaves (feed piece) w = ap (λ (l : Left). record { state = l .reply .state; hold = l .lent; force = w .force; wait = w .wait }) (feeds w piece)
 leaves finish w = ap (λ (l : Left). record { state = l .reply .state; hold = l .lent; force = w .force; wait = w .wait }) (finishes w)
 leaves (table (stage t)) w = ap (λ (l : Left). record { state = l .reply .state; hold = w .hold; force = w .force; wait = l .lent }) (stages w t)
@@ -233,7 +235,7 @@ unknown-look (write d buffer) w e = rw e
 
 unknown : (c : Call) (w : CWorld) → stateOf (w .state) ≡ none → told (replyBack c w (stepC c w .answer)) .refusal ≡ some 1
 unfolding stepC openC feedC finishC stageC withdrawC
-unknown openRun w e = rw e
+unknown (openRun x) w e = rw e
 unknown (feed piece) w e = rw e
 unknown finish w e = rw e
 unknown (table (stage t)) w e = rw e
@@ -255,7 +257,7 @@ empty-look (write d buffer) w e = refl
 
 empty : (c : Call) (w : CWorld) → stateOf (w .state) ≡ none → partOf (replyBack c w (stepC c w .answer)) ≡ []
 unfolding stepC openC feedC finishC stageC withdrawC
-empty openRun w e = rw e
+empty (openRun x) w e = rw e
 empty (feed piece) w e = rw e
 empty finish w e = rw e
 empty (table (stage t)) w e = rw e
@@ -264,7 +266,7 @@ empty (look l) w e = empty-look l w e
 
 keeps : (c : Call) (w : CWorld) → stateOf (w .state) ≡ none → stepC c w .world ≡ w
 unfolding stepC openC feedC finishC stageC withdrawC
-keeps openRun w e = rw e
+keeps (openRun x) w e = rw e
 keeps (feed piece) w e = rw e
 keeps finish w e = rw e
 keeps (table (stage t)) w e = rw e
@@ -278,8 +280,8 @@ unwritten d buffer w e = rw e
 
 -- ---- every other state is one of the reader's
 
-in-phase : (s : CState) (n : ℕ) → s .phase ≡ n → s ≡ record { phase = n; held = s .held; standing = s .standing; counts = s .counts; «in_force» = s .«in_force»; waiting = s .waiting }
-in-phase s n e = ap (λ (x : ℕ). record { phase = x; held = s .held; standing = s .standing; counts = s .counts; «in_force» = s .«in_force»; waiting = s .waiting }) e
+in-phase : (s : CState) (n : ℕ) → s .phase ≡ n → s ≡ record { phase = n; held = s .held; standing = s .standing; counts = s .counts; settings = s .settings; «in_force» = s .«in_force»; waiting = s .waiting }
+in-phase s n e = ap (λ (x : ℕ). record { phase = x; held = s .held; standing = s .standing; counts = s .counts; settings = s .settings; «in_force» = s .«in_force»; waiting = s .waiting }) e
 
 same-state : (s : CState) {t u : State} → stateOf s ≡ some t → stateOf s ≡ some u → u ≡ t
 same-state s {t} {u} e f = ap (λ (o : Option State). Option·getD o u) (sym f ∙ e)

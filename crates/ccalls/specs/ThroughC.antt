@@ -16,7 +16,7 @@ use Rattle.cform.specs.declared.CAnswer.{CAnswer}
 use Rattle.cform.specs.declared.CField.{CField}
 use Rattle.cform.specs.declared.CPart.{CPart}
 use Rattle.cform.specs.declared.CState.{CState}
-use Rattle.cform.specs.State.{stateOf, stateC}
+use Rattle.cform.specs.State.{settingsC, stateOf, stateC}
 use Rattle.cform.specs.Theorems.{answerBack, fieldBack, writtenBack}
 use Rattle.capi.specs.Calls.{Left, openC, feedC, finishC, stageC, withdrawC, bodyC, subC, sub2C, rangeC, range2C, towC, wncC, cut, bytesC, subBytesC, Making, writeC}
 use Rattle.demands.specs.World.{World, TableCall, stage, withdraw, Look, bytes, body, sub, subBytes, sub2, range, range2, tow, wnc, write, Call, openRun, feed, finish, table, look, Reply, said, part, value, penned, told, partOf, Step, step, end, Line, _⇒_, trace}
@@ -63,7 +63,7 @@ lookedC (wnc b) w = cField (wncC (w .state) b)
 lookedC (write d buffer) w = cMade (writeC (w .state) (w .force) d buffer)
 
 unfoldable pub stepC : Call → CWorld → CStep
-stepC openRun w = let l = openC (w .state) (w .force) (w .wait) in leavingC l (w .hold) (l .lent) (w .wait)
+stepC (openRun x) w = let l = openC (w .state) (settingsC x) (w .force) (w .wait) in leavingC l (w .hold) (l .lent) (w .wait)
 stepC (feed piece) w = let l = feedC (w .state) (w .hold) piece in leavingC l (l .lent) (w .force) (w .wait)
 stepC finish w = let l = finishC (w .state) (w .hold) in leavingC l (l .lent) (w .force) (w .wait)
 stepC (table (stage t)) w = let l = stageC (w .state) (w .wait) t in leavingC l (w .hold) (w .force) (l .lent)
@@ -74,7 +74,7 @@ stepC (look l) w = record { answer = lookedC l w; world = w }
 
 -- a block comes from Feed with a count taken, from Finish without one
 abbrev pub isFinish : Call → Bool
-isFinish openRun = false
+isFinish (openRun x) = false
 isFinish (feed piece) = false
 isFinish finish = true
 isFinish (table t) = false
@@ -98,7 +98,7 @@ lookedIn (wnc b) w = []
 lookedIn (write d buffer) w = []
 
 abbrev pub countedIn : Call → CWorld → List ℕ
-countedIn openRun w = []
+countedIn (openRun x) w = []
 countedIn (feed piece) w = []
 countedIn finish w = []
 countedIn (table t) w = []

@@ -24,7 +24,7 @@ use Rattle.writer.specs.declared.Written.the-variants as written
 use Rattle.writer.specs.Write.{writeRefused, writtenSays}
 use Rattle.refusal.specs.Numbers.{numberFor}
 use Rattle.refusal.specs.declared.Refusal.{Refusal}
-use Rattle.refusal.specs.declared.Refusal.the-variants.{BadBuffer, OutOfTurn, RunFull, BadTable, NoTable, NoRow, TooShort, BadSubBlocks, NoSuchField, NotOneFrame, BadValues, NoRoom}
+use Rattle.refusal.specs.declared.Refusal.the-variants.{BadBuffer, OutOfTurn, RunFull, BadTable, NoTable, NoRow, TooShort, BadSubBlocks, NoSuchField, NotOneFrame, BadValues, NoRoom, BadCeiling}
 use Rattle.tables.specs.Said.{saidOpened, saidStaged, saidWithdrawn}
 use Rattle.runs.specs.Said.{saidFed, saidFinished}
 use Rattle.reader.specs.State.{phaseNumber}
@@ -97,6 +97,7 @@ refusal-back NoSuchField = refl
 refusal-back NotOneFrame = refl
 refusal-back BadValues = refl
 refusal-back NoRoom = refl
+refusal-back BadCeiling = refl
 
 written-back : (a : Written) → writtenBack (writtenC (writtenSays a)) ≡ writtenSays a
 written-back (written.Length n) = refl
@@ -108,6 +109,8 @@ nothing-lost =
       state = state-back;
       unknown = none-over;
       only-over-2 = λ s. by-number s (s .phase) refl;
+      settings = λ x. refl;
+      settings-of-C = λ x. refl;
       opened = opened-back;
       fed = fed-back;
       finished = finished-back;

@@ -1,4 +1,4 @@
--- The state as C has it, and the reader's state that it stands for.
+-- The state and the settings as C has them, and the reader's that they stand for.
 -- Assumes nothing.
 use Prim.Native.Nat.{ℕ}
 use mathlib.Core.Path.{_≡_}
@@ -8,9 +8,11 @@ use lib.Dec.{eqb}
 use Rattle.reader.specs.declared.Phase.{Phase}
 use Rattle.reader.specs.declared.Phase.the-variants.{Closed, Feeding, Finishing}
 use Rattle.reader.specs.declared.Counts.{Counts}
+use Rattle.reader.specs.declared.Settings.{Settings}
 use Rattle.reader.specs.declared.State.{State}
 use Rattle.reader.specs.State.{phaseNumber, sound}
 use Rattle.cform.specs.declared.CCounts.{CCounts}
+use Rattle.cform.specs.declared.CSettings.{CSettings}
 use Rattle.cform.specs.declared.CState.{CState}
 
 -- the phase of a number: any other is none
@@ -24,10 +26,24 @@ countsC c = record { taken = c .taken; blocks = c .blocks; skipped = c .skipped 
 abbrev pub countsBack : CCounts → Counts
 countsBack c = record { taken = c .taken; blocks = c .blocks; skipped = c .skipped }
 
+-- what Open is given and a run goes by (C17), there and back
+abbrev pub settingsC : Settings → CSettings
+settingsC x = record { ceiling = x .ceiling }
+
+abbrev pub settingsBack : CSettings → Settings
+settingsBack x = record { ceiling = x .ceiling }
+
 abbrev pub inPhase : CState → Phase → State
 inPhase s p =
     record {
-      run = record { phase = p; held = s .held; standing = s .standing; counts = countsBack (s .counts) };
+      run =
+          record {
+            phase = p;
+            held = s .held;
+            standing = s .standing;
+            counts = countsBack (s .counts);
+            settings = settingsBack (s .settings);
+          };
       «in_force» = s .«in_force»;
       waiting = s .waiting;
     }
@@ -48,6 +64,7 @@ stateC t =
       held = t .run .held;
       standing = t .run .standing;
       counts = countsC (t .run .counts);
+      settings = settingsC (t .run .settings);
       «in_force» = t .«in_force»;
       waiting = t .waiting;
     }

@@ -1,4 +1,5 @@
--- Nothing is lost on the way to C: a state, an answer, a field and what Write answers can be read back from the plain structs.
+-- Nothing is lost on the way to C: a state, settings, an answer, a field and what Write answers can be read back from the plain
+-- structs.
 -- Assumes nothing.
 use Prim.Native.Nat.{_<_}
 use mathlib.Core.Path.{_≡_}
@@ -7,6 +8,7 @@ use mathlib.Core.Option.{none, some}
 use lib.Dec.{eqb}
 use Rattle.record.specs.Answer.{FieldSaid, doNotUse, double, fieldRefused, notInRevision, signed, single, unsigned}
 use Rattle.reader.specs.declared.State.{State}
+use Rattle.reader.specs.declared.Settings.{Settings}
 use Rattle.tables.specs.declared.Opened.{Opened}
 use Rattle.runs.specs.declared.Fed.{Fed}
 use Rattle.runs.specs.declared.Finished.{Finished}
@@ -17,10 +19,11 @@ use Rattle.tables.specs.Said.{saidOpened, saidStaged, saidWithdrawn}
 use Rattle.runs.specs.Said.{saidFed, saidFinished}
 use Rattle.writer.specs.declared.Written.{Written}
 use Rattle.writer.specs.Write.{WriteSaid, wrote, writeRefused, writtenSays}
-use Rattle.cform.specs.State.{countsBack, stateOf, stateC}
+use Rattle.cform.specs.State.{countsBack, settingsC, settingsBack, stateOf, stateC}
 use Rattle.cform.specs.Answer.{answerC, fieldC}
 use Rattle.cform.specs.Draft.{writtenC}
 use Rattle.cform.specs.declared.CState.{CState}
+use Rattle.cform.specs.declared.CSettings.{CSettings}
 use Rattle.cform.specs.declared.CBlock.{CBlock}
 use Rattle.cform.specs.declared.CAnswer.{CAnswer}
 use Rattle.cform.specs.declared.CField.{CField}
@@ -56,6 +59,9 @@ pub record NothingLost : Type 0 where
   pub state : (t : State) → stateOf (stateC t) ≡ some t
   pub unknown : (s : CState) → 2 < s .phase → stateOf s ≡ none
   pub only-over-2 : (s : CState) → stateOf s ≡ none → 2 < s .phase
+  -- any settings of the reader's, and any of C's, a bad ceiling too: it is for Open to refuse it
+  pub settings : (x : Settings) → settingsBack (settingsC x) ≡ x
+  pub settings-of-C : (x : CSettings) → settingsC (settingsBack x) ≡ x
   pub opened : (a : Opened) → answerBack false (answerC (saidOpened a)) ≡ saidOpened a
   pub fed : (a : Fed) → answerBack false (answerC (saidFed a)) ≡ saidFed a
   pub finished : (a : Finished) → answerBack true (answerC (saidFinished a)) ≡ saidFinished a

@@ -2,7 +2,7 @@
 // declares the structs.
 ghost use Rattle.cform.specs.Theorems.{NothingLost};
 
-pub mod states; // states.rt: states as C has them
+pub mod states; // states.rt: states and settings as C has them
 mod answers; // answers.rt: answers as C has them
 pub mod replies; // replies.rt: what a call leaves and answers, as C has it
 pub mod fields; // fields.rt: a field's answer as C has it
@@ -17,13 +17,20 @@ pub struct CCounts {
     pub skipped: usize,
 }
 
-// The state: the phase by its number (0 closed, 1 feeding, 2 after the first Finish), and the reader's numbers.
+// What Open is given, and a run goes by: the ceiling, which may be wrong, and is refused then.
+#[repr(C)]
+pub struct CSettings {
+    pub ceiling: usize,
+}
+
+// The state: the phase by its number (0 closed, 1 feeding, 2 after the first Finish), the reader's numbers, and the settings.
 #[repr(C)]
 pub struct CState {
     pub phase: usize,
     pub held: usize,
     pub standing: usize,
     pub counts: CCounts,
+    pub settings: CSettings,
     pub in_force: usize,
     pub waiting: usize,
 }
@@ -88,7 +95,7 @@ pub struct CWritten {
     pub length: usize,
 }
 
-// State, answer, field and length can be read back from the plain structs.
+// State, settings, answer, field and length can be read back from the plain structs.
 pub fn nothing_lost()
     ensures { λ _. ⌜ NothingLost ⌝ }
 {}

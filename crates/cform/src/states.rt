@@ -1,16 +1,33 @@
-// States as C has them, from the reader's and back.
+// States and settings as C has them, from the reader's and back.
 ghost use mathlib.Core.Path.{_≡_};
-ghost use Rattle.cform.specs.State.{inPhase, stateOf, Reads, stateC};
+ghost use Rattle.cform.specs.State.{settingsC, settingsBack, inPhase, stateOf, Reads, stateC};
 use crate::CCounts;
+use crate::CSettings;
 use crate::CState;
 use reader::Counts;
 use reader::Phase;
 use reader::Run;
+use reader::Settings;
 use reader::State;
+
+pub fn settings_c(x: Settings) -> CSettings
+    ensures { λ r. ⌜ r ≡ settingsC x ⌝ }
+{
+    CSettings { ceiling: x.ceiling }
+}
+
+pub fn settings_back(given: CSettings) -> Settings
+    ensures { λ r. ⌜ r ≡ settingsBack given ⌝ }
+{
+    Settings {
+        ceiling: given.ceiling,
+    }
+}
 
 fn in_phase(s: CState, phase: Phase) -> State
     ensures { λ r. ⌜ r ≡ inPhase s phase ⌝ }
 {
+    let x = s.settings;
     State {
         run: Run {
             phase,
@@ -21,6 +38,7 @@ fn in_phase(s: CState, phase: Phase) -> State
                 blocks: s.counts.blocks,
                 skipped: s.counts.skipped,
             },
+            settings: settings_back(x),
         },
         in_force: s.in_force,
         waiting: s.waiting,
@@ -52,6 +70,7 @@ pub fn state_of(s: CState) -> State
                 blocks: 0,
                 skipped: 0,
             },
+            settings: reader::default_settings(),
         },
         in_force: 0,
         waiting: 0,
@@ -63,6 +82,7 @@ pub fn state_c(s: State) -> CState
 {
     let run = s.run;
     let phase = run.phase;
+    let x = run.settings;
     CState {
         phase: reader::phase_number(phase),
         held: run.held,
@@ -72,6 +92,7 @@ pub fn state_c(s: State) -> CState
             blocks: run.counts.blocks,
             skipped: run.counts.skipped,
         },
+        settings: settings_c(x),
         in_force: s.in_force,
         waiting: s.waiting,
     }

@@ -16,7 +16,7 @@ use Rattle.scan.proofs.Stable.{judging, last-fits}
 use Rattle.scan.proofs.Settling.{settle-rest, settle-front}
 use Rattle.scan.proofs.Calls as calls
 use Rattle.framing.proofs.Reading.{both, placesFrom, blocksOf, answer, both-both, fed-answers, last-answers}
-use Rattle.reader.specs.State.{limit, sound}
+use Rattle.reader.specs.State.{limit, ceilingOf, sound}
 use Rattle.reader.specs.Refusals.{longHold}
 use Rattle.runs.specs.Refusals.{isFeeding, feedRefusal}
 use Rattle.reader.specs.Counting.{one}
@@ -33,14 +33,15 @@ use Rattle.demands.proofs.Reached.{Good}
 use Rattle.demands.proofs.Going.{kept, going, within, kept-length, FitsHold, kept-after, place-after, in-hold, finish-report}
 use Rattle.demands.specs.Demand2.{placeNow}
 
--- the run so far took the bytes t and reported the blocks b; with what follows it reads as these, and then from the place on
+-- the run so far took the bytes t and reported the blocks b; with what follows it reads as these, by its ceiling, and then from the place on
 pub record ReadsAs (t : List ℕ) (b : List ReadBlock) (w : World) : Type 0 where
   pub count : w .state .run .counts .taken ≡ length t
   pub sum : w .state .run .counts .blocks ≡ length b
   pub places : List ℕ
   pub skips : w .state .run .counts .skipped ≡ length places
   pub rest : kept w ≡ drop (placeNow w) t
-  pub so : (zs : List ℕ) → MayFollow (w .state .run .phase) zs → readRun 0 (t ++ zs) ≡ both (record { blocks = b; skipped = places }) (readRun (placeNow w) (kept w ++ zs))
+  pub so : (zs : List ℕ) → MayFollow (w .state .run .phase) zs
+      → readRun (ceilingOf (w .state)) 0 (t ++ zs) ≡ both (record { blocks = b; skipped = places }) (readRun (ceilingOf (w .state)) (placeNow w) (kept w ++ zs))
 
 follow-none : (x : Phase) → MayFollow x []
 follow-none phase.Closed = refl
@@ -79,7 +80,7 @@ module _ (x : Phase) (w : World) (bs : List ℕ) (f : Intake) (blk : List ReadBl
 
   go : {ts : List ℕ} {b : List ReadBlock} → ((zs : List ℕ) → MayFollow x zs → MayFollow (w .state .run .phase) (bs ++ zs))
       → ((zs : List ℕ) → MayFollow x zs
-      → readRun (placeNow w) (kept w ++ (bs ++ zs)) ≡ both (answer (f .standing) (placeNow w) (length (f .passed)) (f .held)) (readRun (placeNow w + length (f .passed) + size (f .standing)) (drop (size (f .standing)) (f .held) ++ zs)))
+      → readRun (ceilingOf (w .state)) (placeNow w) (kept w ++ (bs ++ zs)) ≡ both (answer (f .standing) (placeNow w) (length (f .passed)) (f .held)) (readRun (ceilingOf (w .state)) (placeNow w + length (f .passed) + size (f .standing)) (drop (size (f .standing)) (f .held) ++ zs)))
       → ReadsAs ts b w → ReadsAs (ts ++ bs) (b ++ blk) (going x w f)
   go {ts} {b} fol e r =
       record {
@@ -89,12 +90,12 @@ module _ (x : Phase) (w : World) (bs : List ℕ) (f : Intake) (blk : List ReadBl
         skips = omega (arith, r .skips, length-append (r .places) (placesFrom (placeNow w) (length (f .passed))), places-count (placeNow w) (length (f .passed)));
         rest = rest-after ts (r .count) (r .rest);
         so = λ zs y.
-            ap (readRun 0) (append-assoc ts bs zs)
+            ap (readRun (ceilingOf (w .state)) 0) (append-assoc ts bs zs)
             ∙ r .so (bs ++ zs) (fol zs y)
             ∙ ap (both (record { blocks = b; skipped = r .places })) (e zs y)
-            ∙ both-both (record { blocks = b; skipped = r .places }) (answer (f .standing) (placeNow w) (length (f .passed)) (f .held)) (readRun (placeNow w + length (f .passed) + size (f .standing)) (drop (size (f .standing)) (f .held) ++ zs))
-            ∙ ap (λ (i : List ReadBlock). both (record { blocks = b ++ i; skipped = r .places ++ placesFrom (placeNow w) (length (f .passed)) }) (readRun (placeNow w + length (f .passed) + size (f .standing)) (drop (size (f .standing)) (f .held) ++ zs))) (sym a)
-            ∙ ap₂ (λ (i : ℕ) (j : List ℕ). both (record { blocks = b ++ blk; skipped = r .places ++ placesFrom (placeNow w) (length (f .passed)) }) (readRun i (j ++ zs)))
+            ∙ both-both (record { blocks = b; skipped = r .places }) (answer (f .standing) (placeNow w) (length (f .passed)) (f .held)) (readRun (ceilingOf (w .state)) (placeNow w + length (f .passed) + size (f .standing)) (drop (size (f .standing)) (f .held) ++ zs))
+            ∙ ap (λ (i : List ReadBlock). both (record { blocks = b ++ i; skipped = r .places ++ placesFrom (placeNow w) (length (f .passed)) }) (readRun (ceilingOf (w .state)) (placeNow w + length (f .passed) + size (f .standing)) (drop (size (f .standing)) (f .held) ++ zs))) (sym a)
+            ∙ ap₂ (λ (i : ℕ) (j : List ℕ). both (record { blocks = b ++ blk; skipped = r .places ++ placesFrom (placeNow w) (length (f .passed)) }) (readRun (ceilingOf (w .state)) i (j ++ zs)))
             (sym (place-after x w f g h)) (sym (kept-after x w f g h));
       }
 
@@ -107,34 +108,34 @@ Next c ts b x = ReadsAs (ts ++ tookOf c (x .answer)) (b ++ inHold (told (x .answ
 pub feed-fits : (w : World) (piece : List ℕ) → Good w → FitsHold w (feedingOf (w .state) (w .hold) piece)
 unfolding feedingOf
 feed-fits w piece g =
-    let c = calls.call judged (judging .fits) (kept w) piece (limit - w .state .run .counts .taken) in
-    record { whole = fed-whole (kept w) piece (limit - w .state .run .counts .taken); front = c .front; sum = omega (arith, c .sum, kept-length w g) }
+    let c = calls.call (judged (ceilingOf (w .state))) (judging (ceilingOf (w .state)) .fits) (kept w) piece (limit - w .state .run .counts .taken) in
+    record { whole = fed-whole (ceilingOf (w .state)) (kept w) piece (limit - w .state .run .counts .taken); front = c .front; sum = omega (arith, c .sum, kept-length w g) }
 
 pub reads-feed : (w : World) {ts : List ℕ} {b : List ReadBlock} (piece : List ℕ) → Good w → refusal (feed piece) w ≡ none → ReadsAs ts b w → Next (feed piece) ts b (done (feed piece) w)
 unfolding feedingOf feedRefusal
 reads-feed w piece g e r =
     let room = limit - w .state .run .counts .taken in
-    let f = feedLit (kept w) piece (limit - w .state .run .counts .taken) in
+    let f = feedLit (ceilingOf (w .state)) (kept w) piece (limit - w .state .run .counts .taken) in
     let h = feed-fits w piece g in
-    let n : f .taken ≡ length (take (f .taken) piece) = sym (length-take-le (f .taken) piece (omega (arith, calls.call judged (judging .fits) (kept w) piece room .taken))) in
+    let n : f .taken ≡ length (take (f .taken) piece) = sym (length-take-le (f .taken) piece (omega (arith, calls.call (judged (ceilingOf (w .state))) (judging (ceilingOf (w .state)) .fits) (kept w) piece room .taken))) in
     let fed : isFeeding (w .state .run .phase) ≡ true = passes (isFeeding (w .state .run .phase)) 2 _ (passes (sound (w .state) && longHold (w .hold)) 1 _ e .1) .0 in
     go phase.Feeding w (take (f .taken) piece) f (inHold (told (done (feed piece) w .answer) .block) (done (feed piece) w .world)) g h n
-    (in-hold phase.Feeding w f g h) (calls.fed-holds judged piece room (kept w))
+    (in-hold phase.Feeding w f g h) (calls.fed-holds (judged (ceilingOf (w .state))) piece room (kept w))
     (λ zs y. follow-fed (w .state .run .phase) (take (f .taken) piece ++ zs) fed)
-    (λ zs y. fed-answers piece room (placeNow w) (kept w) zs)
+    (λ zs y. fed-answers (ceilingOf (w .state)) piece room (placeNow w) (kept w) zs)
     r
 
 -- ---- Finish
 
-finish-reads : (p : ℕ) (h zs : List ℕ) → zs ≡ [] → let s = settle judgedLast h in
-    readRun p (h ++ ([] ++ zs))
-    ≡ both (answer (s .standing) p (length (s .passed)) (s .rest)) (readRun (p + length (s .passed) + size (s .standing)) (drop (size (s .standing)) (s .rest) ++ zs))
-finish-reads p h zs z =
-    let s = settle judgedLast h in
+finish-reads : (c p : ℕ) (h zs : List ℕ) → zs ≡ [] → let s = settle (judgedLast c) h in
+    readRun c p (h ++ ([] ++ zs))
+    ≡ both (answer (s .standing) p (length (s .passed)) (s .rest)) (readRun c (p + length (s .passed) + size (s .standing)) (drop (size (s .standing)) (s .rest) ++ zs))
+finish-reads c p h zs z =
+    let s = settle (judgedLast c) h in
     subst⁻¹
-    (λ (i : List ℕ). readRun p (h ++ i)
-    ≡ both (answer (s .standing) p (length (s .passed)) (s .rest)) (readRun (p + length (s .passed) + size (s .standing)) (drop (size (s .standing)) (s .rest) ++ i)))
-    z (last-answers p h)
+    (λ (i : List ℕ). readRun c p (h ++ i)
+    ≡ both (answer (s .standing) p (length (s .passed)) (s .rest)) (readRun c (p + length (s .passed) + size (s .standing)) (drop (size (s .standing)) (s .rest) ++ i)))
+    z (last-answers c p h)
 
 follow-finish : (o : Option ℕ) (zs : List ℕ) → MayFollow (phaseAfter o) zs → zs ≡ []
 follow-finish none zs e = e
@@ -144,22 +145,22 @@ pub finish-fits : (w : World) → Good w → FitsHold w (finishingOf (w .state) 
 unfolding finishingOf
 finish-fits w g =
     record {
-      whole = end-whole (kept w);
-      front = settle-front judgedLast last-fits (kept w);
-      sum = omega (arith, kept-length w g, calls.settle-sum judgedLast (kept w));
+      whole = end-whole (ceilingOf (w .state)) (kept w);
+      front = settle-front (judgedLast (ceilingOf (w .state))) (last-fits (ceilingOf (w .state))) (kept w);
+      sum = omega (arith, kept-length w g, calls.settle-sum (judgedLast (ceilingOf (w .state))) (kept w));
     }
 
 pub reads-finish : (w : World) {ts : List ℕ} {b : List ReadBlock} → Good w → refusal finish w ≡ none → ReadsAs ts b w
     → ReadsAs (ts ++ []) (b ++ inHold (told (done finish w .answer) .block) (done finish w .world)) (done finish w .world)
 unfolding finishingOf
 reads-finish w g e r =
-    let f = stop (settle judgedLast (kept w)) in
-    let o = settle judgedLast (kept w) .standing in
-    let x = phaseAfter (settle judgedLast (kept w) .standing) in
+    let f = stop (settle (judgedLast (ceilingOf (w .state))) (kept w)) in
+    let o = settle (judgedLast (ceilingOf (w .state))) (kept w) .standing in
+    let x = phaseAfter (settle (judgedLast (ceilingOf (w .state))) (kept w) .standing) in
     let h = finish-fits w g in
-    go (phaseAfter (settle judgedLast (kept w) .standing)) w [] (stop (settle judgedLast (kept w))) (inHold (told (done finish w .answer) .block) (done finish w .world)) g h refl
-    (ap (λ (i : Option _). inHold i (done finish w .world)) (finish-report o (runOn x (w .state .run) f) (settle judgedLast (kept w) .rest)) ∙ in-hold x w f g h)
-    (settle-rest judgedLast (kept w) .is ∙ ap (drop (length (settle judgedLast (kept w) .passed))) (sym (append-nil (kept w))))
+    go (phaseAfter (settle (judgedLast (ceilingOf (w .state))) (kept w) .standing)) w [] (stop (settle (judgedLast (ceilingOf (w .state))) (kept w))) (inHold (told (done finish w .answer) .block) (done finish w .world)) g h refl
+    (ap (λ (i : Option _). inHold i (done finish w .world)) (finish-report o (runOn x (w .state .run) f) (settle (judgedLast (ceilingOf (w .state))) (kept w) .rest)) ∙ in-hold x w f g h)
+    (settle-rest (judgedLast (ceilingOf (w .state))) (kept w) .is ∙ ap (drop (length (settle (judgedLast (ceilingOf (w .state))) (kept w) .passed))) (sym (append-nil (kept w))))
     (λ zs y. subst⁻¹ (MayFollow (w .state .run .phase)) (follow-finish o zs y) (follow-none (w .state .run .phase)))
-    (λ zs y. finish-reads (placeNow w) (kept w) zs (follow-finish o zs y))
+    (λ zs y. finish-reads (ceilingOf (w .state)) (placeNow w) (kept w) zs (follow-finish o zs y))
     r

@@ -1,4 +1,4 @@
--- What the theorems imply: of each single answer, of two runs of the same bytes, of a run that took all of a stream, of every record of a run.
+-- What the theorems imply: of each single answer, of a run that took all of a stream, of every record of a run.
 -- Assumes nothing.
 use Prim.Native.Nat.{ℕ}
 use mathlib.Core.Path.{_≡_, refl, sym, ap, _∙_, subst⁻¹}
@@ -14,10 +14,11 @@ use Rattle.table.specs.Rows.{Table}
 use Rattle.reader.specs.declared.Counts.{Counts}
 use Rattle.reader.specs.declared.Run.{Run}
 use Rattle.reader.specs.declared.State.{State}
+use Rattle.reader.specs.declared.Settings.{Settings}
 use Rattle.demands.specs.World.{World, stage, withdraw, Look, Call, openRun, feed, finish, table, look, Reply, said, part, value, penned, fieldRefusal, told, Step, step, end, Line, trace}
-use Rattle.demands.specs.Sequence.{AllFed, NoEnd, Within, Closes, atOpen, taken, blocks, shownBlocks}
+use Rattle.demands.specs.Sequence.{NoEnd, Within, Closes, atOpen, taken}
 use Rattle.demands.specs.Demand2.{ReadsBy}
-use Rattle.demands.specs.Demand3.{countsOf, RunOf, Offers, foundBy}
+use Rattle.demands.specs.Demand3.{RunOf, Offers, foundBy}
 use Rattle.demands.proofs.Steps.{How, isnt, is, how}
 use Rattle.demands.proofs.Listed.{nothing-there}
 use Rattle.demands.proofs.Refusing.{demand-1}
@@ -75,10 +76,11 @@ worldOf s hold force wait = record { state = s; hold = hold; force = force; wait
 abbrev tells-number : {a : Said} {n : ℕ} → a ≡ refused n → told (said a) .refusal ≡ some n
 tells-number e = ap (λ (x : Said). told (said x) .refusal) e
 
-pub open-keeps : (s : State) (force wait : List ℕ) (n : ℕ) → openOf s force wait .said ≡ refused n → (openOf s force wait .state ≡ s) × (openOf s force wait .lent ≡ force)
+pub open-keeps : (s : State) (x : Settings) (force wait : List ℕ) (n : ℕ) → openOf s x force wait .said ≡ refused n
+    → (openOf s x force wait .state ≡ s) × (openOf s x force wait .lent ≡ force)
 unfolding step
-open-keeps s force wait n e =
-    let k = demand-1 .keeps openRun (worldOf s [] force wait) n (tells-number e) in
+open-keeps s x force wait n e =
+    let k = demand-1 .keeps (openRun x) (worldOf s [] force wait) n (tells-number e) in
     (ap (λ (w : World). w .state) k, ap (λ (w : World). w .force) k)
 
 pub feed-keeps : (s : State) (hold piece : List ℕ) (n : ℕ) → feedOf s hold piece .said ≡ refused n → (feedOf s hold piece .state ≡ s) × (feedOf s hold piece .lent ≡ hold)
@@ -103,56 +105,31 @@ pub withdraw-keeps : (s : State) (n : ℕ) → withdrawOf s .said ≡ refused n 
 unfolding step
 withdraw-keeps s n e = ap (λ (w : World). w .state) (demand-1 .keeps (table withdraw) (worldOf s [] [] []) n (tells-number e))
 
--- ---- two runs of the same bytes, however cut, under whatever tables, after whatever calls: the same blocks, the same End
-
-pub record SameRun (w : World) (mid : List Call) (u : World) (other : List Call) : Type 0 where
-  pub all : blocks mid w ≡ blocks other u
-  pub shown : shownBlocks mid w ≡ shownBlocks other u
-  pub counts : step finish (end mid w) .answer ≡ step finish (end other u) .answer
-
-pub however-cut : (w u : World) (before mid first other : List Call) → Within w before mid → Within u first other → Closes w before mid → Closes u first other
-    → taken mid (atOpen w before) ≡ taken other (atOpen u first) → SameRun (atOpen w before) mid (atOpen u first) other
-however-cut w u before mid first other h k e f t =
-    let run = taken other (atOpen u first) in
-    let a = demand-3 .whole (taken other (atOpen u first)) w before mid h e t in
-    let b = demand-3 .whole (taken other (atOpen u first)) u first other k f refl in
-    record {
-      all = a .all ∙ sym (b .all);
-      shown = a .shown ∙ sym (b .shown);
-      counts = said-end (step finish (end mid (atOpen w before)) .answer) (countsOf run) (a .counts)
-          ∙ sym (said-end (step finish (end other (atOpen u first)) .answer) (countsOf run) (b .counts));
-    }
-
 -- ---- a run that took all of a stream has its blocks and its counts
 
-pub of-the-stream : (s : List ℕ) (w : World) (before mid : List Call) → Within w before mid → Closes w before mid → Offers s mid (atOpen w before)
-    → length (taken mid (atOpen w before)) ≡ length s → RunOf s (atOpen w before) mid
-of-the-stream s w before mid h e o n =
-    demand-3 .whole s w before mid h e (demand-3 .offered s mid (atOpen w before) o ∙ ap (λ (k : ℕ). take k s) n ∙ take-length s)
+pub of-the-stream : (s : List ℕ) (w : World) (before : List Call) (x : Settings) (mid : List Call) → Within w before x mid → Closes w before x mid → Offers s mid (atOpen w before x)
+    → length (taken mid (atOpen w before x)) ≡ length s → RunOf (x .ceiling) s (atOpen w before x) mid
+of-the-stream s w before x mid h e o n =
+    demand-3 .whole s w before x mid h e (demand-3 .offered s mid (atOpen w before x) o ∙ ap (λ (k : ℕ). take k s) n ∙ take-length s)
 
 -- ---- every record of a run is read by the table that it was opened with
 
-abbrev pub CallReadsBy : Table → Call → Reply → Type 0
-CallReadsBy tab openRun a = Unit {0}
-CallReadsBy tab (feed piece) a = Unit {0}
-CallReadsBy tab finish a = Unit {0}
-CallReadsBy tab (table t) a = Unit {0}
-CallReadsBy tab (look l) a = ReadsBy tab l a
+abbrev pub CallReadsBy : ℕ → Table → Call → Reply → Type 0
+CallReadsBy top tab (openRun x) a = Unit {0}
+CallReadsBy top tab (feed piece) a = Unit {0}
+CallReadsBy top tab finish a = Unit {0}
+CallReadsBy top tab (table t) a = Unit {0}
+CallReadsBy top tab (look l) a = ReadsBy top tab l a
 
-unfoldable pub AllBy : Table → List Line → Type 0
-AllBy tab [] = Unit {0}
-AllBy tab (x ∷ xs) = CallReadsBy tab (x .call) (x .answer) × AllBy tab xs
+unfoldable pub AllBy : ℕ → Table → List Line → Type 0
+AllBy top tab [] = Unit {0}
+AllBy top tab (x ∷ xs) = CallReadsBy top tab (x .call) (x .answer) × AllBy top tab xs
 
 -- what holds of the call after every front of a list holds of all its calls
-all-by : (tab : Table) (cs : List Call) (w : World) → ((xs ys : List Call) (c : Call) → xs ++ (c ∷ ys) ≡ cs → CallReadsBy tab c (step c (end xs w) .answer)) → AllBy tab (trace cs w)
+all-by : (top : ℕ) (tab : Table) (cs : List Call) (w : World) → ((xs ys : List Call) (c : Call) → xs ++ (c ∷ ys) ≡ cs → CallReadsBy top tab c (step c (end xs w) .answer)) → AllBy top tab (trace cs w)
 unfolding AllBy trace end
-all-by tab [] w h = tt
-all-by tab (c ∷ cs) w h = (h [] cs c refl, all-by tab cs (step c w .world) (λ xs ys d e. h (c ∷ xs) ys d (ap (λ (z : List Call). c ∷ z) e)))
-
-fed-front : (xs ys : List Call) → AllFed (xs ++ ys) → AllFed xs
-unfolding AllFed
-fed-front [] ys f = tt
-fed-front (c ∷ xs) ys f = (f .0, fed-front xs ys (f .1))
+all-by top tab [] w h = tt
+all-by top tab (c ∷ cs) w h = (h [] cs c refl, all-by top tab cs (step c w .world) (λ xs ys d e. h (c ∷ xs) ys d (ap (λ (z : List Call). c ∷ z) e)))
 
 no-end-front : (xs ys : List Call) (w : World) → NoEnd (xs ++ ys) w → NoEnd xs w
 unfolding NoEnd
@@ -160,25 +137,23 @@ no-end-front [] ys w n = tt
 no-end-front (c ∷ xs) ys w n = (n .0, no-end-front xs ys (step c w .world) (n .1))
 
 -- a front of a run is a moment of it
-within-front : (w : World) (before xs ys mid : List Call) → xs ++ ys ≡ mid → Within w before mid → Within w before xs
-within-front w before xs ys mid e h =
+within-front : (w : World) (before : List Call) (x : Settings) (xs ys mid : List Call) → xs ++ ys ≡ mid → Within w before x mid → Within w before x xs
+within-front w before x xs ys mid e h =
     record {
       new = h .new;
-      fedBefore = h .fedBefore;
-      fed = fed-front xs ys (subst⁻¹ AllFed e (h .fed));
       opens = h .opens;
-      noEnd = no-end-front xs ys (atOpen w before) (subst⁻¹ (λ (cs : List Call). NoEnd cs (atOpen w before)) e (h .noEnd));
+      noEnd = no-end-front xs ys (atOpen w before x) (subst⁻¹ (λ (cs : List Call). NoEnd cs (atOpen w before x)) e (h .noEnd));
     }
 
-read-by : (tab : Table) (c : Call) (w : World) → ((l : Look) → ReadsBy tab l (step (look l) w .answer)) → CallReadsBy tab c (step c w .answer)
-read-by tab openRun w h = tt
-read-by tab (feed piece) w h = tt
-read-by tab finish w h = tt
-read-by tab (table t) w h = tt
-read-by tab (look l) w h = h l
+read-by : (top : ℕ) (tab : Table) (c : Call) (w : World) → ((l : Look) → ReadsBy top tab l (step (look l) w .answer)) → CallReadsBy top tab c (step c w .answer)
+read-by top tab (openRun x) w h = tt
+read-by top tab (feed piece) w h = tt
+read-by top tab finish w h = tt
+read-by top tab (table t) w h = tt
+read-by top tab (look l) w h = h l
 
-pub one-table : (w : World) (before mid : List Call) → Within w before mid → AllBy (foundBy (end before w)) (trace mid (atOpen w before))
-one-table w before mid h =
+pub one-table : (w : World) (before : List Call) (x : Settings) (mid : List Call) → Within w before x mid → AllBy (x .ceiling) (foundBy (end before w)) (trace mid (atOpen w before x))
+one-table w before x mid h =
     let tab = foundBy (end before w) in
-    all-by (foundBy (end before w)) mid (atOpen w before)
-    (λ xs ys c e. read-by tab c (end xs (atOpen w before)) (demand-3 .records w before xs (within-front w before xs (c ∷ ys) mid e h)))
+    all-by (x .ceiling) (foundBy (end before w)) mid (atOpen w before x)
+    (λ xs ys c e. read-by (x .ceiling) tab c (end xs (atOpen w before x)) (demand-3 .records w before x xs (within-front w before x xs (c ∷ ys) mid e h)))

@@ -1,6 +1,6 @@
 -- Each test of the definitions says whether its condition holds; so a row of tests gives the first condition that does.
 -- Assumes nothing.
-use Prim.Native.Nat.{ℕ, _≤_, _<_}
+use Prim.Native.Nat.{ℕ, _%_, _≤_, _<_}
 use native.Mathlib.Omega.{arith}
 use mathlib.Core.Path.{_≡_, refl, ap}
 use mathlib.Core.Bool.{Bool, true, false, not, _&&_, _||_}
@@ -9,20 +9,22 @@ use mathlib.Core.Logic.{_⊎_, inl, inr, ⊎-elim}
 use mathlib.Core.Option.{Option, none, some}
 use lib.ListN.{length}
 use lib.Dec.{leb, ltb, eqb}
+use Rattle.frame.specs.Frame.{greatestCeiling, ceilingOk}
 use borrow.Author.Tests.{leb-true, leb-false, ltb-true, ltb-false, eqb-true, eqb-false}
 use Rattle.frame.specs.Judge.{judged}
 use Rattle.scan.specs.Settle.{settle}
 use Rattle.feed.specs.Hold.{restOf}
 use Rattle.wire.proofs.Tests.{both-left, both-right, never, neither-left, neither-right}
 use Rattle.table.specs.Rules.{tableOk}
-use Rattle.reader.specs.State.{limit, sound}
+use Rattle.reader.specs.State.{limit, ceilingOf, sound}
 use Rattle.reader.specs.Refusals.{need, isClosed, longHold, longStore, tableRefusal}
 use Rattle.runs.specs.Refusals.{isFeeding, isSome, feedRefusal, finishRefusal, bytesRefusal}
 use Rattle.tables.specs.Calls.{nextTable, openRefusal, stageRefusal, withdrawRefusal}
 use Rattle.reader.specs.declared.Phase.{Phase}
 use Rattle.reader.specs.declared.Phase.the-variants.{Closed, Feeding, Finishing}
+use Rattle.reader.specs.declared.Settings.{Settings}
 use Rattle.reader.specs.declared.State.{State}
-use Rattle.demands.specs.Refusals.{ShortHold, ShortStore, BadState, Full, Breaks, _when_, Order, Given, Exactly, order}
+use Rattle.demands.specs.Refusals.{ShortHold, ShortStore, NoCeiling, BadState, Full, Breaks, _when_, Order, Given, Exactly, order}
 use Rattle.demands.specs.World.{World, stage, withdraw, bytes, openRun, feed, finish, table, look}
 
 -- ---- a row of tests
@@ -82,6 +84,12 @@ within m n = record { fine = λ e l. let g = leb-true m n e in omega arith; hold
 
 -- ---- the conditions
 
+pub ceiling-tells : (c : ℕ) → Tells (ceilingOk c) (NoCeiling c)
+unfolding ceilingOk
+ceiling-tells c =
+    regroup
+    (both (both (record { fine = λ e f. f (eqb-true (c % 4) 0 e); holds = λ e. eqb-false (c % 4) 0 e }) (within 16 c)) (within c greatestCeiling))
+
 pub bad-state : (s : State) → Tells (sound s) (BadState s)
 unfolding sound
 bad-state s =
@@ -91,6 +99,8 @@ bad-state s =
     (regroup
     (regroup
     (regroup
+    (regroup
+    (both
     (both
     (both
     (both
@@ -101,7 +111,8 @@ bad-state s =
     (within (s .waiting) 8192))
     (within (s .run .counts .taken) limit))
     (within (s .run .counts .blocks) (s .run .counts .taken)))
-    (within (s .run .counts .skipped) (s .run .counts .taken))))))))
+    (within (s .run .counts .skipped) (s .run .counts .taken)))
+    (ceiling-tells (ceilingOf s)))))))))
 
 closed-tells : (p : Phase) → Tells (isClosed p) (p ≡ Closed → ⊥)
 closed-tells Closed = record { fine = λ e f. f refl; holds = λ e. never refl e }
@@ -156,9 +167,9 @@ pub store-tells : (s : State) (store : List ℕ) → Tells (sound s && longStore
 store-tells s store = both (bad-state s) (within 8192 (length store))
 
 full : (s : State) (hold piece : List ℕ)
-    → Tells (ltb (s .run .counts .taken) limit || (eqb (length piece) 0 || isSome (settle judged (restOf hold (s .run .held) (s .run .standing)) .standing))) (Full s hold piece)
+    → Tells (ltb (s .run .counts .taken) limit || (eqb (length piece) 0 || isSome (settle (judged (ceilingOf s)) (restOf hold (s .run .held) (s .run .standing)) .standing))) (Full s hold piece)
 full s hold piece =
-    let u = orelse (full-tells (s .run .counts .taken)) (orelse (empty-tells (length piece)) (gives-tells (settle judged (restOf hold (s .run .held) (s .run .standing)) .standing))) in
+    let u = orelse (full-tells (s .run .counts .taken)) (orelse (empty-tells (length piece)) (gives-tells (settle (judged (ceilingOf s)) (restOf hold (s .run .held) (s .run .standing)) .standing))) in
     record {
       fine = λ e f. u .fine e (f .all, (f .some-byte, f .no-block));
       holds = λ e. let h = u .holds e in record { all = h .0; no-block = h .1 .1; some-byte = h .1 .0 };
@@ -167,13 +178,14 @@ full s hold piece =
 broken : (t : List ℕ) → Exactly (tableRefusal t) (4 when Breaks t ∷ [])
 broken t = followed 4 (table-tells t) exactly-none
 
-pub open-exact : (w : World) → Exactly (openRefusal (w .state) (w .force) (w .wait)) (order openRun w)
+pub open-exact : (x : Settings) (w : World) → Exactly (openRefusal (w .state) x (w .force) (w .wait)) (order (openRun x) w)
 unfolding openRefusal
-open-exact w =
+open-exact x w =
     let s = w .state in
     followed 1 (regroup (both (store-tells s (w .force)) (within 8192 (length (w .wait)))))
     (followed 2 (closed-tells (s .run .phase))
-    (followed 5 (orelse (some-tells (s .waiting)) (some-tells (s .«in_force»))) (broken (nextTable s (w .force) (w .wait)))))
+    (followed 13 (ceiling-tells (x .ceiling))
+    (followed 5 (orelse (some-tells (s .waiting)) (some-tells (s .«in_force»))) (broken (nextTable s (w .force) (w .wait))))))
 
 pub feed-exact : (piece : List ℕ) (w : World) → Exactly (feedRefusal (w .state) (w .hold) piece) (order (feed piece) w)
 unfolding feedRefusal

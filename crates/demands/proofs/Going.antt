@@ -36,7 +36,7 @@ pub within : (w : World) → Good w → w .state .run .held ≤ w .state .run .c
 within w g = let s = g .sound in omega (arith, s .sum, s .among, s .front)
 
 pub kept-length : (w : World) → Good w → length (kept w) ≡ w .state .run .held - w .state .run .standing
-kept-length w g = rest-length (w .hold) (w .state .run .held) (w .state .run .standing) (g .sound .front) (g .held .there)
+kept-length w g = rest-length (w .hold) (w .state .run .held) (w .state .run .standing) (g .sound .front) (g .there)
 
 -- the numbers of a call fit together: the block is whole, and no byte is lost
 pub record FitsHold (w : World) (f : Intake) : Type 0 where

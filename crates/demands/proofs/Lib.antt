@@ -1,7 +1,6 @@
 pub mod Apart
 pub mod Exact
 pub mod Steps
-pub mod Clean
 pub mod Soundness
 pub mod Reached
 pub mod Live
@@ -34,3 +33,4 @@ pub mod Asked
 pub mod Single
 pub mod Telling
 pub mod Corollaries
+pub mod Waiting

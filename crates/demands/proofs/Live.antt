@@ -6,46 +6,51 @@ use mathlib.Core.Bool.{true, false, _&&_, _||_}
 use mathlib.Core.List.{List, [], _∷_}
 use mathlib.Core.Option.{Option, none, some, IsSome}
 use lib.Dec.{ltb}
+use Rattle.frame.specs.Frame.{ceilingOk}
 use Rattle.table.specs.Rules.{tableOk}
 use Rattle.reader.specs.State.{sound}
 use Rattle.reader.specs.Refusals.{isClosed, longStore}
 use Rattle.tables.specs.Calls.{nextTable, openRefusal, opening}
 use Rattle.runs.specs.Calls.{finishingOf, finishingBy, finishSaid, phaseAfter}
 use Rattle.reader.specs.declared.Run.{Run}
+use Rattle.reader.specs.declared.Settings.{Settings}
 use Rattle.reader.proofs.Laws.{passes}
 use Rattle.tables.proofs.Accepted.{OpenPassed, open-passed}
 use Rattle.demands.specs.World.{World, TableCall, stage, withdraw, Call, openRun, feed, finish, table, look, said, told, Step, step, end}
 use Rattle.demands.specs.Sequence.{NoEnd, Within, atOpen}
 use Rattle.demands.proofs.Steps.{How, isnt, is, how, refusal, leftForce, done, clash}
 use Rattle.demands.proofs.Listed.{nothing-there}
-use Rattle.demands.proofs.Reached.{Good, no-bytes, good-step, good-end, good-new}
+use Rattle.demands.proofs.Reached.{Good, good-step, good-end, good-new}
 
 abbrev pub Live : World → Type 0
 Live w = isClosed (w .state .run .phase) ≡ false
 
 -- the refusals of Open taken apart
-pub record MayOpen (w : World) : Type 0 where
+pub record MayOpen (x : Settings) (w : World) : Type 0 where
   pub long : OpenPassed (w .state) (w .force) (w .wait)
   pub closed : isClosed (w .state .run .phase) ≡ true
+  pub ceiling : ceilingOk (x .ceiling) ≡ true
   pub one : (ltb 0 (w .state .waiting) || ltb 0 (w .state .«in_force»)) ≡ true
   pub ok : tableOk (nextTable (w .state) (w .force) (w .wait)) ≡ true
 
-pub may-open : (w : World) → refusal openRun w ≡ none → MayOpen w
+pub may-open : (x : Settings) (w : World) → refusal (openRun x) w ≡ none → MayOpen x w
 unfolding openRefusal
-may-open w e =
+may-open x w e =
     let s = w .state in
     let a = passes (sound s && longStore (w .force) && longStore (w .wait)) 1 _ e .1 in
     let b = passes (isClosed (s .run .phase)) 2 _ a in
-    let c = passes (ltb 0 (s .waiting) || ltb 0 (s .«in_force»)) 5 _ (b .1) in
+    let d = passes (ceilingOk (x .ceiling)) 13 _ (b .1) in
+    let c = passes (ltb 0 (s .waiting) || ltb 0 (s .«in_force»)) 5 _ (d .1) in
     record {
-      long = open-passed s (w .force) (w .wait) e;
+      long = open-passed s x (w .force) (w .wait) e;
       closed = b .0;
+      ceiling = d .0;
       one = c .0;
       ok = passes (tableOk (nextTable s (w .force) (w .wait))) 4 none (c .1) .0;
     }
 
-pub not-open : {X : Type 0} (w : World) → Live w → refusal openRun w ≡ none → X
-not-open w l e = clash (sym (may-open w e .closed) ∙ l)
+pub not-open : {X : Type 0} (x : Settings) (w : World) → Live w → refusal (openRun x) w ≡ none → X
+not-open x w l e = clash (sym (may-open x w e .closed) ∙ l)
 
 -- ---- it stays open
 
@@ -58,7 +63,7 @@ live-table (stage t) w l = l
 live-table withdraw w l = l
 
 live-done : (c : Call) (w : World) → Live w → refusal c w ≡ none → told (done c w .answer) .end ≡ none → Live (done c w .world)
-live-done openRun w l e n = not-open w l e
+live-done (openRun x) w l e n = not-open x w l e
 live-done (feed piece) w l e n = refl
 live-done finish w l e n =
     let f = finishingOf (w .state) (w .hold) in
@@ -80,28 +85,28 @@ live-end (c ∷ cs) w l n = live-end cs (step c w .world) (live-step c w l (n .0
 
 -- ---- an Open that answered a version
 
-pub record DidOpen (w : World) (r : Step) : Type 0 where
-  pub may : MayOpen w
-  pub is : r .world ≡ leftForce w (opening (w .state) (w .force) (w .wait)) .world
+pub record DidOpen (x : Settings) (w : World) (r : Step) : Type 0 where
+  pub may : MayOpen x w
+  pub is : r .world ≡ leftForce w (opening (w .state) x (w .force) (w .wait)) .world
 
-opened-by : (w : World) {r : Step} → How openRun w r → IsSome (told (r .answer) .version) → DidOpen w r
-opened-by w (isnt k e) f = absurd f
-opened-by w (is e) f = record { may = may-open w e; is = refl }
+opened-by : (x : Settings) (w : World) {r : Step} → How (openRun x) w r → IsSome (told (r .answer) .version) → DidOpen x w r
+opened-by x w (isnt k e) f = absurd f
+opened-by x w (is e) f = record { may = may-open x w e; is = refl }
 
 -- what a run within a sequence stands on
-pub record Stand (w : World) (before : List Call) : Type 0 where
+pub record Stand (w : World) (before : List Call) (x : Settings) : Type 0 where
   pub start : Good (end before w)
-  pub opens : DidOpen (end before w) (step openRun (end before w))
-  pub good : Good (atOpen w before)
-  pub live : Live (atOpen w before)
+  pub opens : DidOpen x (end before w) (step (openRun x) (end before w))
+  pub good : Good (atOpen w before x)
+  pub live : Live (atOpen w before x)
 
-pub stands : (w : World) (before mid : List Call) → Within w before mid → Stand w before
-stands w before mid h =
-    let g = good-end before w (h .fedBefore) (good-new w (h .new)) in
-    let o = opened-by (end before w) (how openRun (end before w)) (h .opens) in
+pub stands : (w : World) (before : List Call) (x : Settings) (mid : List Call) → Within w before x mid → Stand w before x
+stands w before x mid h =
+    let g = good-end before w (good-new w (h .new)) in
+    let o = opened-by x (end before w) (how (openRun x) (end before w)) (h .opens) in
     record {
       start = g;
       opens = o;
-      good = good-step openRun (end before w) no-bytes g;
-      live = ap (λ (x : World). isClosed (x .state .run .phase)) (o .is);
+      good = good-step (openRun x) (end before w) g;
+      live = ap (λ (u : World). isClosed (u .state .run .phase)) (o .is);
     }

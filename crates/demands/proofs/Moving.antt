@@ -4,11 +4,12 @@ use mathlib.Core.Path.{_≡_, refl, sym, ap, ap₂, _∙_}
 use mathlib.Core.Bool.{Bool, true, false, not, cond}
 use mathlib.Core.List.{List, [], _∷_, _++_}
 use borrow.Author.Tests.{not-true}
+use Rattle.reader.specs.declared.Settings.{Settings}
 use Rattle.demands.specs.World.{World, TableCall, Call, openRun, feed, finish, table, look, Reply, Step, step, end, Line, _⇒_, trace}
-use Rattle.demands.specs.Sequence.{AllFed, NoEnd, Within, atOpen}
+use Rattle.demands.specs.Sequence.{NoEnd, Within, atOpen}
 use Rattle.demands.specs.Demand3.{isTable, those, tables, others, Same}
 use Rattle.demands.proofs.Steps.{how}
-use Rattle.demands.proofs.Reached.{Good, no-bytes, good-step, good-end}
+use Rattle.demands.proofs.Reached.{Good, good-step, good-end}
 use Rattle.demands.proofs.Live.{Live, live-step, live-end, stands}
 use Rattle.demands.proofs.Untouched.{Waiting, waits, with, placed, Fit, mirror, base-by, apart, left-by, same-by, same-length}
 
@@ -19,7 +20,7 @@ data Kind : Bool → Call → Type 0 where
   of-other : {c : Call} → isTable c ≡ false → Kind false c
 
 kind : (c : Call) → Kind (isTable c) c
-kind openRun = of-other refl
+kind (openRun x) = of-other refl
 kind (feed piece) = of-other refl
 kind finish = of-other refl
 kind (table t) = of-table t
@@ -51,13 +52,13 @@ others-by cs w p (of-other {c = c} e) g l f k r =
       last = ap (λ (x : Step). end (others cs) (x .world)) a ∙ r .last;
     }
 
-others-alone : (cs : List Call) (w : World) (p : Waiting) → AllFed cs → Good w → Live w → NoEnd cs w → Fit p (waits w)
+others-alone : (cs : List Call) (w : World) (p : Waiting) → Good w → Live w → NoEnd cs w → Fit p (waits w)
     → Others cs (others cs) w (otherAnswers (trace cs w)) p
-unfolding end trace those AllFed NoEnd
-others-alone [] w p b g l q f = record { answers = refl; last = refl }
-others-alone (c ∷ cs) w p b g l q f =
+unfolding end trace those NoEnd
+others-alone [] w p g l q f = record { answers = refl; last = refl }
+others-alone (c ∷ cs) w p g l q f =
     others-by cs w p (kind c) g l f (otherAnswers (trace cs (step c w .world)))
-    (others-alone cs (step c w .world) p (b .1) (good-step c w (b .0) g) (live-step c w l (q .0)) (q .1)
+    (others-alone cs (step c w .world) p (good-step c w g) (live-step c w l (q .0)) (q .1)
     (record { few = f .few; long = f .long ∙ sym (same-by c w (how c w)) }))
 
 -- the table calls alone, over another base
@@ -80,12 +81,12 @@ tables-by cs w x (of-other {c = c} e) g l k y r =
     let q = ap (with x) (left-by c w e l (how c w)) in
     record { answers = r .answers ∙ ap (trace (tables cs)) q; last = ap (end (tables cs)) (sym q) ∙ r .last }
 
-tables-alone : (cs : List Call) (w x : World) → AllFed cs → Good w → Live w → NoEnd cs w → Good x → Tables cs (tables cs) w x (tableAnswers (trace cs w))
-unfolding end trace those AllFed NoEnd
-tables-alone [] w x b g l q k = record { answers = refl; last = refl }
-tables-alone (c ∷ cs) w x b g l q k =
+tables-alone : (cs : List Call) (w x : World) → Good w → Live w → NoEnd cs w → Good x → Tables cs (tables cs) w x (tableAnswers (trace cs w))
+unfolding end trace those NoEnd
+tables-alone [] w x g l q k = record { answers = refl; last = refl }
+tables-alone (c ∷ cs) w x g l q k =
     tables-by cs w x (kind c) g l k (tableAnswers (trace cs (step c w .world)))
-    (tables-alone cs (step c w .world) x (b .1) (good-step c w (b .0) g) (live-step c w l (q .0)) (q .1) k)
+    (tables-alone cs (step c w .world) x (good-step c w g) (live-step c w l (q .0)) (q .1) k)
 
 -- ---- traces
 
@@ -171,7 +172,7 @@ same-after xs ys zs w s =
     }
 
 -- from an open run on
-module _ (w : World) (mid after : List Call) (b : AllFed mid) (g : Good w) (l : Live w) (q : NoEnd mid w) where
+module _ (w : World) (mid after : List Call) (g : Good w) (l : Live w) (q : NoEnd mid w) where
   abbrev here : World
   here = end mid w
 
@@ -179,16 +180,16 @@ module _ (w : World) (mid after : List Call) (b : AllFed mid) (g : Good w) (l : 
   x = step finish here .world
 
   good-here : Good (end mid w)
-  good-here = good-end mid w b g
+  good-here = good-end mid w g
 
   live-here : Live (end mid w)
   live-here = live-end mid w l q
 
   o : Others mid (others mid) w (otherAnswers (trace mid w)) (waits w)
-  o = others-alone mid w (waits w) b g l q (record { few = g .sound .wait; long = refl })
+  o = others-alone mid w (waits w) g l q (record { few = g .sound .wait; long = refl })
 
   t : Tables mid (tables mid) w x (tableAnswers (trace mid w))
-  t = tables-alone mid w x b g l q (good-step finish here no-bytes good-here)
+  t = tables-alone mid w x g l q (good-step finish here good-here)
 
   fin : step finish (end (others mid) w) ≡ placed (step finish here) (waits w)
   fin =
@@ -255,11 +256,11 @@ module _ (w : World) (mid after : List Call) (b : AllFed mid) (g : Good w) (l : 
   pub moved-run : Same w (mid ++ (finish ∷ after)) (others mid ++ (finish ∷ (tables mid ++ after)))
   moved-run = record { tabled = moved-table; other = moved-other; last = moved-last }
 
-pub moved : (w : World) (before mid after : List Call) → Within w before mid
-    → Same w (before ++ (openRun ∷ (mid ++ (finish ∷ after)))) (before ++ (openRun ∷ (others mid ++ (finish ∷ (tables mid ++ after)))))
+pub moved : (w : World) (before : List Call) (x : Settings) (mid after : List Call) → Within w before x mid
+    → Same w (before ++ (openRun x ∷ (mid ++ (finish ∷ after)))) (before ++ (openRun x ∷ (others mid ++ (finish ∷ (tables mid ++ after)))))
 unfolding end
-moved w before mid after h =
-    let s = stands w before mid h in
-    same-after before (openRun ∷ (mid ++ (finish ∷ after))) (openRun ∷ (others mid ++ (finish ∷ (tables mid ++ after)))) w
-    (same-after (openRun ∷ []) (mid ++ (finish ∷ after)) (others mid ++ (finish ∷ (tables mid ++ after))) (end before w)
-    (moved-run (atOpen w before) mid after (h .fed) (s .good) (s .live) (h .noEnd)))
+moved w before x mid after h =
+    let s = stands w before x mid h in
+    same-after before (openRun x ∷ (mid ++ (finish ∷ after))) (openRun x ∷ (others mid ++ (finish ∷ (tables mid ++ after)))) w
+    (same-after (openRun x ∷ []) (mid ++ (finish ∷ after)) (others mid ++ (finish ∷ (tables mid ++ after))) (end before w)
+    (moved-run (atOpen w before x) mid after (s .good) (s .live) (h .noEnd)))

@@ -10,13 +10,13 @@ use mathlib.Core.Option.{none, some}
 use lib.ListN.{length, take}
 use lib.Seq.{length-take-le}
 use lib.Dec.{ltb}
-use Rattle.wire.specs.Range.{Bytes}
 use Rattle.feed.specs.Hold.{over}
 use Rattle.runs.specs.Calls.{feedingOf, finishingOf}
 use Rattle.table.specs.Rows.{BlockRow, firstRows, secondRows}
 use Rattle.draft.specs.Draft.{Draft}
+use Rattle.reader.specs.declared.Settings.{Settings}
 use Rattle.demands.specs.World.{World, TableCall, stage, withdraw, bytes, body, sub, subBytes, sub2, range, range2, tow, wnc, write, Call, openRun, feed, finish, table, look, told, Step, step, end}
-use Rattle.demands.specs.Sequence.{New, pieceOf, AllFed}
+use Rattle.demands.specs.Sequence.{New}
 use Rattle.demands.specs.Refusals.{ShortHold, ShortStore, BadState, NoField, NoSubBlock, NoSecond, NoRange, NoRange2, Order, Given, recordOrder, stampOrder, writeOrder, order}
 use Rattle.demands.specs.Demand1.{Long}
 use Rattle.demands.proofs.Exact.{bad-state}
@@ -34,8 +34,8 @@ force-by : (b : Bool) (t force : List ℕ) → length t ≤ length force → len
 force-by true t force l = length-over t force l
 force-by false t force l = refl
 
-open-force : (w : World) → MayOpen w → length (done openRun w .world .force) ≡ length (w .force)
-open-force w m =
+open-force : (x : Settings) (w : World) → MayOpen x w → length (done (openRun x) w .world .force) ≡ length (w .force)
+open-force x w m =
     let f = m .long in
     let n = w .state .waiting in
     force-by (ltb 0 n) (take n (w .wait)) (w .force)
@@ -46,7 +46,7 @@ force-table (stage t) w = refl
 force-table withdraw w = refl
 
 force-done : (c : Call) (w : World) → refusal c w ≡ none → length (done c w .world .force) ≡ length (w .force)
-force-done openRun w e = open-force w (may-open w e)
+force-done (openRun x) w e = open-force x w (may-open x w e)
 force-done (feed piece) w e = refl
 force-done finish w e = refl
 force-done (table t) w e = force-table t w
@@ -61,7 +61,7 @@ hold-table (stage t) w = refl
 hold-table withdraw w = refl
 
 hold-done : (c : Call) (w : World) → 65536 ≤ length (w .hold) → done c w .world .state .run .held ≤ 65532 → length (done c w .world .hold) ≡ length (w .hold)
-hold-done openRun w l few = refl
+hold-done (openRun x) w l few = refl
 hold-done (feed piece) w l few = hold-length (feedingOf (w .state) (w .hold) piece) (w .hold) (omega arith)
 hold-done finish w l few = hold-length (finishingOf (w .state) (w .hold)) (w .hold) (omega arith)
 hold-done (table t) w l few = hold-table t w
@@ -71,10 +71,10 @@ hold-same : (c : Call) (w : World) → 65536 ≤ length (w .hold) → {r : Step}
 hold-same c w l (isnt n e) few = refl
 hold-same c w l (is e) few = hold-done c w l few
 
-long-step : (c : Call) (w : World) → Bytes (pieceOf c) → Good w → Long w → Long (step c w .world)
-long-step c w b g l =
+long-step : (c : Call) (w : World) → Good w → Long w → Long (step c w .world)
+long-step c w g l =
     record {
-      hold = omega (arith, hold-same c w (l .hold) (how c w) (good-step c w b g .sound .few), l .hold);
+      hold = omega (arith, hold-same c w (l .hold) (how c w) (good-step c w g .sound .few), l .hold);
       force = omega (arith, force-same c w (how c w), l .force);
       wait = omega (arith, same-by c w (how c w), l .wait);
     }
@@ -119,7 +119,7 @@ module _ (w : World) (g : Good w) (l : Long w) where
   not-write d buffer = ((λ q p. with-force p), ((λ q p. omega arith), ((λ q p. omega arith), ((λ q p. omega arith), ((λ q p. omega arith), ((λ q p. omega arith), tt))))))
 
   not-one : (c : Call) → NotOne (order c w)
-  not-one openRun = ((λ q p. with-both p), ((λ q p. omega arith), ((λ q p. omega arith), ((λ q p. omega arith), tt))))
+  not-one (openRun x) = ((λ q p. with-both p), ((λ q p. omega arith), ((λ q p. omega arith), ((λ q p. omega arith), ((λ q p. omega arith), tt)))))
   not-one (feed piece) = ((λ q p. with-hold p), ((λ q p. omega arith), ((λ q p. omega arith), tt)))
   not-one finish = ((λ q p. with-hold p), ((λ q p. omega arith), tt))
   not-one (table (stage t)) = ((λ q p. with-wait p), ((λ q p. omega arith), tt))
@@ -135,10 +135,10 @@ module _ (w : World) (g : Good w) (l : Long w) where
   not-one (look (wnc b)) = not-stamp b
   not-one (look (write d buffer)) = not-write d buffer
 
-never-from : (cs : List Call) (c : Call) (w : World) → Good w → Long w → AllFed cs → told (step c (end cs w) .answer) .refusal ≡ some 1 → ⊥
-unfolding end AllFed
-never-from [] c w g l b e = not-given (order c w) (not-one w g l c) (exactly c w .gives 1 e)
-never-from (k ∷ ks) c w g l b e = never-from ks c (step k w .world) (good-step k w (b .0) g) (long-step k w (b .0) g l) (b .1) e
+never-from : (cs : List Call) (c : Call) (w : World) → Good w → Long w → told (step c (end cs w) .answer) .refusal ≡ some 1 → ⊥
+unfolding end
+never-from [] c w g l e = not-given (order c w) (not-one w g l c) (exactly c w .gives 1 e)
+never-from (k ∷ ks) c w g l e = never-from ks c (step k w .world) (good-step k w g) (long-step k w g l) e
 
-pub never-one : (w : World) (before : List Call) (c : Call) → New w → Long w → AllFed before → told (step c (end before w) .answer) .refusal ≡ some 1 → ⊥
-never-one w before c n l b e = never-from before c w (good-new w n) l b e
+pub never-one : (w : World) (before : List Call) (c : Call) → New w → Long w → told (step c (end before w) .answer) .refusal ≡ some 1 → ⊥
+never-one w before c n l e = never-from before c w (good-new w n) l e

@@ -13,7 +13,7 @@ use Rattle.frame.specs.Judge.{judged}
 use Rattle.scan.proofs.Stable.{judging}
 use Rattle.scan.proofs.Calls.{call}
 use Rattle.framing.proofs.Calls.{more-decides-all, block-decides-no-more}
-use Rattle.reader.specs.State.{limit, sound}
+use Rattle.reader.specs.State.{limit, ceilingOf, sound}
 use Rattle.reader.specs.Said.{Report, took}
 use Rattle.reader.specs.Refusals.{longHold}
 use Rattle.runs.specs.Refusals.{isFeeding, feedRefusal}
@@ -33,7 +33,7 @@ module _ (w : World) (piece : List ℕ) (m : ℕ) (e : refusal (feed piece) w �
   fits : (m < limit - w .state .run .counts .taken) × (m ≤ length piece)
   unfolding feedingOf
   fits =
-      let k = call judged (judging .fits) (kept w) piece (limit - w .state .run .counts .taken) .taken in
+      let k = call (judged (ceilingOf (w .state))) (judging (ceilingOf (w .state)) .fits) (kept w) piece (limit - w .state .run .counts .taken) .taken in
       (omega (arith, k), omega (arith, k))
 
   accepted : refusal (feed (take m piece)) w ≡ none
@@ -45,12 +45,12 @@ module _ (w : World) (piece : List ℕ) (m : ℕ) (e : refusal (feed piece) w �
 
   no-block : feedingOf (w .state) (w .hold) (take m piece) .standing ≡ none
   unfolding feedingOf
-  no-block = block-decides-no-more .least (kept w) piece (limit - w .state .run .counts .taken) m l
+  no-block = block-decides-no-more (ceilingOf (w .state)) .least (kept w) piece (limit - w .state .run .counts .taken) m l
 
   all-taken : feedingOf (w .state) (w .hold) (take m piece) .taken ≡ m
   unfolding feedingOf
   all-taken =
-      let t = more-decides-all (kept w) (take m piece) (limit - w .state .run .counts .taken) no-block .0 in
+      let t = more-decides-all (ceilingOf (w .state)) (kept w) (take m piece) (limit - w .state .run .counts .taken) no-block .0 in
       omega (arith, t, length-take-le m piece (fits .1), fits .0)
 
   answers-more : step (feed (take m piece)) w .answer ≡ said (took m none)

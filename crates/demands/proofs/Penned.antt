@@ -25,6 +25,7 @@ use Rattle.draft.proofs.Admitted.{admitted, roomy}
 use Rattle.writer.specs.Block.{blockBytes}
 use Rattle.writer.specs.Write.{wrote, WriteOutcome, writeOutcome, refusesWrite, writtenBy, writableRow, writtenOf}
 use Rattle.writes.specs.Calls.{writtenUnless, writeOf}
+use Rattle.reader.specs.State.{ceilingOf}
 use Rattle.demands.specs.World.{World, write, look, writeRefusal, writeLength, told, step}
 use Rattle.demands.specs.Refusals.{RowOf, OfRow, NotInTable, CannotStand, HasNoRoom, _when_, Exactly, order}
 use Rattle.demands.proofs.Exact.{empty-tells}
@@ -38,10 +39,10 @@ use Rattle.demands.proofs.Behind.{behind, as-long}
 
 -- ---- 6, 11, 12
 
-row-need : (r : BlockRow) (d : Draft) (buffer : List ℕ)
-    → writeRefusal (writtenBy (some r) d buffer .said) ≡ need (draftOk r d) 11 (need (roomFor r d (length buffer)) 12 none)
+row-need : (top : ℕ) (r : BlockRow) (d : Draft) (buffer : List ℕ)
+    → writeRefusal (writtenBy top (some r) d buffer .said) ≡ need (draftOk r d) 11 (need (roomFor top r d (length buffer)) 12 none)
 unfolding writtenBy
-row-need r d buffer = by (draftOk r d) (roomFor r d (length buffer)) where
+row-need top r d buffer = by (draftOk r d) (roomFor top r d (length buffer)) where
   by : (a b : Bool)
       → writeRefusal (cond a (cond b (writeOutcome (wrote (blockLength r d)) (over (blockBytes r d) buffer)) (refusesWrite 12 buffer)) (refusesWrite 11 buffer) .said)
       ≡ need a 11 (need b 12 none)
@@ -49,16 +50,16 @@ row-need r d buffer = by (draftOk r d) (roomFor r d (length buffer)) where
   by true false = refl
   by false b = refl
 
-module _ (t : List ℕ) (ok : tableOk t ≡ true) (d : Draft) (buffer : List ℕ) where
+module _ (top : ℕ) (t : List ℕ) (ok : tableOk t ≡ true) (d : Draft) (buffer : List ℕ) where
   abbrev NotWritten : Type 0
   NotWritten = NotInTable (decode t) (d .number) ⊎ OfRow (decode t) (d .number) (λ r. 0 < r .firsts)
 
   -- R6: by a row of one level Write writes, and by one of two levels not
   one-exact : (r : BlockRow) → RowOf (decode t) (d .number) r → (c : Bool) → eqb (r .firsts) 0 ≡ c
-      → Exactly (writeRefusal (writtenBy (cond c (some r) none) d buffer .said))
+      → Exactly (writeRefusal (writtenBy top (cond c (some r) none) d buffer .said))
       (6 when NotWritten
       ∷ 11 when OfRow (decode t) (d .number) (λ r. CannotStand r d)
-      ∷ 12 when OfRow (decode t) (d .number) (λ r. HasNoRoom (length buffer) r d)
+      ∷ 12 when OfRow (decode t) (d .number) (λ r. HasNoRoom top (length buffer) r d)
       ∷ [])
   unfolding writtenBy
   one-exact r h true f =
@@ -68,19 +69,19 @@ module _ (t : List ℕ) (ok : tableOk t ≡ true) (d : Draft) (buffer : List ℕ
       let fine : NotWritten → ⊥ =
       ⊎-elim (λ g. g r h)
       (λ g. let e : g .0 .firsts ≡ r .firsts = ap (λ (x : BlockRow). x .firsts) (one (g .0) (g .1 .0)) in omega (arith, e, level, g .1 .1)) in
-      same (row-need r d buffer)
+      same (row-need top r d buffer)
       (passed-by true 6 _ (record { fine = λ _ g. fine g; holds = λ z. never refl z })
       (λ _. passed-by (draftOk r d) 11 _ (of-row (decode t) (d .number) r h one (λ q. CannotStand q d) (stand-tells r d right))
-      (λ a. last 12 (of-row (decode t) (d .number) r h one (λ q. HasNoRoom (length buffer) q d) (room-tells r d right (admitted r d a) (length buffer))))))
+      (λ a. last 12 (of-row (decode t) (d .number) r h one (λ q. HasNoRoom top (length buffer) q d) (room-tells r d right (admitted r d a) top (length buffer))))))
   one-exact r h false f =
       let level : 0 < r .firsts = empty-tells (r .firsts) .holds f in
       passed-by false 6 none (record { fine = λ z. never z refl; holds = λ _. inr (r, (h, level)) }) (λ z. never z refl)
 
   row-exact : (o : Option BlockRow) → findRow (decode t) (d .number) ≡ o
-      → Exactly (writeRefusal (writtenBy (writableRow o) d buffer .said))
+      → Exactly (writeRefusal (writtenBy top (writableRow o) d buffer .said))
       (6 when NotWritten
       ∷ 11 when OfRow (decode t) (d .number) (λ r. CannotStand r d)
-      ∷ 12 when OfRow (decode t) (d .number) (λ r. HasNoRoom (length buffer) r d)
+      ∷ 12 when OfRow (decode t) (d .number) (λ r. HasNoRoom top (length buffer) r d)
       ∷ [])
   unfolding writtenBy
   row-exact none e =
@@ -88,11 +89,11 @@ module _ (t : List ℕ) (ok : tableOk t ≡ true) (d : Draft) (buffer : List ℕ
   row-exact (some r) e = one-exact r (row-there (decode t) (d .number) e) (eqb (r .firsts) 0) refl
 
   -- what stands behind an accepted block
-  behind-row : (r : BlockRow) → RowOf (decode t) (d .number) r → r .firsts ≡ 0 → (n : ℕ) → writeLength (writtenBy (some r) d buffer .said) ≡ some n
-      → (drop n (writtenBy (some r) d buffer .buffer) ≡ drop n buffer) × (length (writtenBy (some r) d buffer .buffer) ≡ length buffer)
+  behind-row : (r : BlockRow) → RowOf (decode t) (d .number) r → r .firsts ≡ 0 → (n : ℕ) → writeLength (writtenBy top (some r) d buffer .said) ≡ some n
+      → (drop n (writtenBy top (some r) d buffer .buffer) ≡ drop n buffer) × (length (writtenBy top (some r) d buffer .buffer) ≡ length buffer)
   unfolding writtenBy
-  behind-row r e level n w = by (draftOk r d) refl (roomFor r d (length buffer)) refl w where
-    by : (a : Bool) → draftOk r d ≡ a → (b : Bool) → roomFor r d (length buffer) ≡ b
+  behind-row r e level n w = by (draftOk r d) refl (roomFor top r d (length buffer)) refl w where
+    by : (a : Bool) → draftOk r d ≡ a → (b : Bool) → roomFor top r d (length buffer) ≡ b
         → writeLength (cond a (cond b (writeOutcome (wrote (blockLength r d)) (over (blockBytes r d) buffer)) (refusesWrite 12 buffer)) (refusesWrite 11 buffer) .said) ≡ some n
         → let x = cond a (cond b (writeOutcome (wrote (blockLength r d)) (over (blockBytes r d) buffer)) (refusesWrite 12 buffer)) (refusesWrite 11 buffer) in
         (drop n (x .buffer) ≡ drop n buffer) × (length (x .buffer) ≡ length buffer)
@@ -100,19 +101,19 @@ module _ (t : List ℕ) (ok : tableOk t ≡ true) (d : Draft) (buffer : List ℕ
         let right = ruled t ok (d .number) r e level in
         let q : blockLength r d ≡ n = cc in
         subst (λ (k : ℕ). (drop k (over (blockBytes r d) buffer) ≡ drop k buffer) × (length (over (blockBytes r d) buffer) ≡ length buffer)) q
-        (behind r d right buffer, as-long r d right buffer (roomy r d (length buffer) g .buffer))
+        (behind r d right buffer, as-long r d right buffer (roomy top r d (length buffer) g .buffer))
     by true f false g h = nothing-there h
     by false f b g h = nothing-there h
 
   behind-one : (r : BlockRow) → RowOf (decode t) (d .number) r → (c : Bool) → eqb (r .firsts) 0 ≡ c → (n : ℕ)
-      → writeLength (writtenBy (cond c (some r) none) d buffer .said) ≡ some n
-      → (drop n (writtenBy (cond c (some r) none) d buffer .buffer) ≡ drop n buffer) × (length (writtenBy (cond c (some r) none) d buffer .buffer) ≡ length buffer)
+      → writeLength (writtenBy top (cond c (some r) none) d buffer .said) ≡ some n
+      → (drop n (writtenBy top (cond c (some r) none) d buffer .buffer) ≡ drop n buffer) × (length (writtenBy top (cond c (some r) none) d buffer .buffer) ≡ length buffer)
   unfolding writtenBy
   behind-one r h true f n w = behind-row r h (eqb-true (r .firsts) 0 f) n w
   behind-one r h false f n w = nothing-there w
 
-  behind-by : (o : Option BlockRow) → findRow (decode t) (d .number) ≡ o → (n : ℕ) → writeLength (writtenBy (writableRow o) d buffer .said) ≡ some n
-      → (drop n (writtenBy (writableRow o) d buffer .buffer) ≡ drop n buffer) × (length (writtenBy (writableRow o) d buffer .buffer) ≡ length buffer)
+  behind-by : (o : Option BlockRow) → findRow (decode t) (d .number) ≡ o → (n : ℕ) → writeLength (writtenBy top (writableRow o) d buffer .said) ≡ some n
+      → (drop n (writtenBy top (writableRow o) d buffer .buffer) ≡ drop n buffer) × (length (writtenBy top (writableRow o) d buffer .buffer) ≡ length buffer)
   unfolding writtenBy
   behind-by none e n w = nothing-there w
   behind-by (some r) e n w = behind-one r (row-there (decode t) (d .number) e) (eqb (r .firsts) 0) refl n w
@@ -128,14 +129,14 @@ unfolding writeOf writtenOf
 write-exact w d buffer =
     let t = tableInForce (w .state) (w .force) in
     same (number-unless (askRefusal (w .state) (w .force)) buffer _)
-    (ask-exact w _ (λ ok. row-exact t ok d buffer (findRow (decode t) (d .number)) refl))
+    (ask-exact w _ (λ ok. row-exact (ceilingOf (w .state)) t ok d buffer (findRow (decode t) (d .number)) refl))
 
 -- ---- the buffer
 
-kept-by : (o : Option BlockRow) (d : Draft) (buffer : List ℕ) (n : ℕ) → writeRefusal (writtenBy o d buffer .said) ≡ some n → writtenBy o d buffer .buffer ≡ buffer
+kept-by : (top : ℕ) (o : Option BlockRow) (d : Draft) (buffer : List ℕ) (n : ℕ) → writeRefusal (writtenBy top o d buffer .said) ≡ some n → writtenBy top o d buffer .buffer ≡ buffer
 unfolding writtenBy
-kept-by none d buffer n e = refl
-kept-by (some r) d buffer n e = by (draftOk r d) (roomFor r d (length buffer)) e where
+kept-by top none d buffer n e = refl
+kept-by top (some r) d buffer n e = by (draftOk r d) (roomFor top r d (length buffer)) e where
   by : (a b : Bool)
       → writeRefusal (cond a (cond b (writeOutcome (wrote (blockLength r d)) (over (blockBytes r d) buffer)) (refusesWrite 12 buffer)) (refusesWrite 11 buffer) .said) ≡ some n
       → cond a (cond b (writeOutcome (wrote (blockLength r d)) (over (blockBytes r d) buffer)) (refusesWrite 12 buffer)) (refusesWrite 11 buffer) .buffer ≡ buffer
@@ -152,7 +153,7 @@ pub unwritten : (d : Draft) (buffer : List ℕ) (w : World) (n : ℕ) → told (
     → told (step (look (write d buffer)) w .answer) .buffer ≡ some buffer
 unfolding step writeOf writtenOf
 unwritten d buffer w n e =
-    ap some (unless-keeps (askRefusal (w .state) (w .force)) buffer _ n (kept-by (writableRow (findRow (decode (tableInForce (w .state) (w .force))) (d .number))) d buffer n) e)
+    ap some (unless-keeps (askRefusal (w .state) (w .force)) buffer _ n (kept-by (ceilingOf (w .state)) (writableRow (findRow (decode (tableInForce (w .state) (w .force))) (d .number))) d buffer n) e)
 
 -- a call that wrote was not refused with 1, 5 or 4
 behind-unless : (o : Option ℕ) (buffer after : List ℕ) (x : WriteOutcome) (n : ℕ)
@@ -171,4 +172,4 @@ kept-behind d buffer after w n e f =
     let t = tableInForce (w .state) (w .force) in
     let q : writeOf (w .state) (w .force) d buffer .buffer ≡ after = cc in
     behind-unless (askRefusal s (w .force)) buffer after _ n
-    (λ none-due. behind-by t (asked s (w .force) none-due .ok) d buffer (findRow (decode t) (d .number)) refl n) e q
+    (λ none-due. behind-by (ceilingOf s) t (asked s (w .force) none-due .ok) d buffer (findRow (decode t) (d .number)) refl n) e q

@@ -39,7 +39,7 @@ exactly-by c w d x = same (ap (λ (r : Step). told (r .answer) .refusal) (by-ref
 
 pub exactly : (c : Call) (w : World) → Exactly (told (step c w .answer) .refusal) (order c w)
 unfolding step
-exactly openRun w = exactly-by openRun w refl (open-exact w)
+exactly (openRun x) w = exactly-by (openRun x) w refl (open-exact x w)
 exactly (feed piece) w = exactly-by (feed piece) w refl (feed-exact piece w)
 exactly finish w = exactly-by finish w (finish-tells-none w) (finish-exact w)
 exactly (table (stage t)) w = exactly-by (table (stage t)) w refl (stage-exact t w)

@@ -21,7 +21,7 @@ no-refusal : {X : Type 0} {o : Option ℕ} {n : ℕ} → o ≡ none → o ≡ so
 no-refusal d e = nothing-there (sym d ∙ e)
 
 done-keeps : (c : Call) (w : World) (n : ℕ) → told (done c w .answer) .refusal ≡ some n → done c w .world ≡ w
-done-keeps openRun w n e = nothing-there e
+done-keeps (openRun x) w n e = nothing-there e
 done-keeps (feed piece) w n e = nothing-there e
 done-keeps finish w n e = no-refusal (finish-tells-none w) e
 done-keeps (table t) w n e = no-refusal (table-tells-none t w) e
@@ -46,7 +46,7 @@ look-empty (wnc b) w n e = refl
 look-empty (write d buffer) w n e = refl
 
 done-empty : (c : Call) (w : World) (n : ℕ) → told (done c w .answer) .refusal ≡ some n → partOf (done c w .answer) ≡ []
-done-empty openRun w n e = refl
+done-empty (openRun x) w n e = refl
 done-empty (feed piece) w n e = refl
 done-empty finish w n e = no-refusal (finish-tells-none w) e
 done-empty (table t) w n e = no-refusal (table-tells-none t w) e
@@ -64,6 +64,6 @@ demand-1 =
       empty = λ c w n e. empty-by c w n (how c w) e;
       unwritten = λ d buffer w n e. unwritten d buffer w n e;
       kept-behind = λ d buffer after w n e f. kept-behind d buffer after w n e f;
-      sound = λ w before n b. good-sound _ (good-end before w b (good-new w n));
+      sound = λ w before n. good-sound _ (good-end before w (good-new w n));
       never = never-one;
     }

@@ -87,6 +87,6 @@ module _ (r : BlockRow) (d : Draft) (k : RowKept r) (a : Admitted r d) where
             lt? 0 (length (d .subs)) (λ m. (m, past l m)) (λ m. let z : ⊥ = omega (arith, l, sub-none r d (omega arith)) in absurd z);
       }
 
-  pub room-tells : (n : ℕ) → Tells (roomFor r d n) (HasNoRoom n r d)
+  pub room-tells : (top n : ℕ) → Tells (roomFor top r d n) (HasNoRoom top n r d)
   unfolding roomFor
-  room-tells n = regroup (both (both (longer-tells n) (longer-tells 65532)) wide-tells)
+  room-tells top n = regroup (both (both (longer-tells n) (longer-tells top)) wide-tells)

@@ -46,7 +46,7 @@ one-write o a b l m p q =
 pub one : OneOutcome
 one =
     record {
-      opens = λ s force wait. one-by saidOpened opens (openOf s force wait);
+      opens = λ s x force wait. one-by saidOpened opens (openOf s x force wait);
       feeds = λ s hold piece. one-by saidFed feeds (feedOf s hold piece);
       finishes = λ s hold. one-by saidFinished finishes (finishOf s hold);
       stages = λ s wait t. one-by saidStaged stages (stageOf s wait t);

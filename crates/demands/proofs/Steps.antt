@@ -10,6 +10,7 @@ use Rattle.reader.specs.Said.{refused}
 use Rattle.tables.specs.Calls.{openRefusal, stageRefusal, withdrawRefusal, opening, openOf, staging, stageOf, withdrawing, withdrawOf}
 use Rattle.runs.specs.Refusals.{feedRefusal, finishRefusal}
 use Rattle.reader.specs.Outcome.{Outcome, unless}
+use Rattle.reader.specs.declared.Settings.{Settings}
 use Rattle.runs.specs.Calls.{feedingBy, feedingOf, feedOf, finishingBy, finishingOf, finishOf}
 use Rattle.demands.specs.World.{World, TableCall, stage, withdraw, Call, openRun, feed, finish, table, look, said, Step, leaving, looked, step}
 
@@ -19,7 +20,7 @@ tableRefusals withdraw w = withdrawRefusal (w .state)
 
 -- the refusal of a call that changes something
 abbrev pub refusal : Call → World → Option ℕ
-refusal openRun w = openRefusal (w .state) (w .force) (w .wait)
+refusal (openRun x) w = openRefusal (w .state) x (w .force) (w .wait)
 refusal (feed piece) w = feedRefusal (w .state) (w .hold) piece
 refusal finish w = finishRefusal (w .state) (w .hold)
 refusal (table t) w = tableRefusals t w
@@ -44,7 +45,7 @@ tableDone withdraw w = leftNone w (withdrawing (w .state))
 
 -- what it does where none is due
 abbrev pub done : Call → World → Step
-done openRun w = leftForce w (opening (w .state) (w .force) (w .wait))
+done (openRun x) w = leftForce w (opening (w .state) x (w .force) (w .wait))
 done (feed piece) w = leftHold w (feedingBy (feedingOf (w .state) (w .hold) piece) (w .state) (w .hold))
 done finish w = leftHold w (finishingBy (finishingOf (w .state) (w .hold)) (w .state) (w .hold))
 done (table t) w = tableDone t w
@@ -57,9 +58,10 @@ abbrev pub unlessRefused : Option ℕ → Call → World → Step
 unlessRefused (some n) c w = refusing n w
 unlessRefused none c w = done c w
 
-open-by : (o : Option ℕ) (w : World) → leftForce w (unless o (w .state) (w .force) (opening (w .state) (w .force) (w .wait))) ≡ unlessRefused o openRun w
-open-by none w = refl
-open-by (some n) w = refl
+open-by : (o : Option ℕ) (x : Settings) (w : World)
+    → leftForce w (unless o (w .state) (w .force) (opening (w .state) x (w .force) (w .wait))) ≡ unlessRefused o (openRun x) w
+open-by none x w = refl
+open-by (some n) x w = refl
 
 feed-by : (o : Option ℕ) (piece : List ℕ) (w : World)
     → leftHold w (unless o (w .state) (w .hold) (feedingBy (feedingOf (w .state) (w .hold) piece) (w .state) (w .hold))) ≡ unlessRefused o (feed piece) w
@@ -81,7 +83,7 @@ withdraw-by (some n) l w = refl
 
 pub by-refusal : (c : Call) (w : World) → step c w ≡ unlessRefused (refusal c w) c w
 unfolding step openOf feedOf finishOf stageOf withdrawOf
-by-refusal openRun w = open-by (openRefusal (w .state) (w .force) (w .wait)) w
+by-refusal (openRun x) w = open-by (openRefusal (w .state) x (w .force) (w .wait)) x w
 by-refusal (feed piece) w = feed-by (feedRefusal (w .state) (w .hold) piece) piece w
 by-refusal finish w = finish-by (finishRefusal (w .state) (w .hold)) w
 by-refusal (table (stage t)) w = stage-by (stageRefusal (w .state) (w .wait) t) t w

@@ -2,14 +2,15 @@
 -- Assumes nothing.
 use Prim.Native.Nat.{ℕ, zero, suc}
 use native.Mathlib.Omega.{arith}
-use mathlib.Core.Path.{_≡_, refl, sym, ap, ap₂, _∙_}
+use mathlib.Core.Path.{_≡_, refl, sym, ap, ap₂, _∙_, subst}
 use mathlib.Core.List.{List, [], _∷_, _++_}
 use mathlib.Core.Option.{Option·getD}
 use lib.ListN.{length, take, drop, length-append, length-take}
 use lib.Seq.{take-take, take-add}
+use Rattle.reader.specs.declared.Settings.{Settings}
 use Rattle.demands.specs.World.{World, Call, told, step}
-use Rattle.demands.specs.Sequence.{pieceOf, tookOf, taken}
-use Rattle.demands.specs.Demand3.{Offers, Demand3}
+use Rattle.demands.specs.Sequence.{pieceOf, Within, Closes, atOpen, tookOf, taken}
+use Rattle.demands.specs.Demand3.{RunOf, Alike, Offers, Demand3}
 use Rattle.demands.proofs.Reading.{of-the-whole}
 use Rattle.demands.proofs.Force.{one-table}
 use Rattle.demands.proofs.Moving.{moved}
@@ -37,11 +38,22 @@ takes-the-stream s (c ∷ cs) w o =
     joined x (taken cs (step c w .world)) s (front-of (Option·getD (told (step c w .answer) .taken) 0) (pieceOf c) s (o .0))
     (takes-the-stream (drop (length x) s) cs (step c w .world) (o .1))
 
+-- both are the reading of the same bytes
+alike : (v w : World) (earlier before : List Call) (x y : Settings) (cs ds : List Call) → Within v earlier x cs → Closes v earlier x cs
+    → Within w before y ds → Closes w before y ds → x .ceiling ≡ y .ceiling → taken cs (atOpen v earlier x) ≡ taken ds (atOpen w before y)
+    → Alike (atOpen v earlier x) cs (atOpen w before y) ds
+alike v w earlier before x y cs ds h e k f c t =
+    let run = taken ds (atOpen w before y) in
+    let a = subst (λ (n : ℕ). RunOf n run (atOpen v earlier x) cs) c (of-the-whole run v earlier x cs h e t) in
+    let b = of-the-whole run w before y ds k f refl in
+    record { all = a .all ∙ sym (b .all); shown = a .shown ∙ sym (b .shown); counts = a .counts ∙ sym (b .counts) }
+
 pub demand-3 : Demand3
 demand-3 =
     record {
-      whole = λ run w before mid h e q. of-the-whole run w before mid h e q;
+      whole = λ run w before x mid h e q. of-the-whole run w before x mid h e q;
+      alike = alike;
       offered = λ s cs w o. takes-the-stream s cs w o;
-      records = λ w before mid h l. one-table w before mid h l;
-      moved = λ w before mid after h. moved w before mid after h;
+      records = λ w before x mid h l. one-table w before x mid h l;
+      moved = λ w before x mid after h. moved w before x mid after h;
     }

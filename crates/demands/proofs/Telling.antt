@@ -29,6 +29,9 @@ use Rattle.reader.specs.declared.Run.{Run}
 use Rattle.reader.specs.declared.State.{State}
 use Rattle.reader.proofs.Laws.{passes}
 use Rattle.tables.proofs.Accepted.{stage-passed}
+use Rattle.frame.specs.Frame.{ceilingOk}
+use Rattle.reader.specs.State.{ceilingOf}
+use Rattle.reader.specs.declared.Settings.{Settings}
 use Rattle.demands.specs.World.{World, TableCall, stage, withdraw, bytes, Call, openRun, feed, finish, table, look, said, part, told, Step, step, end}
 use Rattle.demands.specs.Sequence.{New}
 use Rattle.demands.specs.History.{Past, newPast, reportedBytes, after, past, Stored, StoredIf, AsTold, AnswersBy, History}
@@ -60,20 +63,22 @@ copied t store l e =
 -- ---- Open
 
 -- what waits, or else what is in force, comes into force
-open-force : (a b : Option (List ℕ)) (w : World) → 8192 ≤ length (w .force) → StoredIf a (w .state .waiting) (w .wait) → StoredIf b (w .state .«in_force») (w .force)
-    → StoredIf (firstOf a b) (done openRun w .world .state .«in_force») (done openRun w .world .force)
-open-force (some t) b w l s f =
+open-force : (x : Settings) (a b : Option (List ℕ)) (w : World) → 8192 ≤ length (w .force) → StoredIf a (w .state .waiting) (w .wait) → StoredIf b (w .state .«in_force») (w .force)
+    → StoredIf (firstOf a b) (done (openRun x) w .world .state .«in_force») (done (openRun x) w .world .force)
+open-force x (some t) b w l s f =
     let n = w .state .waiting in
     let e : ltb 0 (w .state .waiting) ≡ true = lt-ltb 0 n (stored-some t n (w .wait) s) in
     rw (e, s .is, s .size) (copied t (w .force) l (s .ok))
-open-force none b w l s f = rw (s) f
+open-force x none b w l s f = rw (s) f
 
-told-open : (w : World) (p : Past) → MayOpen w → AsTold w p → AsTold (done openRun w .world) (after openRun (told (done openRun w .answer)) (w .hold) p)
-told-open w p m h =
+told-open : (x : Settings) (w : World) (p : Past) → MayOpen x w → AsTold w p
+    → AsTold (done (openRun x) w .world) (after (openRun x) (told (done (openRun x) w .answer)) (w .hold) p)
+told-open x w p m h =
     record {
       phase = refl;
+      settings = refl;
       waiting = refl;
-      force = open-force (p .waiting) (p .force) w (m .long .long-force) (h .waiting) (h .force);
+      force = open-force x (p .waiting) (p .force) w (m .long .long-force) (h .waiting) (h .force);
       stands = refl;
     }
 
@@ -96,6 +101,7 @@ told-feed w piece p e h =
     let x = passes (isFeeding (w .state .run .phase)) 2 _ (passes (sound (w .state) && longHold (w .hold)) 1 _ e .1) .0 in
     record {
       phase = sym (feeding-is (w .state .run .phase) x) ∙ h .phase;
+      settings = h .settings;
       waiting = h .waiting;
       force = h .force;
       stands = stands-by (f .standing) (front (runOn phase.Feeding (w .state .run) f)) (f .held) (holdOf f (w .hold));
@@ -104,9 +110,9 @@ told-feed w piece p e h =
 told-finish-by : (w : World) (p : Past) (o : Option ℕ) (f : Intake) (r : Run) (v : List ℕ) → f .standing ≡ o → AsTold w p
     → AsTold (going (phaseAfter o) w f) (after finish (told (said (finishSaid o r v))) (holdOf f (w .hold)) p)
 told-finish-by w p none f r v q h =
-    record { phase = refl; waiting = h .waiting; force = h .force; stands = ap (λ (o : Option ℕ). take (size o) (holdOf f (w .hold))) q }
+    record { phase = refl; settings = h .settings; waiting = h .waiting; force = h .force; stands = ap (λ (o : Option ℕ). take (size o) (holdOf f (w .hold))) q }
 told-finish-by w p (some n) f r v q h =
-    record { phase = refl; waiting = h .waiting; force = h .force; stands = ap (λ (o : Option ℕ). take (size o) (holdOf f (w .hold))) q }
+    record { phase = refl; settings = h .settings; waiting = h .waiting; force = h .force; stands = ap (λ (o : Option ℕ). take (size o) (holdOf f (w .hold))) q }
 
 told-finish : (w : World) (p : Past) → AsTold w p → AsTold (done finish w .world) (after finish (told (done finish w .answer)) (done finish w .world .hold) p)
 told-finish w p h =
@@ -118,13 +124,13 @@ told-finish w p h =
 told-table : (t : TableCall) (w : World) (p : Past) → refusal (table t) w ≡ none → AsTold w p → AsTold (tableDone t w .world) (after (table t) (told (tableDone t w .answer)) (w .hold) p)
 told-table (stage t) w p e h =
     let q = stage-passed (w .state) (w .wait) t e in
-    record { phase = h .phase; waiting = copied t (w .wait) (q .0) (q .1); force = h .force; stands = h .stands }
-told-table withdraw w p e h = record { phase = h .phase; waiting = refl; force = h .force; stands = h .stands }
+    record { phase = h .phase; settings = h .settings; waiting = copied t (w .wait) (q .0) (q .1); force = h .force; stands = h .stands }
+told-table withdraw w p e h = record { phase = h .phase; settings = h .settings; waiting = refl; force = h .force; stands = h .stands }
 
 -- ---- every call
 
 told-done : (c : Call) (w : World) (p : Past) → refusal c w ≡ none → AsTold w p → AsTold (done c w .world) (after c (told (done c w .answer)) (done c w .world .hold) p)
-told-done openRun w p e h = told-open w p (may-open w e) h
+told-done (openRun x) w p e h = told-open x w p (may-open x w e) h
 told-done (feed piece) w p e h = told-feed w piece p e h
 told-done finish w p e h = told-finish w p h
 told-done (table (stage t)) w p e h = told-table (stage t) w p e h
@@ -132,7 +138,7 @@ told-done (table withdraw) w p e h = told-table withdraw w p e h
 told-done (look l) w p e h = h
 
 told-refused : (c : Call) (w : World) (n : ℕ) (p : Past) → after c (told (said (refused n))) (w .hold) p ≡ p
-told-refused openRun w n p = refl
+told-refused (openRun x) w n p = refl
 told-refused (feed piece) w n p = refl
 told-refused finish w n p = refl
 told-refused (table (stage t)) w n p = refl
@@ -151,10 +157,11 @@ told-end (c ∷ cs) w p h = told-end cs (step c w .world) (after c (told (step c
 told-new : (w : World) → New w → AsTold w newPast
 told-new w n =
     record {
-      phase = ap (λ (s : State). s .run .phase) (n .state);
-      waiting = ap (λ (s : State). s .waiting) (n .state);
-      force = ap (λ (s : State). s .«in_force») (n .state);
-      stands = ap (λ (s : State). take (s .run .standing) (w .hold)) (n .state);
+      phase = ap (λ (s : State). s .run .phase) n;
+      settings = ap (λ (s : State). s .run .settings) n;
+      waiting = ap (λ (s : State). s .waiting) n;
+      force = ap (λ (s : State). s .«in_force») n;
+      stands = ap (λ (s : State). take (s .run .standing) (w .hold)) n;
     }
 
 -- ---- the answers
@@ -176,37 +183,38 @@ next-by none (some u) w t s f q =
 next-by none none w t s f q = nothing-there q
 
 -- the state has a table for Open
-one-by : (a b : Option (List ℕ)) (w : World) → StoredIf a (w .state .waiting) (w .wait) → StoredIf b (w .state .«in_force») (w .force) → MayOpen w → (t : List ℕ) × (firstOf a b ≡ some t)
-one-by (some u) b w s f m = (u, refl)
-one-by none (some u) w s f m = (u, refl)
-one-by none none w s f m = clash (sym (rw (s, f) at (m .one)))
+one-by : (x : Settings) (a b : Option (List ℕ)) (w : World) → StoredIf a (w .state .waiting) (w .wait) → StoredIf b (w .state .«in_force») (w .force) → MayOpen x w → (t : List ℕ) × (firstOf a b ≡ some t)
+one-by x (some u) b w s f m = (u, refl)
+one-by x none (some u) w s f m = (u, refl)
+one-by x none none w s f m = clash (sym (rw (s, f) at (m .one)))
 
-open-passes : (w : World) (t : List ℕ) → Good w → w .state .run .phase ≡ phase.Closed → Next w t → 8192 ≤ length (w .force) → 8192 ≤ length (w .wait)
-    → refusal openRun w ≡ none
+open-passes : (x : Settings) (w : World) (t : List ℕ) → ceilingOk (x .ceiling) ≡ true → Good w → w .state .run .phase ≡ phase.Closed → Next w t → 8192 ≤ length (w .force) → 8192 ≤ length (w .wait)
+    → refusal (openRun x) w ≡ none
 unfolding openRefusal
-open-passes w t g c n lf lw =
-    rw (good-sound w g, le-leb 8192 (length (w .force)) lf, le-leb 8192 (length (w .wait)) lw, c, n .one, n .is, n .ok) refl
+open-passes x w t k g c n lf lw =
+    rw (good-sound w g, le-leb 8192 (length (w .force)) lf, le-leb 8192 (length (w .wait)) lw, c, k, n .one, n .is, n .ok) refl
 
 there-by : (a : Option (List ℕ)) (n : ℕ) (store : List ℕ) → StoredIf a n store → ltb 0 n ≡ isSome a
 there-by none n store s = rw (s) refl
 there-by (some t) n store s = lt-ltb 0 n (stored-some t n store s)
 
-force-by : (a : Option (List ℕ)) (t : List ℕ) (w : World) → a ≡ some t → StoredIf a (w .state .«in_force») (w .force) → ReadBy t w
-force-by none t w q s = nothing-there q
-force-by (some u) t w q s =
+force-by : (c : ℕ) (a : Option (List ℕ)) (t : List ℕ) (w : World) → ceilingOf (w .state) ≡ c → a ≡ some t → StoredIf a (w .state .«in_force») (w .force) → ReadBy c t w
+force-by c none t w e q s = nothing-there q
+force-by c (some u) t w e q s =
     let x : u ≡ t = cc in
     record {
+      ceiling = e;
       long = s .long;
       some = stored-some u (w .state .«in_force») (w .force) s;
       is = s .is ∙ x;
       ok = subst (λ (y : List ℕ). tableOk y ≡ true) x (s .ok);
     }
 
-opened-by : (w : World) (p : Past) → AsTold w p → {r : Step} → How openRun w r → (v : ℕ) → told (r .answer) .version ≡ some v
+opened-by : (x : Settings) (w : World) (p : Past) → AsTold w p → {r : Step} → How (openRun x) w r → (v : ℕ) → told (r .answer) .version ≡ some v
     → (t : List ℕ) × ((firstOf (p .waiting) (p .force) ≡ some t) × (nextTable (w .state) (w .force) (w .wait) ≡ t))
-opened-by w p h (isnt n e) v f = nothing-there f
-opened-by w p h (is e) v f =
-    let o = one-by (p .waiting) (p .force) w (h .waiting) (h .force) (may-open w e) in
+opened-by x w p h (isnt n e) v f = nothing-there f
+opened-by x w p h (is e) v f =
+    let o = one-by x (p .waiting) (p .force) w (h .waiting) (h .force) (may-open x w e) in
     (o .0, (o .1, next-by (p .waiting) (p .force) w (o .0) (h .waiting) (h .force) (o .1) .is))
 
 staged-by : (w : World) (t : List ℕ) {r : Step} → How (table (stage t)) w r → (v : ℕ) → told (r .answer) .version ≡ some v → v ≡ decode t .version
@@ -229,20 +237,22 @@ shows w p h b e = shown-by (bytesRefusal (w .state) (w .hold)) (take (w .state .
 answers-by : (w : World) (p : Past) → Good w → AsTold w p → AnswersBy w p
 answers-by w p g h =
     record {
-      opens = λ t c q lf lw.
+      opens = λ x t k c q lf lw.
           let n = next-by (p .waiting) (p .force) w t (h .waiting) (h .force) q in
-          ap (λ (r : Step). told (r .answer) .version) (by-refusal openRun w ∙ ap (λ (o : Option ℕ). unlessRefused o openRun w) (open-passes w t g (h .phase ∙ c) n lf lw))
-          ∙ ap (λ (x : List ℕ). some (decode x .version)) (n .is);
-      found = λ v e. opened-by w p h (how openRun w) v e;
+          ap (λ (r : Step). told (r .answer) .version) (by-refusal (openRun x) w ∙ ap (λ (o : Option ℕ). unlessRefused o (openRun x) w) (open-passes x w t k g (h .phase ∙ c) n lf lw))
+          ∙ ap (λ (v : List ℕ). some (decode v .version)) (n .is);
+      found = λ x v e. opened-by x w p h (how (openRun x) w) v e;
       stages = λ t v e. staged-by w t (how (table (stage t)) w) v e;
       withdraws = λ b e. withdrawn-by w p h (how (table withdraw) w) b e;
       shows = shows w p h;
-      reads = λ t l q. look-by t l w g (force-by (p .force) t w q (h .force));
+      reads = λ t l q.
+          look-by (p .settings .ceiling) t l w g
+          (force-by (p .settings .ceiling) (p .force) t w (ap (λ (x : Settings). x .ceiling) (h .settings)) q (h .force));
     }
 
 pub history : History
 history =
     record {
-      world = λ w cs n b. told-end cs w newPast (told-new w n);
-      answers = λ w cs n b. answers-by (end cs w) (past cs w newPast) (good-end cs w b (good-new w n)) (told-end cs w newPast (told-new w n));
+      world = λ w cs n. told-end cs w newPast (told-new w n);
+      answers = λ w cs n. answers-by (end cs w) (past cs w newPast) (good-end cs w (good-new w n)) (told-end cs w newPast (told-new w n));
     }

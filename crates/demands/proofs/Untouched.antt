@@ -16,6 +16,7 @@ use Rattle.records.specs.Calls.{askRefusal, bodyOf, subOf, subBytesOf, subBytes
 use Rattle.epochs.specs.Calls.{sub2Of, rangeOf, range2Of}
 use Rattle.tables.proofs.Accepted.{stage-passed}
 use Rattle.writes.specs.Calls.{writeOf}
+use Rattle.reader.specs.declared.Settings.{Settings}
 use Rattle.demands.specs.World.{World, TableCall, stage, withdraw, Look, bytes, body, sub, subBytes, sub2, range, range2, tow, wnc, write, Call, openRun, feed, finish, table, look, Reply, Step, looked, step, end}
 use Rattle.demands.specs.Demand3.{isTable}
 use Rattle.demands.proofs.Steps.{How, isnt, is, how, refusal, tableRefusals, done, tableDone, unlessRefused, by-refusal, clash}
@@ -59,7 +60,7 @@ good-with w p g l =
     record {
       reported = g .reported;
       sound = waits-on (w .state) (g .reported) (p .size) (g .sound) l;
-      held = record { there = g .held .there; clean = g .held .clean };
+      there = g .there;
     }
 
 sound-with : (w : World) (p : Waiting) → Good w → p .size ≤ 8192 → sound (with w p .state) ≡ sound (w .state)
@@ -109,11 +110,11 @@ look-apart (tow b) w p g l = rw (sound-with w p g l) refl
 look-apart (wnc b) w p g l = rw (sound-with w p g l) refl
 look-apart (write d buffer) w p g l = rw (sound-with w p g l) refl
 
-apart-done : (o : Option ℕ) (c : Call) (w : World) (p : Waiting) → Good w → p .size ≤ 8192 → isTable c ≡ false → (c ≡ openRun → o ≡ none → ⊥)
+apart-done : (o : Option ℕ) (c : Call) (w : World) (p : Waiting) → Good w → p .size ≤ 8192 → isTable c ≡ false → ((x : Settings) → c ≡ openRun x → o ≡ none → ⊥)
     → unlessRefused o c (with w p) ≡ placed (unlessRefused o c w) p
 unfolding feedingOf finishingOf
 apart-done (some k) c w p g l e h = refl
-apart-done none openRun w p g l e h = absurd (h refl refl)
+apart-done none (openRun x) w p g l e h = absurd (h x refl refl)
 apart-done none (feed piece) w p g l e h = refl
 apart-done none finish w p g l e h = refl
 apart-done none (table t) w p g l e h = clash e
@@ -121,14 +122,14 @@ apart-done none (look k) w p g l e h = ap (λ (a : Reply). record { answer = a; 
 
 apart-refusal : (c : Call) (w : World) (p : Waiting) → isTable c ≡ false → Good w → Live w → Fit p (waits w) → refusal c (with w p) ≡ refusal c w
 unfolding openRefusal feedRefusal finishRefusal
-apart-refusal openRun w p e g l f = rw (sound-with w p g (f .few), l, f .long) refl
+apart-refusal (openRun x) w p e g l f = rw (sound-with w p g (f .few), l, f .long) refl
 apart-refusal (feed piece) w p e g l f = rw (sound-with w p g (f .few)) refl
 apart-refusal finish w p e g l f = rw (sound-with w p g (f .few)) refl
 apart-refusal (table t) w p e g l f = clash e
 apart-refusal (look k) w p e g l f = refl
 
-never-open : (c : Call) (w : World) → Live w → c ≡ openRun → refusal c w ≡ none → ⊥
-never-open c w l h e = not-open w l (subst (λ (x : Call). refusal x w ≡ none) h e)
+never-open : (c : Call) (w : World) → Live w → (x : Settings) → c ≡ openRun x → refusal c w ≡ none → ⊥
+never-open c w l x h e = not-open x w l (subst (λ (k : Call). refusal k w ≡ none) h e)
 
 pub apart : (c : Call) (w : World) (p : Waiting) → isTable c ≡ false → Good w → Live w → Fit p (waits w)
     → step c (with w p) ≡ placed (step c w) p
@@ -139,7 +140,7 @@ apart c w p e g l f =
     ∙ ap (λ (r : Step). placed r p) (sym (by-refusal c w))
 
 left-done : (c : Call) (w : World) → isTable c ≡ false → Live w → refusal c w ≡ none → waits (done c w .world) ≡ waits w
-left-done openRun w e l f = not-open w l f
+left-done (openRun x) w e l f = not-open x w l f
 left-done (feed piece) w e l f = refl
 left-done finish w e l f = refl
 left-done (table t) w e l f = clash e
@@ -158,7 +159,7 @@ same-table (stage t) w e =
 same-table withdraw w e = refl
 
 same-done : (c : Call) (w : World) → refusal c w ≡ none → length (done c w .world .wait) ≡ length (w .wait)
-same-done openRun w f = refl
+same-done (openRun x) w f = refl
 same-done (feed piece) w f = refl
 same-done finish w f = refl
 same-done (table t) w f = same-table t w f

@@ -10,7 +10,7 @@ use lib.ListN.{length, drop}
 use Rattle.draft.specs.Draft.{Draft}
 use Rattle.reader.specs.State.{sound}
 use Rattle.demands.specs.World.{World, write, Call, look, told, partOf, step, end}
-use Rattle.demands.specs.Sequence.{New, AllFed}
+use Rattle.demands.specs.Sequence.{New}
 use Rattle.demands.specs.Refusals.{Exactly, order}
 
 -- C2: the buffers are long enough
@@ -33,6 +33,6 @@ pub record Demand1 : Type 0 where
   pub kept-behind : (d : Draft) (buffer after : List ℕ) (w : World) (n : ℕ) → told (step (look (write d buffer)) w .answer) .wrote ≡ some n
       → told (step (look (write d buffer)) w .answer) .buffer ≡ some after → (drop n after ≡ drop n buffer) × (length after ≡ length buffer)
   -- R1: no calls on a new reader lead to a state that it names, whatever the buffers
-  pub sound : (w : World) (before : List Call) → New w → AllFed before → sound (end before w .state) ≡ true
+  pub sound : (w : World) (before : List Call) → New w → sound (end before w .state) ≡ true
   -- R1: and with long enough buffers no call gets this refusal, whatever came before it
-  pub never : (w : World) (before : List Call) (c : Call) → New w → Long w → AllFed before → told (step c (end before w) .answer) .refusal ≡ some 1 → ⊥
+  pub never : (w : World) (before : List Call) (c : Call) → New w → Long w → told (step c (end before w) .answer) .refusal ≡ some 1 → ⊥

@@ -9,3 +9,4 @@ pub mod One
 pub mod History
 pub mod Progress
 pub mod NoMore
+pub mod Waits

@@ -26,6 +26,7 @@ use Rattle.writer.specs.declared.Written.{Written}
 use Rattle.writer.specs.Write.{WriteOutcome, writeOutcome, writtenSays}
 use Rattle.writes.specs.Calls.{writeOf}
 use Rattle.reader.specs.declared.Check.{Check}
+use Rattle.reader.specs.declared.Settings.{Settings}
 use Rattle.reader.specs.declared.State.{State}
 
 -- two answers, states and buffers that are read as this outcome are one
@@ -49,7 +50,7 @@ abbrev pub OneWrite : WriteOutcome → Type 0
 OneWrite o = (a b : Written) (l m : List ℕ) → writeOutcome (writtenSays a) l ≡ o → writeOutcome (writtenSays b) m ≡ o → (a ≡ b) × (l ≡ m)
 
 pub record OneOutcome : Type 0 where
-  pub opens : (s : State) (force wait : List ℕ) → One saidOpened (openOf s force wait)
+  pub opens : (s : State) (x : Settings) (force wait : List ℕ) → One saidOpened (openOf s x force wait)
   pub feeds : (s : State) (hold piece : List ℕ) → One saidFed (feedOf s hold piece)
   pub finishes : (s : State) (hold : List ℕ) → One saidFinished (finishOf s hold)
   pub stages : (s : State) (wait t : List ℕ) → One saidStaged (stageOf s wait t)

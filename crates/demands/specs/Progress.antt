@@ -9,6 +9,7 @@ use mathlib.Core.Option.{none, IsSome}
 use lib.ListN.{length}
 use Rattle.reader.specs.State.{limit}
 use Rattle.reader.specs.Said.{took}
+use Rattle.reader.specs.declared.Settings.{Settings}
 use Rattle.demands.specs.World.{World, Call, feed, finish, said, told, step, end}
 use Rattle.demands.specs.Sequence.{Within, atOpen}
 
@@ -22,5 +23,5 @@ pub record Progress : Type 0 where
   pub more : (w : World) (piece : List ℕ) (n : ℕ) → step (feed piece) w .answer ≡ said (took n none)
       → (n ≡ length piece) ⊎ (step (feed piece) w .world .state .run .counts .taken ≡ limit)
   -- a run's Finish calls reach End after at most as many blocks as there are held bytes
-  pub ends : (w : World) (before mid : List Call) → Within w before mid → 65536 ≤ length (end mid (atOpen w before) .hold)
-      → (n : ℕ) × ((n ≤ end mid (atOpen w before) .state .run .held) × EndsAfter n (end mid (atOpen w before)))
+  pub ends : (w : World) (before : List Call) (x : Settings) (mid : List Call) → Within w before x mid → 65536 ≤ length (end mid (atOpen w before x) .hold)
+      → (n : ℕ) × ((n ≤ end mid (atOpen w before x) .state .run .held) × EndsAfter n (end mid (atOpen w before x)))

@@ -1,4 +1,4 @@
--- The refusals (rules R1 to R12, R20): when each number is given, as propositions in the rules' words, and each call's numbers in their
+-- The refusals (rules R1 to R13, R20): when each number is given, as propositions in the rules' words, and each call's numbers in their
 -- order. They are written apart from the tests of the code's definitions, the block's numbers among them (`blockNumber` to `SBLength`): a
 -- second rendering is wanted here, so that `demand_1` fails where code and definitions of the crates `block`, `entry` and `draft` are wrong
 -- alike. Shared is what the conditions speak of: `tableOk`, `nextTable`, `tableInForce` and `decode`, `settle` and `restOf`, where the
@@ -33,6 +33,7 @@ use Rattle.entry.specs.Wanted.{Wanted}
 use Rattle.draft.specs.Draft.{Draft}
 use Rattle.tables.specs.Calls.{nextTable}
 use Rattle.records.specs.Calls.{tableInForce}
+use Rattle.reader.specs.State.{ceilingOf}
 use Rattle.reader.specs.declared.Phase.the-variants.{Closed, Feeding}
 use Rattle.reader.specs.declared.State.{State}
 use Rattle.demands.specs.World.{World, stage, withdraw, bytes, body, sub, subBytes, sub2, range, range2, tow, wnc, write, Call, openRun, feed, finish, table, look}
@@ -46,7 +47,11 @@ ShortHold hold = length hold < 65536
 abbrev pub ShortStore : List ℕ → Type 0
 ShortStore store = length store < 8192
 
--- R1: a number in the state is too large
+-- F16: no ceiling
+abbrev pub NoCeiling : ℕ → Type 0
+NoCeiling c = (c % 4 ≡ 0 → ⊥) ⊎ (c < 16) ⊎ (65532 < c)
+
+-- R1: a number in the state is too large, or its ceiling is none
 abbrev pub BadState : State → Type 0
 BadState s =
     (65532 < s .run .held)
@@ -57,11 +62,12 @@ BadState s =
     ⊎ (4294967295 < s .run .counts .taken)
     ⊎ (s .run .counts .taken < s .run .counts .blocks)
     ⊎ (s .run .counts .taken < s .run .counts .skipped)
+    ⊎ NoCeiling (ceilingOf s)
 
 -- R3: a byte is offered to a full run that has no block to report; the standing one does not count
 pub record Full (s : State) (hold piece : List ℕ) : Type 0 where
   pub all : 4294967295 ≤ s .run .counts .taken
-  pub no-block : settle judged (restOf hold (s .run .held) (s .run .standing)) .standing ≡ none
+  pub no-block : settle (judged (ceilingOf s)) (restOf hold (s .run .held) (s .run .standing)) .standing ≡ none
   pub some-byte : 0 < length piece
 
 -- R4: one of T1 to T20 is broken
@@ -70,21 +76,22 @@ Breaks t = tableOk t ≡ false
 
 -- ---- the block given to a record call
 
--- F8: a frame stands at the place p of the run w
-pub record FrameStands (w : List ℕ) (p : ℕ) : Type 0 where
+-- F8, F16: a frame stands at the place p of the run w, read with the ceiling c
+pub record FrameStands (c : ℕ) (w : List ℕ) (p : ℕ) : Type 0 where
   -- F2: the sync pair
   pub sync₀ : getD w p 0 ≡ 0x24
   pub sync₁ : getD w (p + 1) 0 ≡ 0x40
   -- F4: the length is allowed; F5: the run has all of the frame
   pub multiple : lengthAt w p % 4 ≡ 0
   pub eight : 8 ≤ lengthAt w p
+  pub not-above : lengthAt w p ≤ c
   pub within : p + lengthAt w p ≤ length w
   -- F6: the CRC is right
   pub crc : crcAt w p ≡ crcOf (drop (p + 4) (take (p + lengthAt w p) w))
 
--- R10: exactly one frame: it stands at place 0 and has all the bytes
+-- R10: exactly one frame: it stands at place 0 and has all the bytes; record calls have a ceiling of their own (C17)
 pub record OneFrame (b : List ℕ) : Type 0 where
-  pub stands : FrameStands b 0
+  pub stands : FrameStands 65532 b 0
   pub all : lengthAt b 0 ≡ length b
 
 -- F9: the low thirteen bits of its ID, and the other three
@@ -285,9 +292,9 @@ pub record HoldsBlock (r : BlockRow) (d : Draft) (m n : ℕ) : Type 0 where
 abbrev pub LongerThan : BlockRow → Draft → ℕ → Type 0
 LongerThan r d n = (m k : ℕ) → HoldsBlock r d m k → k % 4 ≡ 0 → k ≤ n → ⊥
 
--- R12: it is longer than the buffer, which has n bytes, or than 65,532; or, by W7, its SBLength is above 255
-abbrev pub HasNoRoom : ℕ → BlockRow → Draft → Type 0
-HasNoRoom n r d = LongerThan r d n ⊎ LongerThan r d 65532 ⊎ ((0 < length (d .subs)) × EndsPast (r .subs) (d .revision) 255)
+-- R12: it is longer than the buffer, which has n bytes, or than the ceiling c; or, by W7, its SBLength is above 255
+abbrev pub HasNoRoom : ℕ → ℕ → BlockRow → Draft → Type 0
+HasNoRoom c n r d = LongerThan r d n ⊎ LongerThan r d c ⊎ ((0 < length (d .subs)) × EndsPast (r .subs) (d .revision) 255)
 
 -- ---- R20: the numbers of a call, in their order
 
@@ -339,14 +346,15 @@ writeOrder w d buffer =
     ∷ 4 when Breaks (tableInForce (w .state) (w .force))
     ∷ 6 when (NotInTable t (d .number) ⊎ OfRow t (d .number) (λ r. 0 < r .firsts))
     ∷ 11 when OfRow t (d .number) (λ r. CannotStand r d)
-    ∷ 12 when OfRow t (d .number) (λ r. HasNoRoom (length buffer) r d)
+    ∷ 12 when OfRow t (d .number) (λ r. HasNoRoom (ceilingOf (w .state)) (length buffer) r d)
     ∷ []
 
 -- R20: all calls, each by the buffers that it is lent (C3). R2 asks for the phase, R5 for a table of either kind
 abbrev pub order : Call → World → Order
-order openRun w =
+order (openRun x) w =
     1 when (BadState (w .state) ⊎ ShortStore (w .force) ⊎ ShortStore (w .wait))
     ∷ 2 when (w .state .run .phase ≡ Closed → ⊥)
+    ∷ 13 when NoCeiling (x .ceiling)
     ∷ 5 when ((w .state .waiting ≡ 0) × (w .state .«in_force» ≡ 0))
     ∷ 4 when Breaks (nextTable (w .state) (w .force) (w .wait))
     ∷ []

@@ -5,49 +5,42 @@ use mathlib.Core.Path.{_≡_}
 use mathlib.Core.List.{List, [], _∷_, _++_}
 use mathlib.Core.Option.{Option, none, some, Option·getD, IsSome}
 use lib.ListN.{take}
-use Rattle.wire.specs.Range.{Bytes}
 use Rattle.framing.specs.ReadRun.{ReadBlock}
 use Rattle.reader.specs.State.{newState}
 use Rattle.reader.specs.Said.{Report}
+use Rattle.reader.specs.declared.Settings.{Settings}
 use Rattle.demands.specs.World.{World, bytes, Call, openRun, feed, finish, table, look, Reply, told, partOf, step, end}
 
--- C15: a new reader, with any three buffers, short ones too; the one premise is that bytes are below 256
-pub record New (w : World) : Type 0 where
-  pub state : w .state ≡ newState
-  pub hold : Bytes (w .hold)
+-- C15: a new reader, with any three buffers, short ones too
+abbrev pub New : World → Type 0
+New w = w .state ≡ newState
 
 -- the piece that a call is given: only Feed has one
 abbrev pub pieceOf : Call → List ℕ
-pieceOf openRun = []
+pieceOf (openRun x) = []
 pieceOf (feed piece) = piece
 pieceOf finish = []
 pieceOf (table t) = []
 pieceOf (look l) = []
-
-unfoldable pub AllFed : List Call → Type 0
-AllFed [] = Unit {0}
-AllFed (c ∷ cs) = Bytes (pieceOf c) × AllFed cs
 
 -- no call answers End
 unfoldable pub NoEnd : List Call → World → Type 0
 NoEnd [] w = Unit {0}
 NoEnd (c ∷ cs) w = (told (step c w .answer) .end ≡ none) × NoEnd cs (step c w .world)
 
--- the world in which a run stands that was opened after `before`
-abbrev pub atOpen : World → List Call → World
-atOpen w before = step openRun (end before w) .world
+-- the world in which a run stands that was opened after `before`, with the settings x
+abbrev pub atOpen : World → List Call → Settings → World
+atOpen w before x = step (openRun x) (end before w) .world
 
--- a moment of a run: on a new reader, Open answered a version after `before`, and then no call of `mid` answered End
-pub record Within (w : World) (before mid : List Call) : Type 0 where
+-- a moment of a run: on a new reader, Open with x answered a version after `before`, and then no call of `mid` answered End
+pub record Within (w : World) (before : List Call) (x : Settings) (mid : List Call) : Type 0 where
   pub new : New w
-  pub fedBefore : AllFed before
-  pub fed : AllFed mid
-  pub opens : IsSome (told (step openRun (end before w) .answer) .version)
-  pub noEnd : NoEnd mid (atOpen w before)
+  pub opens : IsSome (told (step (openRun x) (end before w) .answer) .version)
+  pub noEnd : NoEnd mid (atOpen w before x)
 
 -- C8: the Finish that follows `mid` closes the run
-abbrev pub Closes : World → List Call → List Call → Type 0
-Closes w before mid = IsSome (told (step finish (end mid (atOpen w before)) .answer) .end)
+abbrev pub Closes : World → List Call → Settings → List Call → Type 0
+Closes w before x mid = IsSome (told (step finish (end mid (atOpen w before x)) .answer) .end)
 
 -- the bytes of its piece that a call took
 abbrev pub tookOf : Call → Reply → List ℕ

@@ -5,13 +5,12 @@ use Prim.Native.Nat.{ℕ, _+_, _-_, _≤_}
 use mathlib.Core.Path.{_≡_}
 use mathlib.Core.Bool.{true, cond}
 use mathlib.Core.Option.{Option, none, some}
-use Rattle.wire.specs.Range.{Bytes}
-use Rattle.reader.specs.State.{limit, newState, sound}
+use Rattle.frame.specs.Frame.{ceilingOk}
+use Rattle.reader.specs.State.{limit, newState, ceilingOf, sound}
 use Rattle.reader.specs.Said.{Report}
 use Rattle.runs.specs.Refusals.{isSome}
 use Rattle.reader.specs.declared.State.{State}
 use Rattle.demands.specs.World.{World, Call, openRun, feed, finish, table, look, Told, told, step}
-use Rattle.demands.specs.Sequence.{pieceOf}
 
 -- `reported` is the sum of the lengths of the blocks reported since Open, the standing one among them
 pub record Sound (s : State) (reported : ℕ) : Type 0 where
@@ -24,6 +23,7 @@ pub record Sound (s : State) (reported : ℕ) : Type 0 where
   pub most : s .run .counts .taken ≤ limit
   pub force : s .«in_force» ≤ 8192
   pub wait : s .waiting ≤ 8192
+  pub ceiling : ceilingOk (ceilingOf s) ≡ true
 
 abbrev pub reportSize : Option Report → ℕ
 reportSize none = 0
@@ -31,7 +31,7 @@ reportSize (some r) = r .size
 
 -- `reported` after a call and what it told: a run that opens has reported no block
 abbrev pub sinceOpen : Call → Told → ℕ → ℕ
-sinceOpen openRun a reported = cond (isSome (a .version)) 0 reported
+sinceOpen (openRun x) a reported = cond (isSome (a .version)) 0 reported
 sinceOpen (feed piece) a reported = reported + reportSize (a .block)
 sinceOpen finish a reported = reported + reportSize (a .block)
 sinceOpen (table t) a reported = reported
@@ -39,9 +39,7 @@ sinceOpen (look l) a reported = reported
 
 pub record SoundKept : Type 0 where
   pub new : Sound newState 0
-  -- the one premise is that what is held and fed is bytes below 256; of what is held then it is so again, for the next call
-  pub keeps : (c : Call) (w : World) (reported : ℕ) → Bytes (w .hold) → Bytes (pieceOf c) → Sound (w .state) reported
+  pub keeps : (c : Call) (w : World) (reported : ℕ) → Sound (w .state) reported
       → Sound (step c w .world .state) (sinceOpen c (told (step c w .answer)) reported)
-  pub bytes : (c : Call) (w : World) → Bytes (w .hold) → Bytes (pieceOf c) → Bytes (step c w .world .hold)
   -- R1: a sound state is none that it names
   pub passes : (s : State) (reported : ℕ) → Sound s reported → sound s ≡ true

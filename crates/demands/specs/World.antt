@@ -16,6 +16,7 @@ use Rattle.draft.specs.Draft.{Draft}
 use Rattle.writer.specs.Write.{WriteSaid, wrote, writeRefused, WriteOutcome}
 use Rattle.writes.specs.Calls.{writeOf}
 use Rattle.reader.specs.declared.Counts.{Counts}
+use Rattle.reader.specs.declared.Settings.{Settings}
 use Rattle.reader.specs.declared.State.{State}
 
 -- C1, C2: the state and the three buffers, as they are between two calls
@@ -45,7 +46,8 @@ pub data Look : Type 0 where
   write : Draft → List ℕ → Look
 
 pub data Call : Type 0 where
-  openRun : Call
+  -- C17: with settings
+  openRun : Settings → Call
   feed : List ℕ → Call
   finish : Call
   table : TableCall → Call
@@ -160,7 +162,7 @@ looked (write d buffer) w = penned (writeOf (w .state) (w .force) d buffer)
 
 -- C2: which buffer a call may write; the others stay as they were
 unfoldable pub step : Call → World → Step
-step openRun w = let o = openOf (w .state) (w .force) (w .wait) in leaving o (w .hold) (o .lent) (w .wait)
+step (openRun x) w = let o = openOf (w .state) x (w .force) (w .wait) in leaving o (w .hold) (o .lent) (w .wait)
 step (feed piece) w = let o = feedOf (w .state) (w .hold) piece in leaving o (o .lent) (w .force) (w .wait)
 step finish w = let o = finishOf (w .state) (w .hold) in leaving o (o .lent) (w .force) (w .wait)
 step (table (stage t)) w = let o = stageOf (w .state) (w .wait) t in leaving o (w .hold) (w .force) (o .lent)

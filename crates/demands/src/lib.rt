@@ -7,6 +7,7 @@ ghost use Rattle.demands.specs.NoMore.{TakesNoMore};
 ghost use Rattle.demands.specs.One.{OneOutcome};
 ghost use Rattle.demands.specs.Progress.{Progress};
 ghost use Rattle.demands.specs.Soundness.{SoundKept};
+ghost use Rattle.demands.specs.Waits.{WaitsLess};
 
 // D1: every call is refused exactly when the rules say; a refused call changes nothing and hands back nothing, Write's buffer too is as it
 // was, and behind a block that Write made it stays so; states that are reached are sound; with long enough buffers refusal 1 is not given.
@@ -14,13 +15,12 @@ pub fn demand_1()
     ensures { λ _. ⌜ Demand1 ⌝ }
 {}
 
-// Every call keeps a sound state sound, whatever the buffers: the bytes taken are as many as those reported, skipped and held. It
-// keeps a hold of bytes one, too.
+// Every call keeps a sound state sound, whatever the buffers: the bytes taken are as many as those reported, skipped and held.
 pub fn sound_kept()
     ensures { λ _. ⌜ SoundKept ⌝ }
 {}
 
-// D2: at every moment of a run the blocks reported are the first ones of the reading rule, after More nothing more can be
+// D2: at every moment of a run the blocks reported are the first ones of the reading rule by its ceiling, after More nothing more can be
 // decided, and records are read by the table in force, and Write writes by it.
 pub fn demand_2()
     ensures { λ _. ⌜ Demand2 ⌝ }
@@ -37,7 +37,7 @@ pub fn one_outcome()
     ensures { λ _. ⌜ OneOutcome ⌝ }
 {}
 
-// Phase, waiting table, table in force and standing block are what the calls made and their answers say, and the next answers follow.
+// Phase, settings, waiting table, table in force and standing block are what the calls made and their answers say, and the next answers follow.
 pub fn history()
     ensures { λ _. ⌜ History ⌝ }
 {}
@@ -50,4 +50,9 @@ pub fn progress()
 // Feed takes no more than it needs: to a shorter front of its piece than it took it answers More.
 pub fn takes_no_more()
     ensures { λ _. ⌜ TakesNoMore ⌝ }
+{}
+
+// A place is decided once as many bytes as the ceiling says are there, so after More fewer are held.
+pub fn waits_less()
+    ensures { λ _. ⌜ WaitsLess ⌝ }
 {}

@@ -103,6 +103,7 @@ fn with_phase(b: Desk, phase: Phase) -> Desk {
     let s = b.state;
     let r = s.run;
     let counts = r.counts;
+    let settings = r.settings;
     Desk {
         state: State {
             run: Run {
@@ -110,6 +111,7 @@ fn with_phase(b: Desk, phase: Phase) -> Desk {
                 held: r.held,
                 standing: r.standing,
                 counts,
+                settings,
             },
             in_force: s.in_force,
             waiting: s.waiting,
@@ -133,6 +135,7 @@ pub fn poked(b: Desk, part: StateNumber, v: usize) -> Desk {
         StateNumber::Taken => next.state.run.counts.taken = v,
         StateNumber::Blocks => next.state.run.counts.blocks = v,
         StateNumber::Skipped => next.state.run.counts.skipped = v,
+        StateNumber::Ceiling => next.state.run.settings.ceiling = v,
         StateNumber::Unknown => {}
     }
     next

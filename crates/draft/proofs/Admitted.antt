@@ -48,14 +48,14 @@ module _ {r : BlockRow} {d : Draft} (a : Admitted r d) where
   lists-allowed e = both (leb (length (d .subs)) 255) _ (rw e at (a .subs)) .1
 
 -- R12, in parts
-pub record Roomy (r : BlockRow) (d : Draft) (n : ℕ) : Type 0 where
+pub record Roomy (c : ℕ) (r : BlockRow) (d : Draft) (n : ℕ) : Type 0 where
   pub buffer : blockLength r d ≤ n
-  pub most : blockLength r d ≤ 65532
+  pub most : blockLength r d ≤ c
   pub sub : sbLength r d ≤ 255
 
-pub roomy : (r : BlockRow) (d : Draft) (n : ℕ) → roomFor r d n ≡ true → Roomy r d n
+pub roomy : (c : ℕ) (r : BlockRow) (d : Draft) (n : ℕ) → roomFor c r d n ≡ true → Roomy c r d n
 unfolding roomFor
-roomy r d n e =
-    let a = both (leb (blockLength r d) n && leb (blockLength r d) 65532) _ e in
+roomy c r d n e =
+    let a = both (leb (blockLength r d) n && leb (blockLength r d) c) _ e in
     let b = both (leb (blockLength r d) n) _ (a .0) in
     record { buffer = leb-true _ _ (b .0); most = leb-true _ _ (b .1); sub = leb-true _ _ (a .1) }

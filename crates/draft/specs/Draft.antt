@@ -79,6 +79,6 @@ roundUp n = 4 * ((n + 3) / 4)
 abbrev pub blockLength : BlockRow → Draft → ℕ
 blockLength r d = roundUp (blockEnd r d)
 
--- R12: its condition holds where this fails; n is the length of the buffer
-unfoldable pub roomFor : BlockRow → Draft → ℕ → Bool
-roomFor r d n = leb (blockLength r d) n && leb (blockLength r d) 65532 && leb (sbLength r d) 255
+-- R12: its condition holds where this fails; c is the ceiling, n the length of the buffer
+unfoldable pub roomFor : ℕ → BlockRow → Draft → ℕ → Bool
+roomFor c r d n = leb (blockLength r d) n && leb (blockLength r d) c && leb (sbLength r d) 255

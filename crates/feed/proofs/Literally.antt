@@ -29,13 +29,13 @@ looked room piece =
     (λ l. take-all (min room (length piece)) piece (omega arith) ∙ sym (take-all room piece l))
 
 -- no more of the piece than there is room for
-pub roomed : (h piece : List ℕ) (room t : ℕ) → t ≡ min room (length piece) → feedLit h (take t piece) (length (take t piece)) ≡ feedLit h piece room
-roomed h piece room t e =
+pub roomed : (c : ℕ) (h piece : List ℕ) (room t : ℕ) → t ≡ min room (length piece) → feedLit c h (take t piece) (length (take t piece)) ≡ feedLit c h piece room
+roomed c h piece room t e =
     let p : List ℕ = take t piece in
-    literal judged judging (take t piece) (length (take t piece)) h
-    ∙ ap (λ (x : List ℕ). toLit (settle judged (h ++ x)) (h ++ x) (length h))
+    literal (judged c) (judging c) (take t piece) (length (take t piece)) h
+    ∙ ap (λ (x : List ℕ). toLit (settle (judged c) (h ++ x)) (h ++ x) (length h))
     (take-all (length (take t piece)) (take t piece) (omega arith) ∙ ap (λ (k : ℕ). take k piece) e ∙ looked room piece)
-    ∙ sym (literal judged judging piece room h)
+    ∙ sym (literal (judged c) (judging c) piece room h)
 
 pub rest-length : (hold : List ℕ) (held standing : ℕ) → standing ≤ held → held ≤ length hold → length (restOf hold held standing) ≡ held - standing
 unfolding restOf
@@ -43,10 +43,10 @@ rest-length hold held standing a b = length-take-le (held - standing) (drop stan
 
 -- ---- Feed
 
-module _ (hold : List ℕ) (held block : ℕ) (piece : List ℕ) (room : ℕ) (front : block ≤ held) (fits : held ≤ length hold) (f : Scanned)
-    (came : f ≡ scannedOf (feedLit (restOf hold held block) piece room)) where
+module _ (c : ℕ) (hold : List ℕ) (held block : ℕ) (piece : List ℕ) (room : ℕ) (front : block ≤ held) (fits : held ≤ length hold) (f : Scanned)
+    (came : f ≡ scannedOf (feedLit c (restOf hold held block) piece room)) where
   abbrev fed : Intake
-  fed = feedLit (restOf hold held block) piece room
+  fed = feedLit c (restOf hold held block) piece room
 
   taken-is : f .taken ≡ fed .taken
   taken-is = ap (λ (x : Scanned). x .taken) came
@@ -58,7 +58,7 @@ module _ (hold : List ℕ) (held block : ℕ) (piece : List ℕ) (room : ℕ) (f
   block-is = ap (λ (x : Scanned). x .block) came
 
   facts : CallFacts (restOf hold held block) piece room fed
-  facts = call judged (judging .fits) (restOf hold held block) piece room
+  facts = call (judged c) (judging c .fits) (restOf hold held block) piece room
 
   -- none is lost, no more is taken than there is room for, and the block is there whole
   pub sum : held - block + f .taken ≡ f .passed .skipped + length (fed .held)
@@ -87,15 +87,15 @@ module _ (hold : List ℕ) (held block : ℕ) (piece : List ℕ) (room : ℕ) (f
       ∙ ap₂ (λ (x : List ℕ) (k : ℕ). x ++ drop k hold)
       (ap₂ (λ (i : ℕ) (x : List ℕ). drop i x) passed-is
       (ap (λ (k : ℕ). take (k + f .taken) (r ++ piece)) (sym l) ∙ take-append-add r piece (f .taken) ∙ ap (λ (k : ℕ). r ++ take k piece) taken-is)
-      ∙ sym (fed-holds judged piece room r))
+      ∙ sym (fed-holds (judged c) piece room r))
       e′
 
 -- ---- Finish
 
-module _ (h : List ℕ) (held block : ℕ) (front : block ≤ held) (fits : held ≤ length h) (f : Scanned)
-    (came : f ≡ scannedOf (stop (settle judgedLast (restOf h held block)))) where
+module _ (c : ℕ) (h : List ℕ) (held block : ℕ) (front : block ≤ held) (fits : held ≤ length h) (f : Scanned)
+    (came : f ≡ scannedOf (stop (settle (judgedLast c) (restOf h held block)))) where
   abbrev last : Settled
-  last = settle judgedLast (restOf h held block)
+  last = settle (judgedLast c) (restOf h held block)
 
   end-passed : f .passed .skipped ≡ length (last .passed)
   end-passed = ap (λ (x : Scanned). x .passed .skipped) came ∙ passedOf-skipped (last .passed)
@@ -104,14 +104,14 @@ module _ (h : List ℕ) (held block : ℕ) (front : block ≤ held) (fits : held
   end-len = rest-length h held block front fits
 
   pub end-few : f .passed .skipped ≤ held - block
-  end-few = omega (arith, settle-rest judgedLast (restOf h held block) .few, end-len, end-passed)
+  end-few = omega (arith, settle-rest (judgedLast c) (restOf h held block) .few, end-len, end-passed)
 
   end-length : held - block - f .passed .skipped ≡ length (last .rest)
   end-length =
-      omega (arith, ap length (settle-rest judgedLast (restOf h held block) .is), length-drop (length (last .passed)) (restOf h held block), end-len, end-passed)
+      omega (arith, ap length (settle-rest (judgedLast c) (restOf h held block) .is), length-drop (length (last .passed)) (restOf h held block), end-len, end-passed)
 
   pub end-front : f .block ≤ held - block - f .passed .skipped
-  end-front = omega (arith, settle-front judgedLast last-fits (restOf h held block), end-length, ap (λ (x : Scanned). x .block) came)
+  end-front = omega (arith, settle-front (judgedLast c) (last-fits c) (restOf h held block), end-length, ap (λ (x : Scanned). x .block) came)
 
   pub end-told : _≡_ {A = HoldNumbers} (record { taken = 0; passed = f .passed; held = held - block - f .passed .skipped; standing = f .block }) (numbersOf (stop last))
   end-told = ap₂ (λ (x : Scanned) (k : ℕ). record { taken = 0; passed = x .passed; held = k; standing = x .block }) came end-length
@@ -122,7 +122,7 @@ module _ (h : List ℕ) (held block : ℕ) (front : block ≤ held) (fits : held
       e
       ∙ ap₂ (λ (x : List ℕ) (k : ℕ). x ++ drop k h)
       (sym
-      (settle-rest judgedLast (restOf h held block) .is ∙ ap (λ (k : ℕ). drop k (restOf h held block)) (sym end-passed)
+      (settle-rest (judgedLast c) (restOf h held block) .is ∙ ap (λ (k : ℕ). drop k (restOf h held block)) (sym end-passed)
       ∙ own h block (held - block) (f .passed .skipped) (omega arith) end-few))
       (zero-add (held - block - f .passed .skipped) ∙ end-length)
 

@@ -1,5 +1,5 @@
-// A run fed piece by piece (rules C4, C6, C8): what is taken and not decided, and a reported block, are kept at the front of the
-// hold.
+// A run fed piece by piece, and read with a ceiling (rules C4, C6, C8, F16): what is taken and not decided, and a reported block, are
+// kept at the front of the hold.
 ghost use mathlib.Core.Path.{_≡_};
 ghost use mathlib.Core.List.{_++_};
 ghost use Prim.Native.Nat.{min, _+_, _-_, _≤_};
@@ -64,15 +64,22 @@ fn keep(hold: &mut [u8], standing: usize, n: usize, piece: &[u8], p: usize, m: u
 }
 
 // Drops the standing block and takes at most `room` bytes of the piece; the promise is by C6, a byte at a time.
-pub fn feed(hold: &mut [u8], held: usize, standing: usize, piece: &[u8], room: usize) -> HoldNumbers
-    requires { ⌜ (standing ≤ held) × (held ≤ 65532) × (65532 ≤ length (now hold)) ⌝ }
-    ensures { λ r. ⌜ r ≡ numbersOf (feedLit (restOf (now (hold .entry)) held standing) (now (piece .entry)) room) ⌝ }
-    ensures { λ r. ⌜ now (hold .exit) ≡ holdOf (feedLit (restOf (now (hold .entry)) held standing) (now (piece .entry)) room) (now (hold .entry)) ⌝ }
+pub fn feed(
+    ceiling: usize,
+    hold: &mut [u8],
+    held: usize,
+    standing: usize,
+    piece: &[u8],
+    room: usize,
+) -> HoldNumbers
+    requires { ⌜ (ceiling ≤ 65532) × (standing ≤ held) × (held ≤ 65532) × (65532 ≤ length (now hold)) ⌝ }
+    ensures { λ r. ⌜ r ≡ numbersOf (feedLit ceiling (restOf (now (hold .entry)) held standing) (now (piece .entry)) room) ⌝ }
+    ensures { λ r. ⌜ now (hold .exit) ≡ holdOf (feedLit ceiling (restOf (now (hold .entry)) held standing) (now (piece .entry)) room) (now (hold .entry)) ⌝ }
     ensures { λ r. ⌜ GoodNumbers r (min room (length (now (piece .entry)))) ⌝ }
 {
     let n = held - standing;
     let t = frame::lesser(room, piece.len());
-    let found = scan::scan(&hold[standing..held], &piece[..t]);
+    let found = scan::scan(ceiling, &hold[standing..held], &piece[..t]);
     let passed = found.passed;
     let p = passed.skipped;
     let taken = found.taken;
@@ -88,13 +95,13 @@ pub fn feed(hold: &mut [u8], held: usize, standing: usize, piece: &[u8], room: u
 }
 
 // Drops the standing block; what is held is read on with nothing to follow.
-pub fn finish(hold: &mut [u8], held: usize, standing: usize) -> HoldNumbers
+pub fn finish(ceiling: usize, hold: &mut [u8], held: usize, standing: usize) -> HoldNumbers
     requires { ⌜ (standing ≤ held) × (held ≤ 65532) × (65532 ≤ length (now hold)) ⌝ }
-    ensures { λ r. ⌜ r ≡ numbersOf (stop (settle judgedLast (restOf (now (hold .entry)) held standing))) ⌝ }
-    ensures { λ r. ⌜ now (hold .exit) ≡ holdOf (stop (settle judgedLast (restOf (now (hold .entry)) held standing))) (now (hold .entry)) ⌝ }
+    ensures { λ r. ⌜ r ≡ numbersOf (stop (settle (judgedLast ceiling) (restOf (now (hold .entry)) held standing))) ⌝ }
+    ensures { λ r. ⌜ now (hold .exit) ≡ holdOf (stop (settle (judgedLast ceiling) (restOf (now (hold .entry)) held standing))) (now (hold .entry)) ⌝ }
     ensures { λ r. ⌜ GoodNumbers r 0 ⌝ }
 {
-    let found = scan::last(&hold[standing..held]);
+    let found = scan::last(ceiling, &hold[standing..held]);
     let passed = found.passed;
     let p = passed.skipped;
     let block = found.block;

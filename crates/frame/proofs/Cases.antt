@@ -15,8 +15,8 @@ use Rattle.frame.specs.Judge.{judged}
 use Rattle.frame.specs.declared.Reason.the-variants.{NoSync, LengthNotAllowed, CrcWrong}
 use Rattle.frame.specs.declared.Verdict.the-variants.{NoFrame, Frame, Undecided}
 
-module _ (v : List ℕ) where
-  pub empty : length v ≡ 0 → judged v ≡ Undecided
+module _ (c : ℕ) (v : List ℕ) where
+  pub empty : length v ≡ 0 → judged c v ≡ Undecided
   unfolding judged
   empty h = simp (eq-eqb (length v) 0 h)
 
@@ -24,11 +24,11 @@ module _ (v : List ℕ) where
     not-empty : eqb (length v) 0 ≡ false
     not-empty = ne-eqb (length v) 0 (λ e. omega arith)
 
-    pub sync0 : (getD v 0 0 ≡ 0x24 → ⊥) → judged v ≡ NoFrame NoSync
+    pub sync0 : (getD v 0 0 ≡ 0x24 → ⊥) → judged c v ≡ NoFrame NoSync
     unfolding judged
     sync0 n = simp (not-empty, ne-eqb (getD v 0 0) 0x24 n)
 
-    pub one : getD v 0 0 ≡ 0x24 → length v ≡ 1 → judged v ≡ Undecided
+    pub one : getD v 0 0 ≡ 0x24 → length v ≡ 1 → judged c v ≡ Undecided
     unfolding judged
     one e l = simp (not-empty, eq-eqb (getD v 0 0) 0x24 e, eq-eqb (length v) 1 l)
 
@@ -39,33 +39,33 @@ module _ (v : List ℕ) where
     some : eqb (length v) 0 ≡ false
     some = ne-eqb (length v) 0 (λ e. omega arith)
 
-    pub sync1 : (getD v 1 0 ≡ 0x40 → ⊥) → judged v ≡ NoFrame NoSync
+    pub sync1 : (getD v 1 0 ≡ 0x40 → ⊥) → judged c v ≡ NoFrame NoSync
     unfolding judged
     sync1 n = simp (some, eq-eqb (getD v 0 0) 0x24 first, not-one, ne-eqb (getD v 1 0) 0x40 n)
 
     module _ (second : getD v 1 0 ≡ 0x40) where
-      pub short : length v < 8 → judged v ≡ Undecided
+      pub short : length v < 8 → judged c v ≡ Undecided
       unfolding judged
       short l = simp (some, eq-eqb (getD v 0 0) 0x24 first, not-one, eq-eqb (getD v 1 0) 0x40 second, lt-ltb (length v) 8 l)
 
       module _ (eight : 8 ≤ length v) where
-        headed : judged v
-            ≡ cond (not (allowed (lengthAt v 0))) (NoFrame LengthNotAllowed)
+        headed : judged c v
+            ≡ cond (not (allowed c (lengthAt v 0))) (NoFrame LengthNotAllowed)
             (cond (ltb (length v) (lengthAt v 0)) Undecided (cond (crcRight v 0) (Frame (lengthAt v 0)) (NoFrame (CrcWrong (lengthAt v 0)))))
         unfolding judged
         headed = simp (some, eq-eqb (getD v 0 0) 0x24 first, not-one, eq-eqb (getD v 1 0) 0x40 second, le-ltb (length v) 8 eight)
 
-        pub bad-length : allowed (lengthAt v 0) ≡ false → judged v ≡ NoFrame LengthNotAllowed
+        pub bad-length : allowed c (lengthAt v 0) ≡ false → judged c v ≡ NoFrame LengthNotAllowed
         bad-length e = headed ∙ simp e
 
-        module _ (ok : allowed (lengthAt v 0) ≡ true) where
-          pub part : length v < lengthAt v 0 → judged v ≡ Undecided
+        module _ (ok : allowed c (lengthAt v 0) ≡ true) where
+          pub part : length v < lengthAt v 0 → judged c v ≡ Undecided
           part l = headed ∙ simp (ok, lt-ltb (length v) (lengthAt v 0) l)
 
-          pub good : lengthAt v 0 ≤ length v → crcRight v 0 ≡ true → judged v ≡ Frame (lengthAt v 0)
+          pub good : lengthAt v 0 ≤ length v → crcRight v 0 ≡ true → judged c v ≡ Frame (lengthAt v 0)
           good l e = headed ∙ simp (ok, le-ltb (length v) (lengthAt v 0) l, e)
 
-          pub bad : lengthAt v 0 ≤ length v → crcRight v 0 ≡ false → judged v ≡ NoFrame (CrcWrong (lengthAt v 0))
+          pub bad : lengthAt v 0 ≤ length v → crcRight v 0 ≡ false → judged c v ≡ NoFrame (CrcWrong (lengthAt v 0))
           bad l e = headed ∙ simp (ok, le-ltb (length v) (lengthAt v 0) l, e)
 
 -- what is read at a place of w is read of the rest from p

@@ -15,17 +15,17 @@ use denote.Enum.Declared.{tagOf}
 use Rattle.frame.proofs.Verdict.{the-type}
 
 -- what is decided already stays, and the rest is told by how many bytes there are
-pub last-ends : (v : List ℕ) {a b : Bool} → judged v ≡ Undecided → ltb (length v) 2 ≡ a → ltb (length v) 8 ≡ b
-    → judgedLast v ≡ NoFrame (cond a NoSync (cond b FewLeft PastEnd))
+pub last-ends : (c : ℕ) (v : List ℕ) {a b : Bool} → judged c v ≡ Undecided → ltb (length v) 2 ≡ a → ltb (length v) 8 ≡ b
+    → judgedLast c v ≡ NoFrame (cond a NoSync (cond b FewLeft PastEnd))
 unfolding judgedLast
-last-ends v u e f =
+last-ends c v u e f =
     ap (λ (x : Verdict). lastBy x v) u ∙ ap₂ (λ (x y : Bool). NoFrame (cond x NoSync (cond y FewLeft PastEnd))) e f
 
 abbrev decided : List ℕ
 decided = 0 ∷ 1 ∷ []
 
-pub last-same : (v : List ℕ) (x : Verdict) → OneOf decided (tagOf the-type x) → judged v ≡ x → judgedLast v ≡ x
+pub last-same : (c : ℕ) (v : List ℕ) (x : Verdict) → OneOf decided (tagOf the-type x) → judged c v ≡ x → judgedLast c v ≡ x
 unfolding judgedLast
-last-same v (NoFrame r) h e = ap (λ (x : Verdict). lastBy x v) e
-last-same v (Frame n) h e = ap (λ (x : Verdict). lastBy x v) e
-last-same v Undecided h e = absurd (miss decided 2 tt h)
+last-same c v (NoFrame r) h e = ap (λ (x : Verdict). lastBy x v) e
+last-same c v (Frame n) h e = ap (λ (x : Verdict). lastBy x v) e
+last-same c v Undecided h e = absurd (miss decided 2 tt h)

@@ -16,37 +16,37 @@ use Rattle.wire.proofs.Tests.{both-left, both-right, both-true}
 use Rattle.frame.proofs.Cases.{good}
 use Rattle.frame.proofs.View.{allows, View, waits-head, waits-body, at-sync0, at-sync1, at-length, at-bad, at-good, view}
 
-pub front-judged : (v : List ℕ) → frameAt v 0 ≡ true → judged v ≡ Frame (lengthAt v 0)
+pub front-judged : (c : ℕ) (v : List ℕ) → frameAt c v 0 ≡ true → judged c v ≡ Frame (lengthAt v 0)
 unfolding frameAt syncAt endsWithin
-front-judged v h =
+front-judged c v h =
     let l = lengthAt v 0 in
     let s = eqb (getD v 0 0) 0x24 && eqb (getD v 1 0) 0x40 in
-    let a = allowed (lengthAt v 0) in
+    let a = allowed c (lengthAt v 0) in
     let w = leb (0 + lengthAt v 0) (length v) in
     let h3 = both-left (s && a && w) (crcRight v 0) h in
     let h2 = both-left (s && a) w h3 in
     let h1 = both-left s a h2 in
     let ok = both-right s a h2 in
     let n : 0 + lengthAt v 0 ≤ length v = leb-true (0 + lengthAt v 0) (length v) (both-right (s && a) w h3) in
-    let b = allows (lengthAt v 0) ok .not-small in
-    good v (omega arith) (eqb-true (getD v 0 0) 0x24 (both-left (eqb (getD v 0 0) 0x24) (eqb (getD v 1 0) 0x40) h1))
+    let b = allows c (lengthAt v 0) ok .not-small in
+    good c v (omega arith) (eqb-true (getD v 0 0) 0x24 (both-left (eqb (getD v 0 0) 0x24) (eqb (getD v 1 0) 0x40) h1))
     (eqb-true (getD v 1 0) 0x40 (both-right (eqb (getD v 0 0) 0x24) (eqb (getD v 1 0) 0x40) h1)) (omega arith) ok (omega arith)
     (both-right (s && a && w) (crcRight v 0) h)
 
-abbrev FrontIf : List ℕ → Verdict → Type 0
-FrontIf v (NoFrame r) = Unit {0}
-FrontIf v (Frame n) = (frameAt v 0 ≡ true) × (n ≡ lengthAt v 0)
-FrontIf v Undecided = Unit {0}
+abbrev FrontIf : ℕ → List ℕ → Verdict → Type 0
+FrontIf c v (NoFrame r) = Unit {0}
+FrontIf c v (Frame n) = (frameAt c v 0 ≡ true) × (n ≡ lengthAt v 0)
+FrontIf c v Undecided = Unit {0}
 
-front-of : (v : List ℕ) {x : Verdict} → View v x → FrontIf v x
+front-of : (c : ℕ) (v : List ℕ) {x : Verdict} → View c v x → FrontIf c v x
 unfolding frameAt syncAt endsWithin
-front-of v (waits-head h f s) = tt
-front-of v (waits-body h a l) = tt
-front-of v (at-sync0 l a) = tt
-front-of v (at-sync1 l a b) = tt
-front-of v (at-length h a) = tt
-front-of v (at-bad h a l q) = tt
-front-of v (at-good h a l q) = (
+front-of c v (waits-head h f s) = tt
+front-of c v (waits-body h a l) = tt
+front-of c v (at-sync0 l a) = tt
+front-of c v (at-sync1 l a b) = tt
+front-of c v (at-length h a) = tt
+front-of c v (at-bad h a l q) = tt
+front-of c v (at-good h a l q) = (
   both-true
       (both-true (both-true (both-true (eq-eqb (getD v 0 0) 0x24 (h .first)) (eq-eqb (getD v 1 0) 0x40 (h .second))) a)
       (le-leb (0 + lengthAt v 0) (length v) (omega arith)))
@@ -54,5 +54,5 @@ front-of v (at-good h a l q) = (
   refl,
 )
 
-pub judged-front : (v : List ℕ) (n : ℕ) → judged v ≡ Frame n → (frameAt v 0 ≡ true) × (n ≡ lengthAt v 0)
-judged-front v n e = subst (FrontIf v) e (front-of v (view v))
+pub judged-front : (c : ℕ) (v : List ℕ) (n : ℕ) → judged c v ≡ Frame n → (frameAt c v 0 ≡ true) × (n ≡ lengthAt v 0)
+judged-front c v n e = subst (FrontIf c v) e (front-of c v (view c v))

@@ -1,4 +1,4 @@
--- A frame at a place of a run (rules F2 to F9), and what refusal 10 asks (R10).
+-- A frame at a place of a run (rules F2 to F9) read with a ceiling (F16), and what refusal 10 asks (R10).
 -- Assumes nothing.
 use Prim.Native.Nat.{ℕ, _+_, _%_, _/_}
 use mathlib.Core.List.{List}
@@ -22,9 +22,17 @@ idAt w p = littleAt 2 w (p + 4)
 abbrev pub lengthAt : List ℕ → ℕ → ℕ
 lengthAt w p = littleAt 2 w (p + 6)
 
--- F4: which lengths are allowed
-unfoldable pub allowed : ℕ → Bool
-allowed l = eqb (l % 4) 0 && leb 8 l
+-- F16: the greatest ceiling
+abbrev pub greatestCeiling : ℕ
+greatestCeiling = 65532
+
+-- F16: which numbers are ceilings
+unfoldable pub ceilingOk : ℕ → Bool
+ceilingOk c = eqb (c % 4) 0 && leb 16 c && leb c greatestCeiling
+
+-- F4: which lengths are allowed under the ceiling c
+unfoldable pub allowed : ℕ → ℕ → Bool
+allowed c l = eqb (l % 4) 0 && leb 8 l && leb l c
 
 -- F5: the run has all of the frame
 unfoldable pub endsWithin : List ℕ → ℕ → Bool
@@ -34,9 +42,9 @@ endsWithin w p = leb (p + lengthAt w p) (length w)
 unfoldable pub crcRight : List ℕ → ℕ → Bool
 crcRight w p = eqb (crcAt w p) (crcOf (drop (p + 4) (take (p + lengthAt w p) w)))
 
--- F8: a frame stands at the place p of the run w
-unfoldable pub frameAt : List ℕ → ℕ → Bool
-frameAt w p = syncAt w p && allowed (lengthAt w p) && endsWithin w p && crcRight w p
+-- F8, F16: a frame stands at the place p of the run w, which is read with the ceiling c
+unfoldable pub frameAt : ℕ → List ℕ → ℕ → Bool
+frameAt c w p = syncAt w p && allowed c (lengthAt w p) && endsWithin w p && crcRight w p
 
 -- F9: the two parts of an ID
 abbrev pub numberOf : ℕ → ℕ
@@ -45,6 +53,6 @@ numberOf id = id % 8192
 abbrev pub revisionOf : ℕ → ℕ
 revisionOf id = id / 8192
 
--- R10: the bytes are exactly one frame
+-- R10: the bytes are exactly one frame, of any length that there is (C17)
 unfoldable pub wholeFrame : List ℕ → Bool
-wholeFrame v = frameAt v 0 && eqb (lengthAt v 0) (length v)
+wholeFrame v = frameAt greatestCeiling v 0 && eqb (lengthAt v 0) (length v)

@@ -1,12 +1,12 @@
-// What stands at a place of a run (rules F2 to F8, F12, F13). The run lies in two slices, the held bytes and then the piece; at
-// its end in one.
+// What stands at a place of a run (rules F2 to F8, F12, F13), read with a ceiling (F16). The run lies in two slices, the held bytes and
+// then the piece; at its end in one.
 ghost use mathlib.Core.Path.{_≡_};
 ghost use mathlib.Core.List.{_++_};
 ghost use Prim.Native.Nat.{min, _+_, _≤_, _<_};
 ghost use lib.ListN.{length, getD, take, drop};
 ghost use Rattle.crc.specs.Crc.{crcOf};
 ghost use Rattle.wire.specs.Little.{littleAt};
-ghost use Rattle.frame.specs.Frame.{allowed, wholeFrame};
+ghost use Rattle.frame.specs.Frame.{allowed, ceilingOk, wholeFrame};
 ghost use Rattle.frame.specs.Judge.{judged, judgedLast};
 
 // Why no frame stands at a place.
@@ -74,16 +74,26 @@ fn crc_between(a: &[u8], b: &[u8], n: usize) -> u16
     crc::update(0, &a[i..e], &b[j..f])
 }
 
-// F4: which lengths are allowed.
-fn length_allowed(n: u16) -> bool
-    ensures { λ r. ⌜ r ≡ allowed n ⌝ }
+// F16: the greatest ceiling.
+pub const GREATEST_CEILING: usize = 65532;
+
+// F16: whether a number is a ceiling.
+pub fn ceiling_ok(c: usize) -> bool
+    ensures { λ r. ⌜ r ≡ ceilingOk c ⌝ }
 {
-    (n % 4 == 0) & (8 <= n)
+    (c % 4 == 0) & (16 <= c) & (c <= GREATEST_CEILING)
+}
+
+// F4: which lengths are allowed under a ceiling.
+fn length_allowed(ceiling: usize, n: usize) -> bool
+    ensures { λ r. ⌜ r ≡ allowed ceiling n ⌝ }
+{
+    (n % 4 == 0) & (8 <= n) & (n <= ceiling)
 }
 
 // F12: what stands at the front of `a` and then `b`.
-pub fn judge(a: &[u8], b: &[u8]) -> Verdict
-    ensures { λ r. ⌜ r ≡ judged (now (a .entry) ++ now (b .entry)) ⌝ }
+pub fn judge(ceiling: usize, a: &[u8], b: &[u8]) -> Verdict
+    ensures { λ r. ⌜ r ≡ judged ceiling (now (a .entry) ++ now (b .entry)) ⌝ }
 {
     let left = a.len() + b.len();
     if left == 0 {
@@ -101,11 +111,11 @@ pub fn judge(a: &[u8], b: &[u8]) -> Verdict
     if left < 8 {
         return Verdict::Undecided;
     }
-    let size = pair_at(a, b, 6);
-    if !length_allowed(size) {
+    let n = pair_at(a, b, 6) as usize;
+    if !length_allowed(ceiling, n) {
+        // Known by eight bytes: a header made of noise does not wait for as many as it says (F17).
         return Verdict::NoFrame(Reason::LengthNotAllowed);
     }
-    let n = size as usize;
     if left < n {
         // And no frame, should the run end here.
         return Verdict::Undecided;
@@ -119,10 +129,10 @@ pub fn judge(a: &[u8], b: &[u8]) -> Verdict
 }
 
 // F13: what stands at the front of the run's last bytes.
-pub fn judge_last(s: &[u8]) -> Verdict
-    ensures { λ r. ⌜ r ≡ judgedLast (now (s .entry)) ⌝ }
+pub fn judge_last(ceiling: usize, s: &[u8]) -> Verdict
+    ensures { λ r. ⌜ r ≡ judgedLast ceiling (now (s .entry)) ⌝ }
 {
-    let v = judge(s, b"");
+    let v = judge(ceiling, s, b"");
     match v {
         Verdict::Undecided => {
             if s.len() < 2 {
@@ -137,11 +147,11 @@ pub fn judge_last(s: &[u8]) -> Verdict
     }
 }
 
-// R10: whether the bytes given are exactly one frame.
+// R10: whether the bytes given are exactly one frame, however long.
 pub fn is_frame(s: &[u8]) -> bool
     ensures { λ r. ⌜ r ≡ wholeFrame (now (s .entry)) ⌝ }
 {
-    let v = judge(s, b"");
+    let v = judge(GREATEST_CEILING, s, b"");
     if let Verdict::Frame(n) = v {
         n == s.len()
     } else {

@@ -41,19 +41,20 @@ module _ (judge : List ℕ → Verdict) where
 
 -- ---- the theorems on one call
 
-stopped : (h piece : List ℕ) (room : ℕ) {o : Option ℕ} → feedLit h piece room .standing ≡ o → Stopped judged o (feedLit h piece room .held)
-stopped h piece room e = subst (λ (o : Option ℕ). Stopped judged o (feedLit h piece room .held)) e (fed-stopped judged piece room h)
+module _ (c : ℕ) where
+  stopped : (h piece : List ℕ) (room : ℕ) {o : Option ℕ} → feedLit c h piece room .standing ≡ o → Stopped (judged c) o (feedLit c h piece room .held)
+  stopped h piece room e = subst (λ (o : Option ℕ). Stopped (judged c) o (feedLit c h piece room .held)) e (fed-stopped (judged c) piece room h)
 
-pub more-decides-all : MoreDecidesAll
-more-decides-all h piece room e = (
-  subst (λ (o : Option ℕ). Took o (feedLit h piece room .taken) (min room (length piece))) e (fed-took judged piece room h),
-  ⊎-elim (λ z. ap judged z ∙ judging .empty) (λ q. q) (stopped h piece room e),
-)
+  pub more-decides-all : MoreDecidesAll c
+  more-decides-all h piece room e = (
+    subst (λ (o : Option ℕ). Took o (feedLit c h piece room .taken) (min room (length piece))) e (fed-took (judged c) piece room h),
+    ⊎-elim (λ z. ap (judged c) z ∙ judging c .empty) (λ q. q) (stopped h piece room e),
+  )
 
-pub block-decides-no-more : BlockDecidesNoMore
-block-decides-no-more =
-    record {
-      stands = λ h piece room n e. stopped h piece room e;
-      held = λ h piece room. fed-holds judged piece room h;
-      least = λ h piece room t l. fed-least judged piece room h t l;
-    }
+  pub block-decides-no-more : BlockDecidesNoMore c
+  block-decides-no-more =
+      record {
+        stands = λ h piece room n e. stopped h piece room e;
+        held = λ h piece room. fed-holds (judged c) piece room h;
+        least = λ h piece room t l. fed-least (judged c) piece room h t l;
+      }

@@ -1,2 +1,3 @@
 pub mod ReadRun
+pub mod Before
 pub mod Theorems

@@ -1,4 +1,5 @@
--- A whole run read from the left (rule F11): the standard that everything else is held to. It cites the frame test alone.
+-- A whole run read from the left with a ceiling (rules F11, F16): the standard that everything else is held to. It cites the frame
+-- test alone.
 -- Assumes nothing.
 use Prim.Native.Nat.{ℕ, zero, suc, _+_, _-_}
 use mathlib.Core.Bool.{Bool, true, false}
@@ -38,12 +39,12 @@ abbrev pub readBy : Bool → ℕ → List ℕ → (ℕ → Reading) → Reading
 readBy true p v go = blockThen (blockAt p (lengthAt v 0) v) (go (lengthAt v 0 - 1))
 readBy false p v go = skipThen p (go 0)
 
--- F11: from the place p on, where the first k bytes belong to the block before
-unfoldable pub readFrom : ℕ → ℕ → List ℕ → Reading
-readFrom p k [] = nothingRead
-readFrom p (suc k) (b ∷ bs) = readFrom (p + 1) k bs
-readFrom p zero (b ∷ bs) = readBy (frameAt (b ∷ bs) 0) p (b ∷ bs) (λ k. readFrom (p + 1) k bs)
+-- F11: with the ceiling c, from the place p on, where the first k bytes belong to the block before
+unfoldable pub readFrom : ℕ → ℕ → ℕ → List ℕ → Reading
+readFrom c p k [] = nothingRead
+readFrom c p (suc k) (b ∷ bs) = readFrom c (p + 1) k bs
+readFrom c p zero (b ∷ bs) = readBy (frameAt c (b ∷ bs) 0) p (b ∷ bs) (λ k. readFrom c (p + 1) k bs)
 
--- F11: a run, whose first place is p and not always 0, so that parts of runs can be spoken of
-unfoldable pub readRun : ℕ → List ℕ → Reading
-readRun p w = readFrom p 0 w
+-- F11: a run read with the ceiling c, whose first place is p and not always 0, so that parts of runs can be spoken of
+unfoldable pub readRun : ℕ → ℕ → List ℕ → Reading
+readRun c p w = readFrom c p 0 w

@@ -274,7 +274,12 @@ fn open() -> OpenAnswer {
     let mut waiting = [0u8; 8192];
     let rows = shipped::table();
     let staged = tables::stage(reader::new(), &mut waiting, &rows);
-    tables::open(staged.state, &mut in_force, &waiting)
+    tables::open(
+        staged.state,
+        reader::default_settings(),
+        &mut in_force,
+        &waiting,
+    )
 }
 
 fn main() {

@@ -18,7 +18,7 @@ wordBar = 32 ∷ 124 ∷ []
 abbrev pub refusedText : ℕ → List ℕ
 refusedText n = wordRefused ++ spaced n
 
--- the state's eight numbers, in REPLAY.md's order
+-- the state's nine numbers, in REPLAY.md's order
 abbrev pub stateText : State → List ℕ
 stateText s =
     wordBar
@@ -28,3 +28,4 @@ stateText s =
     ++ spaced (s .run .held)
     ++ spaced (s .run .standing)
     ++ countsText (s .run .counts)
+    ++ spaced (s .run .settings .ceiling)

@@ -78,21 +78,23 @@ pub fn end_line(out: &mut [u8; 8192], at: usize, c: Counts) -> usize
     text::put(out, words, b"\n")
 }
 
-// The state's eight numbers, behind a bar.
+// The state's nine numbers, behind a bar.
 pub fn state_text(out: &mut [u8; 8192], at: usize, s: State) -> usize
-    requires { ⌜ at + 170 ≤ 8192 ⌝ }
-    ensures { λ r. ⌜ r ≤ at + 170 ⌝ }
+    requires { ⌜ at + 191 ≤ 8192 ⌝ }
+    ensures { λ r. ⌜ r ≤ at + 191 ⌝ }
     ensures { λ r. ⌜ take r (now (out .exit)) ≡ take at (now (out .entry)) ++ stateText s ⌝ }
 {
     let run = s.run;
     let phase = run.phase;
     let sums = run.counts;
+    let settings = run.settings;
     let bar = text::word_number(out, at, b" |", reader::phase_number(phase) as u64);
     let force = text::number(out, bar, s.in_force as u64);
     let waiting = text::number(out, force, s.waiting as u64);
     let held = text::number(out, waiting, run.held as u64);
     let standing = text::number(out, held, run.standing as u64);
-    counts(out, standing, sums)
+    let skipped = counts(out, standing, sums);
+    text::number(out, skipped, settings.ceiling as u64)
 }
 
 // The lines of S11's sample are these.

@@ -5,7 +5,11 @@ ghost use lib.Dec.{T};
 ghost use lib.ListN.{length};
 ghost use Rattle.crc.specs.Crc.{crcOf};
 ghost use Rattle.desk.specs.Plain.{plainly};
+ghost use Rattle.reader.specs.Outcome.{outcome};
+ghost use Rattle.tables.specs.Said.{saidOpened};
+ghost use Rattle.tables.specs.Calls.{openOf};
 ghost use Rattle.play.specs.Turns.{plain};
+ghost use Rattle.play.specs.Opening.{settingsBy};
 
 mod replies; // replies.rt: what a call that may write answered, and Write, as a reply
 
@@ -16,13 +20,16 @@ use desk::PartCrc;
 use desk::RunReply;
 use lists::LineRead;
 use reader::Check;
+use reader::Settings;
 use reader::State;
 use record::Answer;
 use record::Handed;
 use script::Ask;
 use script::Buffer;
+use script::CeilingWord;
 use script::LineCall;
 use script::RunCall;
+use tables::OpenAnswer;
 
 // What a line came to: nothing to print, a bad line, or what its call replied.
 pub enum Turn {
@@ -64,6 +71,24 @@ fn ran(state: State, reply: RunReply) -> Played
     }
 }
 
+// What a run is to go by: an `open` without a number gives the default settings, whatever the state has.
+fn settings_by(word: CeilingWord) -> Settings
+    ensures { λ r. ⌜ r ≡ settingsBy word ⌝ }
+{
+    match word {
+        CeilingWord::Absent => reader::default_settings(),
+        CeilingWord::Given(n) => Settings {
+            ceiling: n as usize,
+        },
+    }
+}
+
+fn open(s: State, word: CeilingWord, force: &mut [u8], waiting: &[u8]) -> OpenAnswer
+    ensures { λ r. ⌜ outcome (saidOpened (r .answer)) (r .state) (now (force .exit)) ≡ openOf s (settingsBy word) (now (force .entry)) (now (waiting .entry)) ⌝ }
+{
+    tables::open(s, settings_by(word), force, waiting)
+}
+
 // A call that may write, on what it is lent of each buffer.
 fn run_on(
     s: State,
@@ -76,8 +101,8 @@ fn run_on(
     ensures { λ r. ⌜ T (plain (r .turn)) ⌝ }
 {
     match run {
-        RunCall::Open => {
-            let r = tables::open(s, force, waiting);
+        RunCall::Open(word) => {
+            let r = open(s, word, force, waiting);
             let answer = r.answer;
             ran(r.state, replies::opened(answer))
         }

@@ -10,6 +10,8 @@ use lib.ListN.{length}
 use lib.Dec.{leb}
 use borrow.Author.Tests.{leb-true}
 use Rattle.wire.proofs.Tests.{both-left, both-right}
+use Rattle.frame.specs.Frame.{ceilingOk}
+use Rattle.frame.proofs.View.{Ceiling, ceilings}
 use Rattle.reader.specs.State.{limit, sound}
 use Rattle.reader.specs.Refusals.{need, longHold, longStore}
 use Rattle.reader.specs.declared.State.{State}
@@ -31,6 +33,7 @@ pub record Facts (s : State) : Type 0 where
   pub taken : s .run .counts .taken ≤ limit
   pub blocks : s .run .counts .blocks ≤ s .run .counts .taken
   pub skipped : s .run .counts .skipped ≤ s .run .counts .taken
+  pub ceiling : Ceiling (s .run .settings .ceiling)
 
 pub facts : (s : State) → sound s ≡ true → Facts s
 unfolding sound
@@ -43,7 +46,9 @@ facts s e =
     let g = leb (s .run .counts .taken) limit in
     let h = leb (s .run .counts .blocks) (s .run .counts .taken) in
     let i = leb (s .run .counts .skipped) (s .run .counts .taken) in
-    let e7 = both-left (a && b && c && d && f && g && h) i e in
+    let k = ceilingOk (s .run .settings .ceiling) in
+    let e8 = both-left (a && b && c && d && f && g && h && i) k e in
+    let e7 = both-left (a && b && c && d && f && g && h) i e8 in
     let e6 = both-left (a && b && c && d && f && g) h e7 in
     let e5 = both-left (a && b && c && d && f) g e6 in
     let e4 = both-left (a && b && c && d) f e5 in
@@ -57,7 +62,8 @@ facts s e =
       waiting = leb-true (s .waiting) 8192 (both-right (a && b && c && d) f e5);
       taken = leb-true (s .run .counts .taken) limit (both-right (a && b && c && d && f) g e6);
       blocks = leb-true (s .run .counts .blocks) (s .run .counts .taken) (both-right (a && b && c && d && f && g) h e7);
-      skipped = leb-true (s .run .counts .skipped) (s .run .counts .taken) (both-right (a && b && c && d && f && g && h) i e);
+      skipped = leb-true (s .run .counts .skipped) (s .run .counts .taken) (both-right (a && b && c && d && f && g && h) i e8);
+      ceiling = ceilings (s .run .settings .ceiling) (both-right (a && b && c && d && f && g && h && i) k e);
     }
 
 -- with a hold or a store that is long enough

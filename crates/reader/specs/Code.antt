@@ -21,9 +21,9 @@ abbrev pub countedBy : Counts → HoldNumbers → Counts
 countedBy c f =
     record { taken = c .taken + f .taken; blocks = c .blocks + oneBy (f .standing); skipped = c .skipped + f .passed .skipped }
 
--- the run goes on in a phase
+-- the run goes on in a phase, by the same settings
 abbrev pub runBy : Phase → Run → HoldNumbers → Run
-runBy x r f = record { phase = x; held = f .held; standing = f .standing; counts = countedBy (r .counts) f }
+runBy x r f = record { phase = x; held = f .held; standing = f .standing; counts = countedBy (r .counts) f; settings = r .settings }
 
 -- the block at the front of the hold
 abbrev pub reportAt : List ℕ → ℕ → ℕ → Report

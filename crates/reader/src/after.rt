@@ -38,11 +38,13 @@ pub fn went_on(r: Run, phase: Phase, f: feed::HoldNumbers) -> Run
     ensures { λ x. ⌜ x ≡ runBy phase r f ⌝ }
 {
     let before = r.counts;
+    let settings = r.settings;
     Run {
         phase,
         held: f.held,
         standing: f.standing,
         counts: counted(before, f),
+        settings,
     }
 }
 

@@ -4,7 +4,7 @@ ghost use mathlib.Core.Path.{_≡_};
 ghost use mathlib.Core.Bool.{_&&_};
 ghost use mathlib.Core.Option.{none};
 ghost use lib.Dec.{leb};
-ghost use Rattle.reader.specs.State.{phaseNumber, noCounts, newState, sound};
+ghost use Rattle.reader.specs.State.{phaseNumber, noCounts, defaultSettings, newState, sound};
 ghost use Rattle.reader.specs.Said.{refusalOf};
 ghost use Rattle.reader.specs.Refusals.{isClosed, need};
 ghost use Rattle.reader.specs.Outcome.{RefusalKeeps};
@@ -34,12 +34,20 @@ pub struct Block {
     pub length: usize,
 }
 
-// A run, open or closed: its phase, how many bytes of the hold count, how many of these are the standing block, and its counts.
+// C17: what Open is given, and a run goes by.
+pub struct Settings {
+    // The greatest length that a block may have (F16); it may be wrong, and is refused then.
+    pub ceiling: usize,
+}
+
+// A run, open or closed: its phase, how many bytes of the hold count, how many of these are the standing block, its counts, and
+// its settings.
 pub struct Run {
     pub phase: Phase,
     pub held: usize,
     pub standing: usize,
     pub counts: Counts,
+    pub settings: Settings,
 }
 
 // A length of 0 means that no table is in force, or that none waits.
@@ -66,6 +74,15 @@ pub fn no_counts() -> Counts
     }
 }
 
+// C15, C17: the settings of a reader that was never opened, with which a run is read as before there were any.
+pub fn default_settings() -> Settings
+    ensures { λ r. ⌜ r ≡ defaultSettings ⌝ }
+{
+    Settings {
+        ceiling: frame::GREATEST_CEILING,
+    }
+}
+
 // C15: a new reader.
 pub fn new() -> State
     ensures { λ r. ⌜ r ≡ newState ⌝ }
@@ -76,6 +93,7 @@ pub fn new() -> State
             held: 0,
             standing: 0,
             counts: no_counts(),
+            settings: default_settings(),
         },
         in_force: 0,
         waiting: 0,
@@ -88,6 +106,7 @@ pub fn is_sound(s: State) -> bool
 {
     let r = s.run;
     let c = r.counts;
+    let x = r.settings;
     (r.held <= 65532)
         & (r.held <= c.taken)
         & (r.standing <= r.held)
@@ -96,6 +115,7 @@ pub fn is_sound(s: State) -> bool
         & (c.taken <= 4294967295)
         & (c.blocks <= c.taken)
         & (c.skipped <= c.taken)
+        & frame::ceiling_ok(x.ceiling)
 }
 
 // R1: the state is sound, and a hold of so many bytes is long enough.

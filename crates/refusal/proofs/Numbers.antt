@@ -2,7 +2,7 @@
 -- Assumes nothing.
 use mathlib.Core.Path.{_≡_, refl, sym, ap, _∙_}
 use Rattle.refusal.specs.declared.Refusal.{Refusal}
-use Rattle.refusal.specs.declared.Refusal.the-variants.{BadBuffer, OutOfTurn, RunFull, BadTable, NoTable, NoRow, TooShort, BadSubBlocks, NoSuchField, NotOneFrame, BadValues, NoRoom}
+use Rattle.refusal.specs.declared.Refusal.the-variants.{BadBuffer, OutOfTurn, RunFull, BadTable, NoTable, NoRow, TooShort, BadSubBlocks, NoSuchField, NotOneFrame, BadValues, NoRoom, BadCeiling}
 use Rattle.refusal.specs.Numbers.{numberFor, refusalNumbered, NumbersApart}
 
 pub back : NumbersApart
@@ -18,6 +18,7 @@ back NoSuchField = refl
 back NotOneFrame = refl
 back BadValues = refl
 back NoRoom = refl
+back BadCeiling = refl
 
 pub same-refusal : (x y : Refusal) → numberFor x ≡ numberFor y → x ≡ y
 same-refusal x y e = back x ∙ ap refusalNumbered e ∙ sym (back y)

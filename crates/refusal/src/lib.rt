@@ -1,4 +1,4 @@
-// Why a call is refused, and the number of each refusal (rules R1 to R12).
+// Why a call is refused, and the number of each refusal (rules R1 to R13).
 ghost use mathlib.Core.Path.{_≡_};
 ghost use Rattle.refusal.specs.Numbers.{numberFor, NumbersApart};
 
@@ -15,6 +15,7 @@ pub enum Refusal {
     NotOneFrame,
     BadValues,
     NoRoom,
+    BadCeiling,
 }
 
 // The number of a refusal.
@@ -34,6 +35,7 @@ pub fn number(x: Refusal) -> u32
         Refusal::NotOneFrame => 10,
         Refusal::BadValues => 11,
         Refusal::NoRoom => 12,
+        Refusal::BadCeiling => 13,
     }
 }
 

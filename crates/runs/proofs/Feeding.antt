@@ -42,12 +42,12 @@ whole-by judge fits none v e = tt
 whole-by judge fits (some n) v e =
     let t : There n v = subst (Fits v) e (fits v) in record { eight = t .eight; there = t .within }
 
-pub fed-whole : (h piece : List ℕ) (room : ℕ) → WholeIf (feedLit h piece room .standing) (feedLit h piece room .held)
-fed-whole h piece room =
-    whole-by judged (judging .fits) (feedLit h piece room .standing) (feedLit h piece room .held) (fed-stopped judged piece room h)
+pub fed-whole : (c : ℕ) (h piece : List ℕ) (room : ℕ) → WholeIf (feedLit c h piece room .standing) (feedLit c h piece room .held)
+fed-whole c h piece room =
+    whole-by (judged c) (judging c .fits) (feedLit c h piece room .standing) (feedLit c h piece room .held) (fed-stopped (judged c) piece room h)
 
-pub end-whole : (h : List ℕ) → WholeIf (settle judgedLast h .standing) (settle judgedLast h .rest)
-end-whole h = whole-by judgedLast last-fits (settle judgedLast h .standing) (settle judgedLast h .rest) (settle-stopped judgedLast h)
+pub end-whole : (c : ℕ) (h : List ℕ) → WholeIf (settle (judgedLast c) h .standing) (settle (judgedLast c) h .rest)
+end-whole c h = whole-by (judgedLast c) (last-fits c) (settle (judgedLast c) h .standing) (settle (judgedLast c) h .rest) (settle-stopped (judgedLast c) h)
 
 -- ---- a length of 0 says that none stands
 
@@ -81,6 +81,7 @@ run-on x r f w =
       held = length (f .held);
       standing = size (f .standing);
       counts = record { taken = r .counts .taken + f .taken; blocks = r .counts .blocks + b; skipped = r .counts .skipped + s };
+      settings = r .settings;
     })
     (one-is (f .standing) (f .held) w) (passedOf-skipped (f .passed))
 
@@ -111,8 +112,8 @@ few-by n F f k e =
     let c = ap (λ (x : HoldNumbers). x .passed .skipped) e ∙ passedOf-skipped (F .passed) in
     record { held = omega arith; skipped = omega arith }
 
-pub fed-few : (h piece : List ℕ) (room : ℕ) (f : HoldNumbers) → f ≡ numbersOf (feedLit h piece room) → Few (length h) f
-fed-few h piece room f e = few-by (length h) (feedLit h piece room) f (call judged (judging .fits) h piece room .sum) e
+pub fed-few : (c : ℕ) (h piece : List ℕ) (room : ℕ) (f : HoldNumbers) → f ≡ numbersOf (feedLit c h piece room) → Few (length h) f
+fed-few c h piece room f e = few-by (length h) (feedLit c h piece room) f (call (judged c) (judging c .fits) h piece room .sum) e
 
-pub end-few : (h : List ℕ) (f : HoldNumbers) → f ≡ numbersOf (stop (settle judgedLast h)) → Few (length h) f
-end-few h f e = few-by (length h) (stop (settle judgedLast h)) f (settle-sum judgedLast h) e
+pub end-few : (c : ℕ) (h : List ℕ) (f : HoldNumbers) → f ≡ numbersOf (stop (settle (judgedLast c) h)) → Few (length h) f
+end-few c h f e = few-by (length h) (stop (settle (judgedLast c) h)) f (settle-sum (judgedLast c) h) e

@@ -21,6 +21,6 @@ has-by none v w = refl
 has-by (some n) v w = lt-ltb 0 n (omega (arith, w .eight))
 
 -- a length over 0 says that one stands
-pub gives : (h : List ℕ) (x : Scanned) → x ≡ scannedOf (feedLit h [] (length {A = ℕ} [])) → ltb 0 (x .block) ≡ isSome (settle judged h .standing)
+pub gives : (c : ℕ) (h : List ℕ) (x : Scanned) → x ≡ scannedOf (feedLit c h [] (length {A = ℕ} [])) → ltb 0 (x .block) ≡ isSome (settle (judged c) h .standing)
 unfolding feedBy
-gives h x e = ap (λ (y : Scanned). ltb 0 (y .block)) e ∙ has-by (settle judged h .standing) (settle judged h .rest) (fed-whole h [] 0)
+gives c h x e = ap (λ (y : Scanned). ltb 0 (y .block)) e ∙ has-by (settle (judged c) h .standing) (settle (judged c) h .rest) (fed-whole c h [] 0)

@@ -9,7 +9,7 @@ use Rattle.frame.specs.Judge.{judgedLast}
 use Rattle.scan.specs.Settle.{settle}
 use Rattle.scan.specs.Feed.{Intake, feedLit, stop, size}
 use Rattle.feed.specs.Hold.{restOf, holdOf}
-use Rattle.reader.specs.State.{limit}
+use Rattle.reader.specs.State.{limit, ceilingOf}
 use Rattle.reader.specs.Said.{Report, Said, took, found, ended}
 use Rattle.reader.specs.Counting.{counted, withRun}
 use Rattle.reader.specs.Outcome.{Outcome, unless, partUnless}
@@ -33,9 +33,11 @@ abbrev pub reportIf : Option ℕ → ℕ → List ℕ → Option Report
 reportIf none p v = none
 reportIf (some n) p v = some (reported p n v)
 
--- the run goes on in a phase by what a call did: how many bytes are held, how many of these are the block, and the counts
+-- the run goes on in a phase by what a call did: how many bytes are held, how many of these are the block, and the counts; and by the
+-- same settings (C17)
 abbrev pub runOn : Phase → Run → Intake → Run
-runOn x r f = record { phase = x; held = length (f .held); standing = size (f .standing); counts = counted (r .counts) f }
+runOn x r f =
+    record { phase = x; held = length (f .held); standing = size (f .standing); counts = counted (r .counts) f; settings = r .settings }
 
 -- C7: what Feed answers and leaves, by its intake
 abbrev pub feedingBy : Intake → State → List ℕ → Outcome
@@ -46,9 +48,9 @@ feedingBy f s hold =
       lent = holdOf f hold;
     }
 
--- C6: the intake; the room is what the limit leaves
+-- C6: the intake, by the run's ceiling; the room is what the limit leaves
 unfoldable pub feedingOf : State → List ℕ → List ℕ → Intake
-feedingOf s hold piece = feedLit (restOf hold (s .run .held) (s .run .standing)) piece (limit - s .run .counts .taken)
+feedingOf s hold piece = feedLit (ceilingOf s) (restOf hold (s .run .held) (s .run .standing)) piece (limit - s .run .counts .taken)
 
 -- C6, C7, R21: Feed
 unfoldable pub feedOf : State → List ℕ → List ℕ → Outcome
@@ -72,7 +74,7 @@ finishingBy f s hold =
 
 -- C8, F13: no byte is taken, and no place waits
 unfoldable pub finishingOf : State → List ℕ → Intake
-finishingOf s hold = stop (settle judgedLast (restOf hold (s .run .held) (s .run .standing)))
+finishingOf s hold = stop (settle (judgedLast (ceilingOf s)) (restOf hold (s .run .held) (s .run .standing)))
 
 -- C8, R21: Finish
 unfoldable pub finishOf : State → List ℕ → Outcome

@@ -10,7 +10,7 @@ use Rattle.frame.specs.Judge.{judged}
 use Rattle.scan.specs.Settle.{settle}
 use Rattle.feed.specs.Hold.{restOf}
 pub use Rattle.table.specs.Lists.{isSome}
-use Rattle.reader.specs.State.{limit, sound}
+use Rattle.reader.specs.State.{limit, ceilingOf, sound}
 use Rattle.reader.specs.Refusals.{need, isClosed, longHold}
 use Rattle.reader.specs.declared.Phase.{Phase}
 use Rattle.reader.specs.declared.Phase.the-variants.{Closed, Feeding, Finishing}
@@ -22,12 +22,12 @@ isFeeding Closed = false
 isFeeding Feeding = true
 isFeeding Finishing = false
 
--- R20: 1, 2, 3; what R3 asks of the held bytes, it asks without the standing block
+-- R20: 1, 2, 3; what R3 asks of the held bytes, it asks without the standing block and with the run's ceiling
 unfoldable pub feedRefusal : State → List ℕ → List ℕ → Option ℕ
 feedRefusal s hold piece =
     need (sound s && longHold hold) 1
     (need (isFeeding (s .run .phase)) 2
-    (need (ltb (s .run .counts .taken) limit || (eqb (length piece) 0 || isSome (settle judged (restOf hold (s .run .held) (s .run .standing)) .standing))) 3 none))
+    (need (ltb (s .run .counts .taken) limit || (eqb (length piece) 0 || isSome (settle (judged (ceilingOf s)) (restOf hold (s .run .held) (s .run .standing)) .standing))) 3 none))
 
 -- R20: 1, 2
 unfoldable pub finishRefusal : State → List ℕ → Option ℕ

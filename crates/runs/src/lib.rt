@@ -48,8 +48,9 @@ fn feed_on(s: State, hold: &mut [u8], piece: &[u8]) -> FeedAnswer
     let run = s.run;
     let held = run.held;
     let standing = run.standing;
+    let settings = run.settings;
     let room = 4294967295 - run.counts.taken;
-    let f = feed::feed(hold, held, standing, piece, room);
+    let f = feed::feed(settings.ceiling, hold, held, standing, piece, room);
     let taken = f.taken;
     let len = f.standing;
     let next = after::went_on(run, Phase::Feeding, f);
@@ -88,7 +89,8 @@ fn finish_on(s: State, hold: &mut [u8]) -> FinishAnswer
     let run = s.run;
     let held = run.held;
     let standing = run.standing;
-    let f = feed::finish(hold, held, standing);
+    let settings = run.settings;
+    let f = feed::finish(settings.ceiling, hold, held, standing);
     let len = f.standing;
     let next = after::went_on(run, after::phase_after(len), f);
     let state = after::with_run(s, next);

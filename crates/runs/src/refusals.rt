@@ -24,11 +24,11 @@ fn is_feeding(p: Phase) -> bool
 }
 
 // Whether the held bytes, without the standing block, give a block.
-fn gives_block(hold: &[u8], held: usize, standing: usize) -> bool
+fn gives_block(ceiling: usize, hold: &[u8], held: usize, standing: usize) -> bool
     requires { ⌜ (standing ≤ held) × (held ≤ length (now hold)) ⌝ }
-    ensures { λ r. ⌜ r ≡ isSome (settle judged (restOf (now (hold .entry)) held standing) .standing) ⌝ }
+    ensures { λ r. ⌜ r ≡ isSome (settle (judged ceiling) (restOf (now (hold .entry)) held standing) .standing) ⌝ }
 {
-    let found = scan::scan(&hold[standing..held], b"");
+    let found = scan::scan(ceiling, &hold[standing..held], b"");
     0 < found.block
 }
 
@@ -49,7 +49,8 @@ pub fn of_feed(s: State, hold: &[u8], piece: usize) -> Check
     }
     let held = run.held;
     let standing = run.standing;
-    if gives_block(hold, held, standing) {
+    let settings = run.settings;
+    if gives_block(settings.ceiling, hold, held, standing) {
         Check::Passed
     } else {
         Check::Refused(Refusal::RunFull)

@@ -5,7 +5,7 @@ use mathlib.Core.List.{flatMap}
 use Rattle.table.specs.Rows.{firstRows, secondRows}
 use Rattle.crc.specs.Crc.{crcOf, crcFrom, crcByte, crcBits8, crcBit}
 use Rattle.wire.specs.Little.{littleAt}
-use Rattle.frame.specs.Frame.{syncAt, allowed, endsWithin, crcRight, frameAt, wholeFrame}
+use Rattle.frame.specs.Frame.{syncAt, ceilingOk, allowed, endsWithin, crcRight, frameAt, wholeFrame}
 use Rattle.frame.specs.Judge.{judged, judgedLast}
 use Rattle.scan.specs.Settle.{settle}
 use Rattle.scan.specs.Feed.{feedBy}
@@ -42,5 +42,5 @@ pub record Computed : Type 0 where
   pub story : replayed flight ≡ flight
 
 pub computed : Computed
-unfolding crcOf crcFrom crcByte crcBits8 crcBit littleAt syncAt allowed endsWithin crcRight frameAt wholeFrame judged judgedLast settle feedBy countAll restOf tabulate every chain neighbours firstThat pick sizeOf markFits fieldAt rowFrom rowAt rowsOf blockOf decode fileOk indexOk usedFields formOk risingOk isPair fieldsOk firstRows secondRows shapeOk blockOk meaningOk tableOk findRow withSign readAs isDoNotUse valueOf fieldValue bodyFits oneFits subsFit nestOf seenRow seen seenSubRow seenSub fieldSaid bodyField subSlice subField subBlock subBlockRefusal stamp sound openRefusal feedRefusal finishRefusal bytesRefusal stageRefusal withdrawRefusal openOf feedingOf feedOf finishingOf finishOf bytesOf stageOf withdrawOf askRefusal bodyOf subOf subBytesOf subBytesRefusal stampOf littleBytes unsetOf bitsFor bitsOf wantedOk listOk stampsOk bodyOk subsOk draftOk lastEnd sbLengthBy blockEndBy roomFor laid bodyValues stampsAndBody subsPart unsealedBlock blockBytes writtenBy writtenOf writeOf flatMap step trace newWorld replayed
+unfolding crcOf crcFrom crcByte crcBits8 crcBit littleAt syncAt ceilingOk allowed endsWithin crcRight frameAt wholeFrame judged judgedLast settle feedBy countAll restOf tabulate every chain neighbours firstThat pick sizeOf markFits fieldAt rowFrom rowAt rowsOf blockOf decode fileOk indexOk usedFields formOk risingOk isPair fieldsOk firstRows secondRows shapeOk blockOk meaningOk tableOk findRow withSign readAs isDoNotUse valueOf fieldValue bodyFits oneFits subsFit nestOf seenRow seen seenSubRow seenSub fieldSaid bodyField subSlice subField subBlock subBlockRefusal stamp sound openRefusal feedRefusal finishRefusal bytesRefusal stageRefusal withdrawRefusal openOf feedingOf feedOf finishingOf finishOf bytesOf stageOf withdrawOf askRefusal bodyOf subOf subBytesOf subBytesRefusal stampOf littleBytes unsetOf bitsFor bitsOf wantedOk listOk stampsOk bodyOk subsOk draftOk lastEnd sbLengthBy blockEndBy roomFor laid bodyValues stampsAndBody subsPart unsealedBlock blockBytes writtenBy writtenOf writeOf flatMap step trace newWorld replayed
 computed = record { samples = refl; story = refl }

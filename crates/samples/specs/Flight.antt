@@ -8,6 +8,7 @@ use mathlib.Core.Option.{Option, none, some}
 use Rattle.wire.specs.Little.{littleAt}
 use Rattle.table.specs.Lists.{pick}
 use Rattle.record.specs.Answer.{single}
+use Rattle.reader.specs.State.{defaultSettings}
 use Rattle.demands.specs.World.{stage, bytes, body, openRun, feed, finish, table, look, Reply, part, value, Line, _⇒_}
 use Rattle.samples.specs.Transcript.{Transcript, replayed, versionIs, blockIs, endIs, report}
 
@@ -81,7 +82,7 @@ abbrev pub flight : Transcript
 flight =
     -- 0 to 3: the line is opened with the table without the row, and an attitude comes
     table (stage withoutReserved) ⇒ versionIs 1
-    ∷ openRun ⇒ versionIs 1
+    ∷ openRun defaultSettings ⇒ versionIs 1
     ∷ feed attitude ⇒ blockIs 44 (report 0 5938 0 44)
     ∷ look bytes ⇒ part none attitude
     -- 4: field 5 is roll
@@ -90,7 +91,7 @@ flight =
     ∷ table (stage withReserved) ⇒ versionIs 2 ∷ look (body attitude 5) ⇒ value (single roll)
     -- 7 to 9: the line ends; the next is opened with the release, and the same attitude comes
     ∷ finish ⇒ endIs 44 1 0
-    ∷ openRun ⇒ versionIs 2
+    ∷ openRun defaultSettings ⇒ versionIs 2
     ∷ feed attitude ⇒ blockIs 44 (report 0 5938 0 44)
     -- 10: now field 5 is pitch
     ∷ look (body attitude 5) ⇒ value (single pitch)

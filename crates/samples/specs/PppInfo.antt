@@ -18,6 +18,7 @@ use Rattle.record.specs.Calls.{bodyField}
 use Rattle.entry.specs.Wanted.{Wanted}
 use Rattle.entry.specs.Bits.{bitsOf}
 use Rattle.draft.specs.Draft.{Draft}
+use Rattle.frame.specs.Frame.{greatestCeiling}
 use Rattle.writer.specs.Write.{WriteOutcome, refusesWrite, writtenOf}
 
 -- PVTCartesian of revision 1, which ends with PPPInfo: two bytes of the CRC, two of PPPInfo, and 0 in all its other fields
@@ -80,7 +81,7 @@ abbrev pub short : List ℕ
 short = replicate 87 7
 
 abbrev pub infoWritten : Wanted → WriteOutcome
-infoWritten w = writtenOf shipped (draftWith w) short
+infoWritten w = writtenOf greatestCeiling shipped (draftWith w) short
 
 pub record PppInfoHolds : Type 0 where
   pub row : field21 (findRow shipped 4006) ≡ some pppInfoRow

@@ -1,4 +1,4 @@
--- The samples S1 to S10, and the bytes of S11, as one table of cases; and blocks of S8 and S9 written by Write.
+-- The samples S1 to S10 and S14, and the bytes of S11, as one table of cases; and blocks of S8 and S9 written by Write.
 -- Each case is a transcript of calls on a new reader. To add one, add its lines to `cases`.
 -- Assumes nothing.
 use Prim.Native.Nat.{ℕ}
@@ -9,8 +9,8 @@ use lib.ListN.{replicate}
 use Rattle.record.specs.Answer.{single, unsigned, doNotUse}
 use Rattle.entry.specs.Wanted.{Wanted}
 use Rattle.draft.specs.Draft.{Draft}
-use Rattle.demands.specs.World.{stage, bytes, body, sub, subBytes, tow, wnc, write, openRun, feed, finish, table, look, part, value, _⇒_}
-use Rattle.samples.specs.Transcript.{Transcript, replayed, versionIs, moreIs, blockIs, foundIs, endIs, refusalIs, wroteIs, unwrittenIs, report}
+use Rattle.demands.specs.World.{stage, bytes, body, sub, subBytes, tow, wnc, write, Call, openRun, feed, finish, table, look, part, value, _⇒_}
+use Rattle.samples.specs.Transcript.{Transcript, replayed, versionIs, refusedIs, moreIs, blockIs, foundIs, endIs, refusalIs, wroteIs, unwrittenIs, report}
 use Rattle.answers.specs.Samples.{sampleB, twelve}
 
 -- S3
@@ -37,6 +37,10 @@ length9 = 0x24 ∷ 0x40 ∷ 0x91 ∷ 0x9E ∷ 0x00 ∷ 0x00 ∷ 0x09 ∷ 0x00 �
 -- S7: a header with L = 20, and then S2's bytes
 abbrev pub sampleG : List ℕ
 sampleG = 0x24 ∷ 0x40 ∷ 0x00 ∷ 0x00 ∷ 0x00 ∷ 0x00 ∷ 0x14 ∷ 0x00 ∷ sampleB
+
+-- S14: a header with L = 60,000, and then S2's bytes
+abbrev pub falseHeader : List ℕ
+falseHeader = 0x24 ∷ 0x40 ∷ 0x00 ∷ 0x00 ∷ 0x00 ∷ 0x00 ∷ 0x60 ∷ 0xEA ∷ sampleB
 
 -- the table that is read by: one row, for number 0
 abbrev pub sampleFile : List ℕ
@@ -71,9 +75,16 @@ draftOfBody number ws =
 abbrev pub nearMarks : List Wanted
 nearMarks = some (unsigned 65534) ∷ some (single 0xD09502F8) ∷ []
 
--- each case begins on a new reader, whose first run is opened with the table
+-- Open with a ceiling
+abbrev pub openBy : ℕ → Call
+openBy c = openRun (record { ceiling = c })
+
+-- each case begins on a new reader, whose first run is opened with the table, with a ceiling or with 65,532
+abbrev pub under : ℕ → Transcript → Transcript
+under c rest = table (stage sampleFile) ⇒ versionIs 1 ∷ openBy c ⇒ versionIs 1 ∷ rest
+
 abbrev pub run : Transcript → Transcript
-run rest = table (stage sampleFile) ⇒ versionIs 1 ∷ openRun ⇒ versionIs 1 ∷ rest
+run rest = under 65532 rest
 
 abbrev pub cases : List Transcript
 cases =
@@ -115,6 +126,23 @@ cases =
     ∷ run (look (write (draftOfBody 1 []) (replicate 20 7)) ⇒ unwrittenIs 6 (replicate 20 7) ∷ [])
     ∷ run (look (write (draftOfBody 0 (some (unsigned 65535) ∷ [])) (replicate 19 7)) ⇒ unwrittenIs 11 (replicate 19 7) ∷ [])
     ∷ run (look (write (draftOfBody 0 []) (replicate 19 7)) ⇒ unwrittenIs 12 (replicate 19 7) ∷ [])
+    -- S14: a false header, without a ceiling and with one
+    ∷ run (feed falseHeader ⇒ moreIs 16 ∷ finish ⇒ foundIs (report 8 0 0 8) ∷ finish ⇒ endIs 16 1 8 ∷ [])
+    ∷ under 4096 (feed falseHeader ⇒ blockIs 16 (report 8 0 0 8) ∷ look bytes ⇒ part none sampleB ∷ finish ⇒ endIs 16 1 8 ∷ [])
+    -- F16: a block as long as the ceiling is one, and one that is longer is not; a record call reads both, and Write makes the first
+    ∷ under 20 (feed noneMarked ⇒ blockIs 20 (report 0 0 0 20) ∷ look (write (draftOfBody 0 []) (replicate 20 7)) ⇒ wroteIs 20 allMarked ∷ [])
+    ∷ under 16 (feed noneMarked ⇒ moreIs 20 ∷ look (body noneMarked 0) ⇒ value (unsigned 65534) ∷ finish ⇒ endIs 20 0 20 ∷ [])
+    -- R12: the ceiling stays after End, until the next Open
+    ∷ under 16
+    (finish ⇒ endIs 0 0 0
+    ∷ look (write (draftOfBody 0 []) (replicate 20 7)) ⇒ unwrittenIs 12 (replicate 20 7)
+    ∷ openBy 65532 ⇒ versionIs 1
+    ∷ look (write (draftOfBody 0 []) (replicate 20 7)) ⇒ wroteIs 20 allMarked
+    ∷ [])
+    -- R13: no ceilings, and the least and the greatest one; 13 after 2 and before 5
+    ∷ run (openBy 65536 ⇒ refusedIs 2 ∷ [])
+    ∷ (openBy 8 ⇒ refusedIs 13 ∷ openBy 12 ⇒ refusedIs 13 ∷ openBy 65533 ⇒ refusedIs 13 ∷ openBy 65536 ⇒ refusedIs 13 ∷ openBy 18 ⇒ refusedIs 13 ∷ [])
+    ∷ (openBy 16 ⇒ refusedIs 5 ∷ openBy 65532 ⇒ refusedIs 5 ∷ [])
     ∷ []
 
 abbrev pub SamplesHold : Type 0

@@ -5,7 +5,7 @@ use mathlib.Core.List.{List, map}
 use mathlib.Core.Option.{none, some}
 use lib.ListN.{replicate}
 use Rattle.record.specs.Answer.{fieldRefused}
-use Rattle.reader.specs.Said.{Report, version, took, found, ended}
+use Rattle.reader.specs.Said.{Report, refused, version, took, found, ended}
 use Rattle.reader.specs.State.{newState}
 use Rattle.writer.specs.Write.{wrote, writeOutcome, refusesWrite}
 use Rattle.demands.specs.World.{World, Reply, said, value, penned, Line, trace}
@@ -24,6 +24,10 @@ replayed t = trace (map (λ (x : Line). x .call) t) newWorld
 -- C5, C10: Open and Stage answer a version
 abbrev pub versionIs : ℕ → Reply
 versionIs v = said (version v)
+
+-- R21: a call that goes on with the state is refused
+abbrev pub refusedIs : ℕ → Reply
+refusedIs n = said (refused n)
 
 -- C7: Feed answers More
 abbrev pub moreIs : ℕ → Reply

@@ -43,7 +43,7 @@ module _ (judge : List ℕ → Verdict) (s : List ℕ) (k : ℕ) where
 
 -- ---- where no sync pair stands
 
-module _ (s rest : List ℕ) (k : ℕ) (l : k < length s) where
+module _ (c : ℕ) (s rest : List ℕ) (k : ℕ) (l : k < length s) where
   long : length (drop k s ++ rest) ≡ length s - k + length rest
   long = length-append (drop k s) rest ∙ ap (λ (x : ℕ). x + length rest) (length-drop k s)
 
@@ -53,48 +53,48 @@ module _ (s rest : List ℕ) (k : ℕ) (l : k < length s) where
   second : k + 1 < length s → getD (drop k s ++ rest) 1 0 ≡ getD s (k + 1) 0
   second m = List·getD-append (drop k s) rest 0 1 (omega (arith, length-drop k s)) ∙ byte s k 1
 
-  no-sync : (getD s k 0 ≡ 0x24 → (k + 1 < length s) × (getD s (k + 1) 0 ≡ 0x40 → ⊥)) → judged (drop k s ++ rest) ≡ NoFrame NoSync
+  no-sync : (getD s k 0 ≡ 0x24 → (k + 1 < length s) × (getD s (k + 1) 0 ≡ 0x40 → ⊥)) → judged c (drop k s ++ rest) ≡ NoFrame NoSync
   no-sync h =
       eq? (getD s k 0) 0x24
       (λ e.
       let g = h e in
-      sync1 (drop k s ++ rest) (omega (arith, long, g .0)) (first ∙ e) (λ f. g .1 (sym (second (g .0)) ∙ f)))
-      (λ n. sync0 (drop k s ++ rest) (omega (arith, long)) (λ f. n (sym first ∙ f)))
+      sync1 c (drop k s ++ rest) (omega (arith, long, g .0)) (first ∙ e) (λ f. g .1 (sym (second (g .0)) ∙ f)))
+      (λ n. sync0 c (drop k s ++ rest) (omega (arith, long)) (λ f. n (sym first ∙ f)))
 
 -- ---- the places of a part
 
-module _ (s rest : List ℕ) where
+module _ (c : ℕ) (s rest : List ℕ) where
   -- those from k on, where a was passed before
   abbrev pub fromPlace : ℕ → Passed → ℕ → Stretch
-  fromPlace k a m = stretchOf (settle (withRest judged rest) (drop k s)) a m
+  fromPlace k a m = stretchOf (settle (withRest (judged c) rest) (drop k s)) a m
 
-  pub part-stop : (k : ℕ) (a : Passed) (m : ℕ) {x : Verdict} → k < length s → judged (drop k s ++ rest) ≡ x
-      → fromPlace k a m ≡ stretchOf (settleBy x (drop k s) (settle (withRest judged rest) (drop (k + 1) s))) a m
-  part-stop k a m l e = ap (λ (y : Settled). stretchOf y a m) (at-by (withRest judged rest) s k l e)
+  pub part-stop : (k : ℕ) (a : Passed) (m : ℕ) {x : Verdict} → k < length s → judged c (drop k s ++ rest) ≡ x
+      → fromPlace k a m ≡ stretchOf (settleBy x (drop k s) (settle (withRest (judged c) rest) (drop (k + 1) s))) a m
+  part-stop k a m l e = ap (λ (y : Settled). stretchOf y a m) (at-by (withRest (judged c) rest) s k l e)
 
   -- a place that is not decided has a byte
   waits-by : (v : List ℕ) (a : Passed) (m : ℕ) → 0 < length v → stretchBy none v a m ≡ Waits a
   waits-by [] a m l = let f : ⊥ = omega arith in absurd f
   waits-by (b ∷ bs) a m l = refl
 
-  pub part-frame : (k : ℕ) (a : Passed) (m n : ℕ) → k < length s → judged (drop k s ++ rest) ≡ Frame n → fromPlace k a m ≡ Block a n (max m (a .skipped + n))
+  pub part-frame : (k : ℕ) (a : Passed) (m n : ℕ) → k < length s → judged c (drop k s ++ rest) ≡ Frame n → fromPlace k a m ≡ Block a n (max m (a .skipped + n))
   unfolding countAll needed
   part-frame k a m n l e = part-stop k a m l e
 
-  pub part-waits : (k : ℕ) (a : Passed) (m : ℕ) → k < length s → judged (drop k s ++ rest) ≡ Undecided → fromPlace k a m ≡ Waits a
+  pub part-waits : (k : ℕ) (a : Passed) (m : ℕ) → k < length s → judged c (drop k s ++ rest) ≡ Undecided → fromPlace k a m ≡ Waits a
   unfolding countAll needed
   part-waits k a m l e = part-stop k a m l e ∙ waits-by (drop k s) a m (omega (arith, length-drop k s))
 
-  pub part-pass : (k : ℕ) (a : Passed) (m : ℕ) (r : Reason) → k < length s → judged (drop k s ++ rest) ≡ NoFrame r
+  pub part-pass : (k : ℕ) (a : Passed) (m : ℕ) (r : Reason) → k < length s → judged c (drop k s ++ rest) ≡ NoFrame r
       → fromPlace k a m ≡ fromPlace (k + 1) (count a r) (raised r (a .skipped) m)
   unfolding countAll needed
   part-pass k a m r l e = part-stop k a m l e
 
   pub part-end : (k : ℕ) (a : Passed) (m : ℕ) → length s ≤ k → fromPlace k a m ≡ Through a m
   unfolding countAll needed
-  part-end k a m h = ap (λ (y : Settled). stretchOf y a m) (none-left (withRest judged rest) (drop k s) (drop-of-length-le s h))
+  part-end k a m h = ap (λ (y : Settled). stretchOf y a m) (none-left (withRest (judged c) rest) (drop k s) (drop-of-length-le s h))
 
-  skip-by : (d k q : ℕ) (a : Passed) (m : ℕ) → k + d ≡ q → q ≤ length s → ((i : ℕ) → k ≤ i → i < q → judged (drop i s ++ rest) ≡ NoFrame NoSync)
+  skip-by : (d k q : ℕ) (a : Passed) (m : ℕ) → k + d ≡ q → q ≤ length s → ((i : ℕ) → k ≤ i → i < q → judged c (drop i s ++ rest) ≡ NoFrame NoSync)
       → fromPlace k a m ≡ fromPlace q (countAll a (replicate d NoSync)) m
   unfolding countAll
   skip-by zero k q a m e h n = let f : k ≡ q = omega arith in ap (λ (i : ℕ). fromPlace i a m) f
@@ -106,7 +106,7 @@ module _ (s rest : List ℕ) where
   pub skip-run : (k q : ℕ) (a : Passed) (m : ℕ) → NoStart s k q → fromPlace k a m ≡ fromPlace q (countAll a (replicate (q - k) NoSync)) m
   skip-run k q a m h =
       skip-by (q - k) k q a m (omega (arith, h .from)) (h .within)
-      (λ i lo hi. no-sync s rest i (omega (arith, h .within)) (h .none i lo hi))
+      (λ i lo hi. no-sync c s rest i (omega (arith, h .within)) (h .none i lo hi))
 
 -- ---- the places of the run's last bytes
 
@@ -114,24 +114,24 @@ module _ (s rest : List ℕ) where
 abbrev pub endOf : Settled → Passed → Scanned
 endOf s a = record { taken = 0; passed = countAll a (s .passed); block = size (s .standing) }
 
-module _ (s : List ℕ) where
+module _ (c : ℕ) (s : List ℕ) where
   -- those from k on
   abbrev pub fromEnd : ℕ → Passed → Scanned
-  fromEnd k a = endOf (settle judgedLast (drop k s)) a
+  fromEnd k a = endOf (settle (judgedLast c) (drop k s)) a
 
-  pub end-frame : (k : ℕ) (a : Passed) (n : ℕ) → k < length s → judgedLast (drop k s) ≡ Frame n → fromEnd k a ≡ record { taken = 0; passed = a; block = n }
+  pub end-frame : (k : ℕ) (a : Passed) (n : ℕ) → k < length s → judgedLast c (drop k s) ≡ Frame n → fromEnd k a ≡ record { taken = 0; passed = a; block = n }
   unfolding countAll
-  end-frame k a n l e = ap (λ (y : Settled). endOf y a) (at-by judgedLast s k l e)
+  end-frame k a n l e = ap (λ (y : Settled). endOf y a) (at-by (judgedLast c) s k l e)
 
-  pub end-pass : (k : ℕ) (a : Passed) (r : Reason) → k < length s → judgedLast (drop k s) ≡ NoFrame r → fromEnd k a ≡ fromEnd (k + 1) (count a r)
+  pub end-pass : (k : ℕ) (a : Passed) (r : Reason) → k < length s → judgedLast c (drop k s) ≡ NoFrame r → fromEnd k a ≡ fromEnd (k + 1) (count a r)
   unfolding countAll
-  end-pass k a r l e = ap (λ (y : Settled). endOf y a) (at-by judgedLast s k l e)
+  end-pass k a r l e = ap (λ (y : Settled). endOf y a) (at-by (judgedLast c) s k l e)
 
   pub end-end : (k : ℕ) (a : Passed) → length s ≤ k → fromEnd k a ≡ record { taken = 0; passed = a; block = 0 }
   unfolding countAll
-  end-end k a h = ap (λ (y : Settled). endOf y a) (none-left judgedLast (drop k s) (drop-of-length-le s h))
+  end-end k a h = ap (λ (y : Settled). endOf y a) (none-left (judgedLast c) (drop k s) (drop-of-length-le s h))
 
-  end-skip-by : (d k q : ℕ) (a : Passed) → k + d ≡ q → q ≤ length s → ((i : ℕ) → k ≤ i → i < q → judgedLast (drop i s) ≡ NoFrame NoSync)
+  end-skip-by : (d k q : ℕ) (a : Passed) → k + d ≡ q → q ≤ length s → ((i : ℕ) → k ≤ i → i < q → judgedLast c (drop i s) ≡ NoFrame NoSync)
       → fromEnd k a ≡ fromEnd q (countAll a (replicate d NoSync))
   unfolding countAll
   end-skip-by zero k q a e h n = let f : k ≡ q = omega arith in ap (λ (i : ℕ). fromEnd i a) f
@@ -139,7 +139,7 @@ module _ (s : List ℕ) where
       end-pass k a NoSync (omega arith) (n k (omega arith) (omega arith))
       ∙ end-skip-by d (k + 1) q (count a NoSync) (omega arith) h (λ i lo hi. n i (omega arith) hi)
 
-  last-no-sync : (v : List ℕ) → judged v ≡ NoFrame NoSync → judgedLast v ≡ NoFrame NoSync
+  last-no-sync : (v : List ℕ) → judged c v ≡ NoFrame NoSync → judgedLast c v ≡ NoFrame NoSync
   unfolding judgedLast
   last-no-sync v e = ap (λ (x : Verdict). lastBy x v) e
 
@@ -147,4 +147,4 @@ module _ (s : List ℕ) where
   end-skip k q a h =
       end-skip-by (q - k) k q a (omega (arith, h .from)) (h .within)
       (λ i lo hi.
-      last-no-sync (drop i s) (ap judged (sym (append-nil (drop i s))) ∙ no-sync s [] i (omega (arith, h .within)) (h .none i lo hi)))
+      last-no-sync (drop i s) (ap (judged c) (sym (append-nil (drop i s))) ∙ no-sync c s [] i (omega (arith, h .within)) (h .none i lo hi)))

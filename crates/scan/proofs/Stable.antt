@@ -23,7 +23,7 @@ use Rattle.scan.proofs.Judging.{FitsFor, Fits, bytesNeeded, Judging}
 
 -- ---- what is read of the first bytes is read of them with more behind
 
-module _ (xs ys : List ℕ) where
+module _ (c : ℕ) (xs ys : List ℕ) where
   long : length (xs ++ ys) ≡ length xs + length ys
   long = length-append xs ys
 
@@ -37,8 +37,8 @@ module _ (xs ys : List ℕ) where
     length-same : lengthAt (xs ++ ys) 0 ≡ lengthAt xs 0
     length-same = two 6 (h .eight)
 
-    allowed-same : {b : Bool} → allowed (lengthAt xs 0) ≡ b → allowed (lengthAt (xs ++ ys) 0) ≡ b
-    allowed-same a = ap allowed length-same ∙ a
+    allowed-same : {b : Bool} → allowed c (lengthAt xs 0) ≡ b → allowed c (lengthAt (xs ++ ys) 0) ≡ b
+    allowed-same a = ap (allowed c) length-same ∙ a
 
     crc-same : lengthAt xs 0 ≤ length xs → crcRight (xs ++ ys) 0 ≡ crcRight xs 0
     unfolding crcRight
@@ -58,70 +58,70 @@ module _ (xs ys : List ℕ) where
     second = byte 1 (omega (arith, h .eight)) ∙ h .second
 
     -- with a length that is allowed
-    module _ (ok : allowed (lengthAt xs 0) ≡ true) where
-      part-on : length (xs ++ ys) < lengthAt xs 0 → judged (xs ++ ys) ≡ Undecided
-      part-on l = part (xs ++ ys) (omega (arith, eight)) first second eight (allowed-same ok) (rw length-same l)
+    module _ (ok : allowed c (lengthAt xs 0) ≡ true) where
+      part-on : length (xs ++ ys) < lengthAt xs 0 → judged c (xs ++ ys) ≡ Undecided
+      part-on l = part c (xs ++ ys) (omega (arith, eight)) first second eight (allowed-same ok) (rw length-same l)
 
-      good-on : lengthAt xs 0 ≤ length (xs ++ ys) → crcRight (xs ++ ys) 0 ≡ true → judged (xs ++ ys) ≡ Frame (lengthAt xs 0)
-      good-on l q = good (xs ++ ys) (omega (arith, eight)) first second eight (allowed-same ok) (rw length-same l) q ∙ ap Frame length-same
+      good-on : lengthAt xs 0 ≤ length (xs ++ ys) → crcRight (xs ++ ys) 0 ≡ true → judged c (xs ++ ys) ≡ Frame (lengthAt xs 0)
+      good-on l q = good c (xs ++ ys) (omega (arith, eight)) first second eight (allowed-same ok) (rw length-same l) q ∙ ap Frame length-same
 
-      bad-on : lengthAt xs 0 ≤ length (xs ++ ys) → crcRight (xs ++ ys) 0 ≡ false → judged (xs ++ ys) ≡ NoFrame (CrcWrong (lengthAt xs 0))
+      bad-on : lengthAt xs 0 ≤ length (xs ++ ys) → crcRight (xs ++ ys) 0 ≡ false → judged c (xs ++ ys) ≡ NoFrame (CrcWrong (lengthAt xs 0))
       bad-on l q =
-          bad (xs ++ ys) (omega (arith, eight)) first second eight (allowed-same ok) (rw length-same l) q
+          bad c (xs ++ ys) (omega (arith, eight)) first second eight (allowed-same ok) (rw length-same l) q
           ∙ ap (λ (n : ℕ). NoFrame (CrcWrong n)) length-same
 
-  stays-of : {x : Verdict} → View xs x → (x ≡ Undecided → ⊥) → judged (xs ++ ys) ≡ x
+  stays-of : {x : Verdict} → View c xs x → (x ≡ Undecided → ⊥) → judged c (xs ++ ys) ≡ x
   stays-of (waits-head h f s) n = absurd (n refl)
   stays-of (waits-body h a l) n = absurd (n refl)
-  stays-of (at-sync0 l a) n = sync0 (xs ++ ys) (omega (arith, long)) (λ q. a (sym (byte 0 l) ∙ q))
+  stays-of (at-sync0 l a) n = sync0 c (xs ++ ys) (omega (arith, long)) (λ q. a (sym (byte 0 l) ∙ q))
   stays-of (at-sync1 l a b) n =
-      sync1 (xs ++ ys) (omega (arith, long)) (byte 0 (omega arith) ∙ a) (λ q. b (sym (byte 1 l) ∙ q))
-  stays-of (at-length h a) n = bad-length (xs ++ ys) (omega (arith, eight h)) (first h) (second h) (eight h) (allowed-same h a)
+      sync1 c (xs ++ ys) (omega (arith, long)) (byte 0 (omega arith) ∙ a) (λ q. b (sym (byte 1 l) ∙ q))
+  stays-of (at-length h a) n = bad-length c (xs ++ ys) (omega (arith, eight h)) (first h) (second h) (eight h) (allowed-same h a)
   stays-of (at-bad h a l q) n = bad-on h a (omega (arith, long)) (crc-same h l ∙ q)
   stays-of (at-good h a l q) n = good-on h a (omega (arith, long)) (crc-same h l ∙ q)
 
-need-of : (v : List ℕ) {x : Verdict} → View v x → 8 ≤ bytesNeeded x
-need-of v (waits-head h f s) = omega arith
-need-of v (waits-body h a l) = omega arith
-need-of v (at-sync0 l a) = omega arith
-need-of v (at-sync1 l a b) = omega arith
-need-of v (at-length h m) = omega arith
-need-of v (at-bad h a l q) = allows (lengthAt v 0) a .not-small
-need-of v (at-good h a l q) = allows (lengthAt v 0) a .not-small
+need-of : (c : ℕ) (v : List ℕ) {x : Verdict} → View c v x → 8 ≤ bytesNeeded x
+need-of c v (waits-head h f s) = omega arith
+need-of c v (waits-body h a l) = omega arith
+need-of c v (at-sync0 l a) = omega arith
+need-of c v (at-sync1 l a b) = omega arith
+need-of c v (at-length h m) = omega arith
+need-of c v (at-bad h a l q) = allows c (lengthAt v 0) a .not-small
+need-of c v (at-good h a l q) = allows c (lengthAt v 0) a .not-small
 
-module _ (xs ys : List ℕ) (n : judged (xs ++ ys) ≡ Undecided → ⊥) where
+module _ (c : ℕ) (xs ys : List ℕ) (n : judged c (xs ++ ys) ≡ Undecided → ⊥) where
   abbrev Soon : Verdict → Type 0
   Soon x = length xs < bytesNeeded x
 
-  soon-of : {x : Verdict} → View xs x → x ≡ Undecided → Soon (judged (xs ++ ys))
-  soon-of (waits-head h f s) e = omega (arith, need-of (xs ++ ys) (view (xs ++ ys)))
+  soon-of : {x : Verdict} → View c xs x → x ≡ Undecided → Soon (judged c (xs ++ ys))
+  soon-of (waits-head h f s) e = omega (arith, need-of c (xs ++ ys) (view c (xs ++ ys)))
   soon-of (waits-body h a l) e =
-      lt? (length (xs ++ ys)) (lengthAt xs 0) (λ m. absurd (n (part-on xs ys h a m)))
+      lt? (length (xs ++ ys)) (lengthAt xs 0) (λ m. absurd (n (part-on c xs ys h a m)))
       (λ m.
-      bool? (crcRight (xs ++ ys) 0) (λ q. subst⁻¹ Soon (good-on xs ys h a m q) l)
-      (λ q. subst⁻¹ Soon (bad-on xs ys h a m q) l))
+      bool? (crcRight (xs ++ ys) 0) (λ q. subst⁻¹ Soon (good-on c xs ys h a m q) l)
+      (λ q. subst⁻¹ Soon (bad-on c xs ys h a m q) l))
   soon-of (at-sync0 l a) e = let z : _≡_ {A = ℕ} 0 1 = cc in omega arith
   soon-of (at-sync1 l a b) e = let z : _≡_ {A = ℕ} 0 1 = cc in omega arith
   soon-of (at-length h m) e = let z : _≡_ {A = ℕ} 0 1 = cc in omega arith
   soon-of (at-bad h a l q) e = let z : _≡_ {A = ℕ} 0 1 = cc in omega arith
   soon-of (at-good h a l q) e = let z : _≡_ {A = ℕ} 0 1 = cc in omega arith
 
-fits-of : (v : List ℕ) {x : Verdict} → View v x → Fits v x
-fits-of v (waits-head h f s) = tt
-fits-of v (waits-body h a l) = tt
-fits-of v (at-sync0 l a) = tt
-fits-of v (at-sync1 l a b) = tt
-fits-of v (at-length h m) = tt
-fits-of v (at-bad h a l q) = record { eight = allows (lengthAt v 0) a .not-small; within = l }
-fits-of v (at-good h a l q) = record { eight = allows (lengthAt v 0) a .not-small; within = l }
+fits-of : (c : ℕ) (v : List ℕ) {x : Verdict} → View c v x → Fits v x
+fits-of c v (waits-head h f s) = tt
+fits-of c v (waits-body h a l) = tt
+fits-of c v (at-sync0 l a) = tt
+fits-of c v (at-sync1 l a b) = tt
+fits-of c v (at-length h m) = tt
+fits-of c v (at-bad h a l q) = record { eight = allows c (lengthAt v 0) a .not-small; within = l }
+fits-of c v (at-good h a l q) = record { eight = allows c (lengthAt v 0) a .not-small; within = l }
 
-pub judging : Judging judged
-judging =
+pub judging : (c : ℕ) → Judging (judged c)
+judging c =
     record {
-      empty = empty [] refl;
-      fits = λ v. fits-of v (view v);
-      stays = λ xs ys n. stays-of xs ys (view xs) n;
-      soon = λ xs ys e n. soon-of xs ys n (view xs) e;
+      empty = empty c [] refl;
+      fits = λ v. fits-of c v (view c v);
+      stays = λ xs ys n. stays-of c xs ys (view c xs) n;
+      soon = λ xs ys e n. soon-of c xs ys n (view c xs) e;
     }
 
 -- ---- the run's end
@@ -136,9 +136,9 @@ last-fits-by v (NoFrame r) f = f
 last-fits-by v (Frame n) f = f
 last-fits-by v Undecided f = few-fits v (ltb (length v) 2) (ltb (length v) 8)
 
-pub last-fits : (v : List ℕ) → Fits v (judgedLast v)
+pub last-fits : (c : ℕ) (v : List ℕ) → Fits v (judgedLast c v)
 unfolding judgedLast
-last-fits v = last-fits-by v (judged v) (judging .fits v)
+last-fits c v = last-fits-by v (judged c v) (judging c .fits v)
 
 -- a frame there is one here
 last-frame-by : (v : List ℕ) (x : Verdict) (n : ℕ) → lastBy x v ≡ Frame n → x ≡ Frame n
@@ -146,13 +146,13 @@ last-frame-by v (NoFrame r) n e = let z : _≡_ {A = ℕ} 0 1 = cc in let f : �
 last-frame-by v (Frame k) n e = e
 last-frame-by v Undecided n e = let z : _≡_ {A = ℕ} 0 1 = cc in let f : ⊥ = omega arith in absurd f
 
-pub last-frame : (v : List ℕ) (n : ℕ) → judgedLast v ≡ Frame n → judged v ≡ Frame n
+pub last-frame : (c : ℕ) (v : List ℕ) (n : ℕ) → judgedLast c v ≡ Frame n → judged c v ≡ Frame n
 unfolding judgedLast
-last-frame v n e = last-frame-by v (judged v) n e
+last-frame c v n e = last-frame-by v (judged c v) n e
 
-pub frame-last : (v : List ℕ) (n : ℕ) → judged v ≡ Frame n → judgedLast v ≡ Frame n
+pub frame-last : (c : ℕ) (v : List ℕ) (n : ℕ) → judged c v ≡ Frame n → judgedLast c v ≡ Frame n
 unfolding judgedLast
-frame-last v n e = ap (λ (x : Verdict). lastBy x v) e
+frame-last c v n e = ap (λ (x : Verdict). lastBy x v) e
 
 -- every place is decided
 last-decides-by : (v : List ℕ) (x : Verdict) → lastBy x v ≡ Undecided → ⊥
@@ -160,6 +160,6 @@ last-decides-by v (NoFrame r) e = let z : _≡_ {A = ℕ} 0 1 = cc in omega arit
 last-decides-by v (Frame k) e = let z : _≡_ {A = ℕ} 0 1 = cc in omega arith
 last-decides-by v Undecided e = let z : _≡_ {A = ℕ} 0 1 = cc in omega arith
 
-pub last-decides : (v : List ℕ) → judgedLast v ≡ Undecided → ⊥
+pub last-decides : (c : ℕ) (v : List ℕ) → judgedLast c v ≡ Undecided → ⊥
 unfolding judgedLast
-last-decides v e = last-decides-by v (judged v) e
+last-decides c v e = last-decides-by v (judged c v) e

@@ -37,9 +37,9 @@ feedBy judge held (b ∷ bs) zero = stop (settle judge held)
 feedBy judge held (b ∷ bs) (suc room) =
     unlessBlock (settle judge held .standing) (settle judge held) (feedBy judge (settle judge held .rest ++ b ∷ []) bs room)
 
--- C6, by F12's judge
-abbrev pub feedLit : List ℕ → List ℕ → ℕ → Intake
-feedLit = feedBy judged
+-- C6, by F12's judge with a ceiling (F16)
+abbrev pub feedLit : ℕ → List ℕ → List ℕ → ℕ → Intake
+feedLit c = feedBy (judged c)
 
 -- the length of the standing block, 0 for none
 abbrev pub size : Option ℕ → ℕ

@@ -1,4 +1,4 @@
-// Reading a run from place to place, up to the first block (rules F11 to F15, C6). The run lies in two slices: the held bytes,
+// Reading a run with a ceiling from place to place, up to the first block (rules F11 to F16, C6). The run lies in two slices: the held bytes,
 // then the piece.
 ghost use mathlib.Core.Path.{_≡_};
 ghost use mathlib.Core.Bool.{false};
@@ -118,9 +118,9 @@ fn count_no_sync(a: Passed, n: usize) -> Passed
 }
 
 // The places of `s`, with `rest` behind it; `before` are passed, for which `mark` bytes had to be taken.
-fn scan_part(s: &[u8], rest: &[u8], before: Passed, mark: usize) -> Stretch
+fn scan_part(ceiling: usize, s: &[u8], rest: &[u8], before: Passed, mark: usize) -> Stretch
     requires { ⌜ before .skipped + length (now s) + length (now rest) < 18446744073709551616 ⌝ }
-    ensures { λ r. ⌜ r ≡ stretchOf (settle (withRest judged (now (rest .entry))) (now (s .entry))) before mark ⌝ }
+    ensures { λ r. ⌜ r ≡ stretchOf (settle (withRest (judged ceiling) (now (rest .entry))) (now (s .entry))) before mark ⌝ }
 {
     let mut k: usize = 0;
     let mut m = mark;
@@ -132,7 +132,7 @@ fn scan_part(s: &[u8], rest: &[u8], before: Passed, mark: usize) -> Stretch
             return Stretch::Through(passed, m);
         }
         let place = passed.skipped;
-        let v = frame::judge(&s[p..], rest);
+        let v = frame::judge(ceiling, &s[p..], rest);
         match v {
             Verdict::Frame(n) => {
                 return Stretch::Block(passed, n, greater(m, place + n));
@@ -160,12 +160,12 @@ fn scan_part(s: &[u8], rest: &[u8], before: Passed, mark: usize) -> Stretch
 
 // The held bytes and then the piece, up to the first block or the place that is not decided; the promise is by C6, a byte at
 // a time.
-pub fn scan(held: &[u8], piece: &[u8]) -> Scanned
-    ensures { λ r. ⌜ r ≡ scannedOf (feedLit (now (held .entry)) (now (piece .entry)) (length (now (piece .entry)))) ⌝ }
+pub fn scan(ceiling: usize, held: &[u8], piece: &[u8]) -> Scanned
+    ensures { λ r. ⌜ r ≡ scannedOf (feedLit ceiling (now (held .entry)) (now (piece .entry)) (length (now (piece .entry)))) ⌝ }
 {
     let n = held.len();
     let all = piece.len();
-    match scan_part(held, piece, nothing_passed(), n) {
+    match scan_part(ceiling, held, piece, nothing_passed(), n) {
         Stretch::Block(passed, len, m) => Scanned {
             taken: m - n,
             passed: passed,
@@ -176,7 +176,7 @@ pub fn scan(held: &[u8], piece: &[u8]) -> Scanned
             passed: passed,
             block: 0,
         },
-        Stretch::Through(before, mark) => match scan_part(piece, b"", before, mark) {
+        Stretch::Through(before, mark) => match scan_part(ceiling, piece, b"", before, mark) {
             Stretch::Block(passed, len, m) => Scanned {
                 taken: m - n,
                 passed: passed,
@@ -208,8 +208,8 @@ fn last_found(passed: Passed, block: usize) -> Scanned
 }
 
 // The held bytes, which are the run's last, up to the first block.
-pub fn last(held: &[u8]) -> Scanned
-    ensures { λ r. ⌜ r ≡ scannedOf (stop (settle judgedLast (now (held .entry)))) ⌝ }
+pub fn last(ceiling: usize, held: &[u8]) -> Scanned
+    ensures { λ r. ⌜ r ≡ scannedOf (stop (settle (judgedLast ceiling) (now (held .entry)))) ⌝ }
 {
     let mut passed = nothing_passed();
     while passed.skipped < held.len() {
@@ -219,7 +219,7 @@ pub fn last(held: &[u8]) -> Scanned
         if p == held.len() {
             return last_found(passed, 0);
         }
-        let v = frame::judge_last(&held[p..]);
+        let v = frame::judge_last(ceiling, &held[p..]);
         match v {
             Verdict::Frame(n) => {
                 return last_found(passed, n);

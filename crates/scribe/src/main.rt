@@ -243,7 +243,12 @@ fn scribe_by(rows: &[u8]) {
     let mut in_force = [0u8; 8192];
     let mut waiting = [0u8; 8192];
     let staged = tables::stage(reader::new(), &mut waiting, rows);
-    let opened = tables::open(staged.state, &mut in_force, &waiting);
+    let opened = tables::open(
+        staged.state,
+        reader::default_settings(),
+        &mut in_force,
+        &waiting,
+    );
     let answer = opened.answer;
     match answer {
         Opened::Version(_) => scribe(opened.state, &in_force),

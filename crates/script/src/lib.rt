@@ -24,12 +24,19 @@ pub enum StateNumber {
     Taken,
     Blocks,
     Skipped,
+    Ceiling,
     Unknown,
+}
+
+// The word behind `open`: a line may have none.
+pub enum CeilingWord {
+    Absent,
+    Given(u64),
 }
 
 // The calls after which the CRCs of the buffers are printed.
 pub enum RunCall {
-    Open,
+    Open(CeilingWord),
     Feed,
     Finish,
     Stage,
@@ -137,6 +144,7 @@ fn number_named(key: u64) -> StateNumber {
         0x74616b656e => StateNumber::Taken, // taken
         0x626c6f636b73 => StateNumber::Blocks, // blocks
         0x736b6970706564 => StateNumber::Skipped, // skipped
+        0x6365696c696e67 => StateNumber::Ceiling, // ceiling
         _ => StateNumber::Unknown,
     }
 }
@@ -182,9 +190,17 @@ fn whether(holds: bool, call: LineCall, words: u8) -> Head {
     }
 }
 
-// A call by its first word, with the three words behind it as that call asks: `body FIELD HEX`, `sub SUBBLOCK FIELD HEX`,
-// `subbytes SUBBLOCK HEX`, `sub2 SUBBLOCK NESTED FIELD HEX`, `range SUBBLOCK HEX`, `range2 SUBBLOCK NESTED HEX`, `poke NAME VALUE`,
-// `put hold|force|waiting OFFSET HEX`, `size hold|force|waiting|out N`.
+// `open` alone on its line, or with the number n behind it.
+fn opened_by(alone: bool, n: u64) -> RunCall {
+    if alone {
+        return RunCall::Open(CeilingWord::Absent);
+    }
+    RunCall::Open(CeilingWord::Given(n))
+}
+
+// A call by its first word, with the three words behind it as that call asks: `open [CEILING]`, `body FIELD HEX`,
+// `sub SUBBLOCK FIELD HEX`, `subbytes SUBBLOCK HEX`, `sub2 SUBBLOCK NESTED FIELD HEX`, `range SUBBLOCK HEX`,
+// `range2 SUBBLOCK NESTED HEX`, `poke NAME VALUE`, `put hold|force|waiting OFFSET HEX`, `size hold|force|waiting|out N`.
 fn begun(first: Word, second: Word, third: Word, fourth: Word) -> Head {
     let key = first.key;
     let alone = first.is_last;
@@ -195,7 +211,7 @@ fn begun(first: Word, second: Word, third: Word, fourth: Word) -> Head {
     let both = second.leads & third.leads;
     let sub2 = LineCall::Ask(Ask::Sub2(n, m, fourth.number));
     match key {
-        0x6f70656e => whether(alone, LineCall::Run(RunCall::Open), 0), // open
+        0x6f70656e => whether(alone | second.ends, LineCall::Run(opened_by(alone, n)), 0), // open
         0x66696e697368 => whether(alone, LineCall::Run(RunCall::Finish), 0), // finish
         0x7769746864726177 => whether(alone, LineCall::Run(RunCall::Withdraw), 0), // withdraw
         0x6279746573 => whether(alone, LineCall::Ask(Ask::Bytes), 0), // bytes

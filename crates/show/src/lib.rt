@@ -1,4 +1,4 @@
-// The lines of the calls that may write: what the call replied, the state's eight numbers, the CRCs of the three buffers.
+// The lines of the calls that may write: what the call replied, the state's nine numbers, the CRCs of the three buffers.
 ghost use Prim.Native.Nat.{_+_, _≤_};
 ghost use mathlib.Core.Path.{_≡_};
 ghost use mathlib.Core.List.{_++_};
@@ -13,7 +13,7 @@ use reader::Block;
 use reader::State;
 
 // The longest line that a call prints fits.
-pub const CALL_LINE: usize = 320;
+pub const CALL_LINE: usize = 340;
 
 fn one_for(b: bool) -> u64
     ensures { λ r. ⌜ r ≡ oneFor b ⌝ }
@@ -74,8 +74,8 @@ fn crcs(out: &mut [u8; 8192], at: usize, c: Crcs) -> usize
 
 // The line of a call that may write, with the CRCs of the whole buffers after it.
 pub fn run_line(out: &mut [u8; 8192], at: usize, reply: RunReply, state: State, c: Crcs) -> usize
-    requires { ⌜ at + 320 ≤ 8192 ⌝ }
-    ensures { λ r. ⌜ r ≤ at + 320 ⌝ }
+    requires { ⌜ at + 340 ≤ 8192 ⌝ }
+    ensures { λ r. ⌜ r ≤ at + 340 ⌝ }
     ensures { λ r. ⌜ take r (now (out .exit)) ≡ take at (now (out .entry)) ++ (runText reply ++ stateText state ++ crcsText c) ⌝ }
 {
     let said = print(out, at, reply);

@@ -13,6 +13,7 @@ use Rattle.table.specs.Rules.{tableOk}
 use Rattle.reader.specs.State.{sound}
 use Rattle.reader.specs.Refusals.{longStore, tableRefusal}
 use Rattle.reader.specs.declared.Run.{Run}
+use Rattle.reader.specs.declared.Settings.{Settings}
 use Rattle.reader.specs.declared.State.{State}
 use Rattle.reader.proofs.Laws.{passes, Facts, with-store, with-stores}
 use Rattle.tables.specs.Calls.{openRefusal, stageRefusal}
@@ -24,9 +25,9 @@ pub record OpenPassed (s : State) (force wait : List ℕ) : Type 0 where
   pub long-force : 8192 ≤ length force
   pub long-wait : 8192 ≤ length wait
 
-pub open-passed : (s : State) (force wait : List ℕ) → openRefusal s force wait ≡ none → OpenPassed s force wait
+pub open-passed : (s : State) (x : Settings) (force wait : List ℕ) → openRefusal s x force wait ≡ none → OpenPassed s force wait
 unfolding openRefusal
-open-passed s force wait e =
+open-passed s x force wait e =
     let f = with-stores s force wait (passes (sound s && longStore force && longStore wait) 1 _ e .0) in
     record { facts = f .0; long-force = f .1; long-wait = f .2 }
 

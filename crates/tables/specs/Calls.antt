@@ -1,4 +1,4 @@
--- What Open, Stage and Withdraw answer and leave (rules C5, C10 to C12), and their refusals in order (R20).
+-- What Open, Stage and Withdraw answer and leave (rules C5, C10 to C12, C17), and their refusals in order (R20).
 -- Assumes nothing.
 use Prim.Native.Nat.{ℕ}
 use mathlib.Core.Bool.{_&&_, _||_, cond}
@@ -7,6 +7,7 @@ use mathlib.Core.Option.{Option, none}
 use lib.ListN.{length, take}
 use lib.Dec.{ltb}
 use Rattle.feed.specs.Hold.{over}
+use Rattle.frame.specs.Frame.{ceilingOk}
 use Rattle.table.specs.Decode.{decode}
 use Rattle.reader.specs.State.{noCounts, sound}
 use Rattle.reader.specs.Said.{version, waited}
@@ -14,6 +15,7 @@ use Rattle.reader.specs.Refusals.{need, isClosed, longStore, tableRefusal}
 use Rattle.reader.specs.Outcome.{Outcome, unless}
 use Rattle.reader.specs.declared.Phase.the-variants.{Feeding}
 use Rattle.reader.specs.declared.Run.{Run}
+use Rattle.reader.specs.declared.Settings.{Settings}
 use Rattle.reader.specs.declared.State.{State}
 
 -- ---- Open
@@ -22,29 +24,30 @@ use Rattle.reader.specs.declared.State.{State}
 abbrev pub nextTable : State → List ℕ → List ℕ → List ℕ
 nextTable s force wait = cond (ltb 0 (s .waiting)) (take (s .waiting) wait) (take (s .«in_force») force)
 
--- R20: 1, 2, 5, 4
-unfoldable pub openRefusal : State → List ℕ → List ℕ → Option ℕ
-openRefusal s force wait =
+-- R20: 1, 2, 13, 5, 4
+unfoldable pub openRefusal : State → Settings → List ℕ → List ℕ → Option ℕ
+openRefusal s x force wait =
     need (sound s && longStore force && longStore wait) 1
     (need (isClosed (s .run .phase)) 2
-    (need (ltb 0 (s .waiting) || ltb 0 (s .«in_force»)) 5 (tableRefusal (nextTable s force wait))))
+    (need (ceilingOk (x .ceiling)) 13
+    (need (ltb 0 (s .waiting) || ltb 0 (s .«in_force»)) 5 (tableRefusal (nextTable s force wait)))))
 
--- C5: the run that begins
-abbrev pub freshRun : Run
-freshRun = record { phase = Feeding; held = 0; standing = 0; counts = noCounts }
+-- C5, C17: the run that begins, by the settings given
+abbrev pub freshRun : Settings → Run
+freshRun x = record { phase = Feeding; held = 0; standing = 0; counts = noCounts; settings = x }
 
 -- C5: what Open does
-abbrev pub opening : State → List ℕ → List ℕ → Outcome
-opening s force wait =
+abbrev pub opening : State → Settings → List ℕ → List ℕ → Outcome
+opening s x force wait =
     record {
       said = version (decode (nextTable s force wait) .version);
-      state = record { run = freshRun; «in_force» = cond (ltb 0 (s .waiting)) (s .waiting) (s .«in_force»); waiting = 0 };
+      state = record { run = freshRun x; «in_force» = cond (ltb 0 (s .waiting)) (s .waiting) (s .«in_force»); waiting = 0 };
       lent = cond (ltb 0 (s .waiting)) (over (take (s .waiting) wait) force) force;
     }
 
 -- C5, R21: Open
-unfoldable pub openOf : State → List ℕ → List ℕ → Outcome
-openOf s force wait = unless (openRefusal s force wait) s force (opening s force wait)
+unfoldable pub openOf : State → Settings → List ℕ → List ℕ → Outcome
+openOf s x force wait = unless (openRefusal s x force wait) s force (opening s x force wait)
 
 -- ---- Stage and Withdraw
 

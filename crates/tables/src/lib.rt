@@ -1,5 +1,5 @@
 // The tables of a reader: Stage and Withdraw (rules C10 to C12), which are lent nothing that an open run reads by, and Open (C5),
-// which puts a table in force.
+// which puts a table in force, and takes the settings of the run (C17).
 ghost use mathlib.Core.Path.{_≡_};
 ghost use mathlib.Core.List.{[]};
 ghost use Rattle.reader.specs.Outcome.{outcome};
@@ -9,6 +9,7 @@ ghost use Rattle.tables.specs.Calls.{openOf, stageOf, withdrawOf};
 mod opening; // opening.rt: what Open answers, and the run that it opens
 
 use reader::Check;
+use reader::Settings;
 use reader::State;
 use refusal::Refusal;
 use table::Checked;
@@ -44,11 +45,11 @@ pub struct WithdrawAnswer {
     pub state: State,
 }
 
-// C5.
-pub fn open(s: State, in_force: &mut [u8], waiting: &[u8]) -> OpenAnswer
-    ensures { λ r. ⌜ outcome (saidOpened (r .answer)) (r .state) (now («in_force» .exit)) ≡ openOf s (now («in_force» .entry)) (now (waiting .entry)) ⌝ }
+// C5, C17.
+pub fn open(s: State, settings: Settings, in_force: &mut [u8], waiting: &[u8]) -> OpenAnswer
+    ensures { λ r. ⌜ outcome (saidOpened (r .answer)) (r .state) (now («in_force» .exit)) ≡ openOf s settings (now («in_force» .entry)) (now (waiting .entry)) ⌝ }
 {
-    let a = opening::of_open(s, in_force, waiting);
+    let a = opening::of_open(s, settings, in_force, waiting);
     match a {
         Opened::Refused(why) => OpenAnswer {
             answer: Opened::Refused(why),
@@ -61,12 +62,12 @@ pub fn open(s: State, in_force: &mut [u8], waiting: &[u8]) -> OpenAnswer
                 copy::copy_in(in_force, 0, waiting, 0, w);
                 return OpenAnswer {
                     answer: Opened::Version(v),
-                    state: opening::open_state(w),
+                    state: opening::open_state(settings, w),
                 };
             }
             OpenAnswer {
                 answer: Opened::Version(v),
-                state: opening::open_state(n),
+                state: opening::open_state(settings, n),
             }
         }
     }

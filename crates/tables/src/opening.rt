@@ -6,13 +6,14 @@ ghost use Rattle.tables.specs.Code.{versionOr4};
 use crate::Opened;
 use reader::Phase;
 use reader::Run;
+use reader::Settings;
 use reader::State;
 use refusal::Refusal;
 use table::Checked;
 
-// 1, 2, 5, 4, or the version of the table to be opened.
-pub fn of_open(s: State, in_force: &[u8], waiting: &[u8]) -> Opened
-    ensures { λ r. ⌜ saidOpened r ≡ openOf s (now (in_force .entry)) (now (waiting .entry)) .said ⌝ }
+// 1, 2, 13, 5, 4, or the version of the table to be opened.
+pub fn of_open(s: State, settings: Settings, in_force: &[u8], waiting: &[u8]) -> Opened
+    ensures { λ r. ⌜ saidOpened r ≡ openOf s settings (now (in_force .entry)) (now (waiting .entry)) .said ⌝ }
 {
     if !(reader::is_sound(s) & (8192 <= in_force.len()) & (8192 <= waiting.len())) {
         return Opened::Refused(Refusal::BadBuffer);
@@ -21,6 +22,9 @@ pub fn of_open(s: State, in_force: &[u8], waiting: &[u8]) -> Opened
     let phase = run.phase;
     if !reader::is_closed(phase) {
         return Opened::Refused(Refusal::OutOfTurn);
+    }
+    if !frame::ceiling_ok(settings.ceiling) {
+        return Opened::Refused(Refusal::BadCeiling);
     }
     let w = s.waiting;
     let n = s.in_force;
@@ -44,9 +48,9 @@ fn version_or_four(t: &[u8]) -> Opened
     }
 }
 
-// A run that has just opened, with a table of n bytes in force and none waiting.
-pub fn open_state(n: usize) -> State
-    ensures { λ r. ⌜ (r .run ≡ freshRun) × (r .«in_force» ≡ n) × (r .waiting ≡ 0) ⌝ }
+// A run that has just opened with these settings, with a table of n bytes in force and none waiting.
+pub fn open_state(settings: Settings, n: usize) -> State
+    ensures { λ r. ⌜ (r .run ≡ freshRun settings) × (r .«in_force» ≡ n) × (r .waiting ≡ 0) ⌝ }
 {
     State {
         run: Run {
@@ -54,6 +58,7 @@ pub fn open_state(n: usize) -> State
             held: 0,
             standing: 0,
             counts: reader::no_counts(),
+            settings,
         },
         in_force: n,
         waiting: 0,

@@ -48,3 +48,4 @@ KeysHold =
     × Key "taken" 0x74616b656e
     × Key "blocks" 0x626c6f636b73
     × Key "skipped" 0x736b6970706564
+    × Key "ceiling" 0x6365696c696e67

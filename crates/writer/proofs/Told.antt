@@ -31,8 +31,8 @@ use Rattle.writer.specs.Write.{wrote, writeRefused, WriteOutcome, writeO
 use Rattle.writer.specs.Code.{Writable}
 
 -- by its row
-module _ (b : BlockRow) (d : Draft) {a : Accepted} (accepting : Accepting (draftOk b d) (length (d .subs)) a) where
-  pub told-11 : (buffer : List ℕ) → a .ok ≡ false → writeOutcome (writeRefused 11) buffer ≡ writtenBy (some b) d buffer
+module _ (top : ℕ) (b : BlockRow) (d : Draft) {a : Accepted} (accepting : Accepting (draftOk b d) (length (d .subs)) a) where
+  pub told-11 : (buffer : List ℕ) → a .ok ≡ false → writeOutcome (writeRefused 11) buffer ≡ writtenBy top (some b) d buffer
   unfolding writtenBy
   told-11 buffer e = rw (sym (accepting .is) ∙ e)
 
@@ -48,7 +48,7 @@ module _ (b : BlockRow) (d : Draft) {a : Accepted} (accepting : Accepting (draft
 
     module _ {z : Measured} (sizing : Sizing b (d .revision) (a .subs) z) (buffer : List ℕ) where
       abbrev roomy : Bool
-      roomy = leb (z .all) (length buffer) && leb (z .all) 65532 && leb (z .sub) 255
+      roomy = leb (z .all) (length buffer) && leb (z .all) top && leb (z .sub) 255
 
       all-is : z .all ≡ blockLength b d
       all-is = sizing .all ∙ ap (λ (n : ℕ). 4 * ((blockEndBy b (d .revision) n + 3) / 4)) (accepting .count yes)
@@ -56,18 +56,18 @@ module _ (b : BlockRow) (d : Draft) {a : Accepted} (accepting : Accepting (draft
       sub-is : z .sub ≡ sbLength b d
       sub-is = sizing .sub ∙ ap (sbLengthBy b (d .revision)) (accepting .count yes)
 
-      room-is : roomy ≡ roomFor b d (length buffer)
+      room-is : roomy ≡ roomFor top b d (length buffer)
       unfolding roomFor
       room-is = rw (all-is, sub-is)
 
-      pub told-12 : roomy ≡ false → writeOutcome (writeRefused 12) buffer ≡ writtenBy (some b) d buffer
+      pub told-12 : roomy ≡ false → writeOutcome (writeRefused 12) buffer ≡ writtenBy top (some b) d buffer
       unfolding writtenBy
       told-12 e = rw (accepted, sym room-is ∙ e)
 
       module _ (room : roomy ≡ true) where
         pub told-writable : blockOk b ≡ true → b .firsts ≡ 0 → Writable b d (a .subs) z (length buffer)
         told-writable rules one =
-            let x = both (leb (z .all) (length buffer) && leb (z .all) 65532) _ room in
+            let x = both (leb (z .all) (length buffer) && leb (z .all) top) _ room in
             record {
               rules = rules;
               one = one;
@@ -78,7 +78,7 @@ module _ (b : BlockRow) (d : Draft) {a : Accepted} (accepting : Accepting (draft
               small = leb-true _ _ (x .1);
             }
 
-        pub told-length : {next : List ℕ} → next ≡ over (blockBytes b d) buffer → writeOutcome (wrote (z .all)) next ≡ writtenBy (some b) d buffer
+        pub told-length : {next : List ℕ} → next ≡ over (blockBytes b d) buffer → writeOutcome (wrote (z .all)) next ≡ writtenBy top (some b) d buffer
         unfolding writtenBy
         told-length e = rw (accepted, sym room-is ∙ room, e, all-is)
 
@@ -98,24 +98,24 @@ no-number n (b ∷ bs) e h =
     rw (ne-eqb (b .number) n m) (no-number n bs (a .1) h)
 
 -- a row of two levels, and one of one level
-two-refused : (t : List ℕ) (row : Row) → (row .firsts ≡ 0 → ⊥) → (d : Draft) (buffer : List ℕ)
-    → writeOutcome (writeRefused 6) buffer ≡ writtenBy (writableRow (some (blockOf t row))) d buffer
+two-refused : (top : ℕ) (t : List ℕ) (row : Row) → (row .firsts ≡ 0 → ⊥) → (d : Draft) (buffer : List ℕ)
+    → writeOutcome (writeRefused 6) buffer ≡ writtenBy top (writableRow (some (blockOf t row))) d buffer
 unfolding blockOf writtenBy
-two-refused t row two d buffer = rw (ne-eqb (row .firsts) 0 two)
+two-refused top t row two d buffer = rw (ne-eqb (row .firsts) 0 two)
 
 one-writable : (t : List ℕ) (row : Row) → row .firsts ≡ 0 → writableRow (some (blockOf t row)) ≡ some (blockOf t row)
 unfolding blockOf
 one-writable t row one = rw (eq-eqb (row .firsts) 0 one)
 
-module _ (t : List ℕ) (d : Draft) (buffer : List ℕ) where
-  pub told-high : tableOk t ≡ true → 65535 < d .number → writeOutcome (writeRefused 6) buffer ≡ writtenOf (decode t) d buffer
+module _ (top : ℕ) (t : List ℕ) (d : Draft) (buffer : List ℕ) where
+  pub told-high : tableOk t ≡ true → 65535 < d .number → writeOutcome (writeRefused 6) buffer ≡ writtenOf top (decode t) d buffer
   unfolding writtenOf writtenBy findRow
   told-high ok h = rw (no-number (d .number) (decode t .rows) (passed t ok .meaning .numbers) (omega arith))
 
   module _ {f : RowFound} (finding : Finding t (d .number) f) where
-    pub told-6 : f ≡ found.Nothing → writeOutcome (writeRefused 6) buffer ≡ writtenOf (decode t) d buffer
+    pub told-6 : f ≡ found.Nothing → writeOutcome (writeRefused 6) buffer ≡ writtenOf top (decode t) d buffer
     unfolding writtenOf writtenBy
-    told-6 e = ap (λ (x : Option BlockRow). writtenBy (writableRow x) d buffer) (sym (ap (rowSays t) e) ∙ finding .is)
+    told-6 e = ap (λ (x : Option BlockRow). writtenBy top (writableRow x) d buffer) (sym (ap (rowSays t) e) ∙ finding .is)
 
     module _ {row : Row} (e : f ≡ found.At row) where
       stands : Stands t row
@@ -127,14 +127,14 @@ module _ (t : List ℕ) (d : Draft) (buffer : List ℕ) where
       pub told-rules : blockOk (blockOf t row) ≡ true
       told-rules = stands .rules
 
-      found-is : writtenBy (writableRow (some (blockOf t row))) d buffer ≡ writtenOf (decode t) d buffer
+      found-is : writtenBy top (writableRow (some (blockOf t row))) d buffer ≡ writtenOf top (decode t) d buffer
       unfolding writtenOf
-      found-is = ap (λ (x : Option BlockRow). writtenBy (writableRow x) d buffer) (sym (ap (rowSays t) e) ∙ finding .is)
+      found-is = ap (λ (x : Option BlockRow). writtenBy top (writableRow x) d buffer) (sym (ap (rowSays t) e) ∙ finding .is)
 
       -- W1: by a row of two levels nothing is written
-      pub told-two : (row .firsts ≡ 0 → ⊥) → writeOutcome (writeRefused 6) buffer ≡ writtenOf (decode t) d buffer
-      told-two two = two-refused t row two d buffer ∙ found-is
+      pub told-two : (row .firsts ≡ 0 → ⊥) → writeOutcome (writeRefused 6) buffer ≡ writtenOf top (decode t) d buffer
+      told-two two = two-refused top t row two d buffer ∙ found-is
 
       -- and by one of one level the row decides
-      pub told-found : row .firsts ≡ 0 → {o : WriteOutcome} → o ≡ writtenBy (some (blockOf t row)) d buffer → o ≡ writtenOf (decode t) d buffer
-      told-found one g = g ∙ ap (λ (x : Option BlockRow). writtenBy x d buffer) (sym (one-writable t row one)) ∙ found-is
+      pub told-found : row .firsts ≡ 0 → {o : WriteOutcome} → o ≡ writtenBy top (some (blockOf t row)) d buffer → o ≡ writtenOf top (decode t) d buffer
+      told-found one g = g ∙ ap (λ (x : Option BlockRow). writtenBy top x d buffer) (sym (one-writable t row one)) ∙ found-is

@@ -1,4 +1,4 @@
--- What a draft comes to, by a decoded table: an answer, and every byte of the buffer (rules W1, R20: 6, 11, 12).
+-- What a draft comes to, by a decoded table and a ceiling (rule C17): an answer, and every byte of the buffer (W1, R20: 6, 11, 12).
 -- Assumes nothing.
 use Prim.Native.Nat.{ℕ}
 use mathlib.Core.Bool.{cond}
@@ -32,11 +32,11 @@ abbrev pub refusesWrite : ℕ → List ℕ → WriteOutcome
 refusesWrite n buffer = writeOutcome (writeRefused n) buffer
 
 -- R20: 6, 11, 12; W1: the block, and behind it what the buffer had
-unfoldable pub writtenBy : Option BlockRow → Draft → List ℕ → WriteOutcome
-writtenBy none d buffer = refusesWrite 6 buffer
-writtenBy (some r) d buffer =
+unfoldable pub writtenBy : ℕ → Option BlockRow → Draft → List ℕ → WriteOutcome
+writtenBy c none d buffer = refusesWrite 6 buffer
+writtenBy c (some r) d buffer =
     cond (draftOk r d)
-    (cond (roomFor r d (length buffer)) (writeOutcome (wrote (blockLength r d)) (over (blockBytes r d) buffer)) (refusesWrite 12 buffer))
+    (cond (roomFor c r d (length buffer)) (writeOutcome (wrote (blockLength r d)) (over (blockBytes r d) buffer)) (refusesWrite 12 buffer))
     (refusesWrite 11 buffer)
 
 -- R6, W1: the row to write by: one of one level
@@ -44,8 +44,8 @@ abbrev pub writableRow : Option BlockRow → Option BlockRow
 writableRow none = none
 writableRow (some r) = cond (oneLevel r) (some r) none
 
-unfoldable pub writtenOf : Table → Draft → List ℕ → WriteOutcome
-writtenOf tab d buffer = writtenBy (writableRow (findRow tab (d .number))) d buffer
+unfoldable pub writtenOf : ℕ → Table → Draft → List ℕ → WriteOutcome
+writtenOf c tab d buffer = writtenBy c (writableRow (findRow tab (d .number))) d buffer
 
 -- D9: what the code's answer says
 abbrev pub writtenSays : Written → WriteSaid

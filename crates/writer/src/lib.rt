@@ -1,4 +1,4 @@
-// A block written through a table that passes its check (rules W1, W6 to W9).
+// A block written through a table that passes its check, and under a ceiling (rules W1, W6 to W9, C17).
 ghost use mathlib.Core.Path.{_≡_};
 ghost use mathlib.Core.Bool.{true};
 ghost use mathlib.Core.List.{[]};
@@ -104,9 +104,17 @@ fn put_block(
 }
 
 // A draft by its row, of one level: R11, R12, then the bytes.
-fn put(table: &[u8], row: Row, h: Head, kinds: &[u8], bits: &[u64], out: &mut [u8]) -> Written
+fn put(
+    ceiling: usize,
+    table: &[u8],
+    row: Row,
+    h: Head,
+    kinds: &[u8],
+    bits: &[u64],
+    out: &mut [u8],
+) -> Written
     requires { ⌜ (row .start + row .bodies + row .subs ≤ fieldCount (now table)) × (blockOk (blockOf (now table) row) ≡ true) × (row .firsts ≡ 0) × (h .number ≤ 65535) ⌝ }
-    ensures { λ r. ⌜ writeOutcome (writtenSays r) (now (out .exit)) ≡ writtenBy (some (blockOf (now (table .entry)) row)) (draftOf h (now (kinds .entry)) (now (bits .entry))) (now (out .entry)) ⌝ }
+    ensures { λ r. ⌜ writeOutcome (writtenSays r) (now (out .exit)) ≡ writtenBy ceiling (some (blockOf (now (table .entry)) row)) (draftOf h (now (kinds .entry)) (now (bits .entry))) (now (out .entry)) ⌝ }
 {
     let a = draft::accepts(table, row, h, kinds, bits);
     if !a.ok {
@@ -115,17 +123,24 @@ fn put(table: &[u8], row: Row, h: Head, kinds: &[u8], bits: &[u64], out: &mut [u
     let subs = a.subs;
     let z = draft::sizes(table, row, h.revision as u8, subs);
     let all = z.all;
-    if !((all <= out.len()) & (all <= 65532) & (z.sub <= 255)) {
+    if !((all <= out.len()) & (all <= ceiling) & (z.sub <= 255)) {
         return Written::Refused(Refusal::NoRoom);
     }
     put_block(table, row, h, kinds, bits, subs, z, out);
     Written::Length(all)
 }
 
-// The block of a draft, at the start of the buffer.
-pub fn write(table: &[u8], h: Head, kinds: &[u8], bits: &[u64], out: &mut [u8]) -> Written
+// The block of a draft, of no more bytes than the ceiling, at the start of the buffer.
+pub fn write(
+    ceiling: usize,
+    table: &[u8],
+    h: Head,
+    kinds: &[u8],
+    bits: &[u64],
+    out: &mut [u8],
+) -> Written
     requires { ⌜ tableOk (now table) ≡ true ⌝ }
-    ensures { λ r. ⌜ writeOutcome (writtenSays r) (now (out .exit)) ≡ writtenOf (decode (now (table .entry))) (draftOf h (now (kinds .entry)) (now (bits .entry))) (now (out .entry)) ⌝ }
+    ensures { λ r. ⌜ writeOutcome (writtenSays r) (now (out .exit)) ≡ writtenOf ceiling (decode (now (table .entry))) (draftOf h (now (kinds .entry)) (now (bits .entry))) (now (out .entry)) ⌝ }
 {
     if 65535 < h.number {
         return Written::Refused(Refusal::NoRow);
@@ -137,7 +152,7 @@ pub fn write(table: &[u8], h: Head, kinds: &[u8], bits: &[u64], out: &mut [u8]) 
             if row.firsts != 0 {
                 return Written::Refused(Refusal::NoRow);
             }
-            put(table, row, h, kinds, bits, out)
+            put(ceiling, table, row, h, kinds, bits, out)
         }
         RowFound::Nothing => Written::Refused(Refusal::NoRow),
     }

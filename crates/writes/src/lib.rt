@@ -1,4 +1,4 @@
-// Write (rule W1): a block made through the table in force.
+// Write (rule W1): a block made through the table in force, under the state's ceiling (C17).
 ghost use mathlib.Core.Path.{_≡_};
 ghost use Rattle.draft.specs.Draft.{draftOf};
 ghost use Rattle.writer.specs.Write.{writeOutcome, writtenSays};
@@ -21,8 +21,10 @@ pub fn write(
 {
     let c = records::of_ask(s, in_force);
     let n = s.in_force;
+    let run = s.run;
+    let settings = run.settings;
     match c {
         Check::Refused(why) => Written::Refused(why),
-        Check::Passed => writer::write(&in_force[..n], h, kinds, bits, out),
+        Check::Passed => writer::write(settings.ceiling, &in_force[..n], h, kinds, bits, out),
     }
 }

@@ -166,21 +166,20 @@ module _ {tab : Table} {r : BlockRow} {d : Draft} {buffer b : List ℕ} (s : Kno
 
 -- ---- it is written again
 
-written-same : (tab : Table) (r : BlockRow) (d : Draft) (buffer b room : List ℕ) (ws : List Wanted) (ss : List (List Wanted)) → Making tab r d buffer b
-    → findRow tab (d .number) ≡ some r → Alike r d ws ss → length b ≤ length room
-    → writtenOf tab (relisted d ws ss) room ≡ writeOutcome (wrote (length b)) (over b room)
+written-same : (top : ℕ) (tab : Table) (r : BlockRow) (d : Draft) (buffer b room : List ℕ) (ws : List Wanted) (ss : List (List Wanted)) → Making tab r d buffer b
+    → findRow tab (d .number) ≡ some r → Alike r d ws ss → length b ≤ top → length b ≤ length room
+    → writtenOf top tab (relisted d ws ss) room ≡ writeOutcome (wrote (length b)) (over b room)
 unfolding writtenOf writtenBy roomFor
-written-same tab r d buffer b room ws ss m found a fits =
+written-same top tab r d buffer b room ws ss m found a under fits =
     let n : blockLength r (relisted d ws ss) ≡ length b = same-length r d ws ss a ∙ sym (m .size) in
     let c : blockBytes r (relisted d ws ss) ≡ b = same-bytes r d ws ss a ∙ sym (m .bytes) in
-    let most : length b ≤ 65532 = omega (arith, m .size, m .room .most) in
     let room-is = le-leb (length b) (length room) fits in
     let sub = le-leb (sbLength r d) 255 (m .room .sub) in
-    rw (found, eq-eqb (r .firsts) 0 (m .found .one), same-draft r d ws ss a (m .draft), n, c, same-sub r d ws ss a, room-is, le-leb (length b) 65532 most, sub)
+    rw (found, eq-eqb (r .firsts) 0 (m .found .one), same-draft r d ws ss a (m .draft), n, c, same-sub r d ws ss a, room-is, le-leb (length b) top under, sub)
 
 pub all-write-back : AllWriteBack
-all-write-back tab r d buffer b room m fits =
-    let s = known tab r d buffer b m in
-    let back = all-read-back tab r d buffer b m in
-    ap (λ (x : Draft). writtenOf tab x room) (read-is s back)
-    ∙ written-same tab r d buffer b room _ _ (s .making) (m .found) (read-alike s back) fits
+all-write-back c top tab r d buffer b room m under fits =
+    let s = known c tab r d buffer b m in
+    let back = all-read-back c tab r d buffer b m in
+    ap (λ (x : Draft). writtenOf top tab x room) (read-is s back)
+    ∙ written-same top tab r d buffer b room _ _ (s .making) (m .found) (read-alike s back) under fits

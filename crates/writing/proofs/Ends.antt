@@ -47,8 +47,8 @@ module _ (r : BlockRow) (d : Draft) (k : RowKept r) (a : Admitted r d) where
   block-shortest m e h = let l = end-shortest m h in omega (arith, l)
 
 pub all-shortest : AllShortest
-all-shortest tab r d buffer b m =
-    let g = making tab r d buffer b m in
+all-shortest c tab r d buffer b m =
+    let g = making c tab r d buffer b m in
     let k = g .found .kept in
     let a = g .draft in
     rw (g .size)

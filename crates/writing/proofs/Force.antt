@@ -1,23 +1,27 @@
--- Write wrote, so no refusal came before: the state is sound, the table in force passes, and each record call answers by it.
+-- Write wrote, so no refusal came before: the state is sound and its ceiling is one, the table in force passes, and each record call
+-- answers by it.
 -- Assumes nothing.
 use mathlib.Core.Bool.{true, _&&_}
 use mathlib.Core.List.{List}
 use mathlib.Core.Option.{Option, none, some}
 use mathlib.Core.Path.{_≡_, refl, sym, ap, _∙_}
-use Prim.Native.Nat.{ℕ}
+use Prim.Native.Nat.{ℕ, _%_}
 use lib.Dec.{ltb}
 use lib.ListN.{length, take}
-use Rattle.wire.proofs.Tests.{both}
+use borrow.Author.Tests.{le-leb, eq-eqb}
+use Rattle.wire.proofs.Tests.{both, both-true}
+use Rattle.frame.specs.Frame.{greatestCeiling, ceilingOk}
+use Rattle.frame.proofs.View.{Ceiling}
 use Rattle.rows.specs.declared.FieldRow.{FieldRow}
 use Rattle.table.specs.Rows.{BlockRow}
 use Rattle.table.specs.Decode.{decode}
 use Rattle.table.specs.Lookup.{findRow}
 use Rattle.table.specs.Rules.{formOk, meaningOk, tableOk}
 use Rattle.record.specs.Calls.{bodyField, subField, subBlockRefusal, stamp, towRow, wncRow}
-use Rattle.reader.specs.State.{sound}
+use Rattle.reader.specs.State.{ceilingOf, sound}
 use Rattle.reader.specs.Refusals.{need, longStore, tableRefusal}
 use Rattle.reader.specs.declared.State.{State}
-use Rattle.reader.proofs.Laws.{passes}
+use Rattle.reader.proofs.Laws.{passes, facts}
 use Rattle.records.specs.Calls.{tableInForce, askRefusal, bodyOf, subOf, subBytesRefusal, stampOf}
 use Rattle.records.proofs.Asking.{asked}
 use Rattle.draft.specs.Draft.{Draft}
@@ -34,11 +38,11 @@ asked-none : (o : Option ℕ) (buffer : List ℕ) (w : WriteOutcome) (n : ℕ) �
 asked-none none buffer w n e = refl
 asked-none (some m) buffer w n e = refused-none m n e
 
-row-found : (o : Option BlockRow) (d : Draft) (buffer : List ℕ) (n : ℕ) → writtenBy (writableRow o) d buffer .said ≡ wrote n
+row-found : (c : ℕ) (o : Option BlockRow) (d : Draft) (buffer : List ℕ) (n : ℕ) → writtenBy c (writableRow o) d buffer .said ≡ wrote n
     → (r : BlockRow) × (o ≡ some r)
 unfolding writtenBy
-row-found none d buffer n e = refused-none 6 n e
-row-found (some r) d buffer n e = (r, refl)
+row-found c none d buffer n e = refused-none 6 n e
+row-found c (some r) d buffer n e = (r, refl)
 
 sound-by : (s : State) (force : List ℕ) → askRefusal s force ≡ none → sound s ≡ true
 unfolding askRefusal
@@ -46,6 +50,10 @@ sound-by s force e =
     both (sound s) (longStore force)
     (passes (sound s && longStore force) 1 (need (ltb 0 (s .«in_force»)) 5 (tableRefusal (tableInForce s force))) e .0)
     .0
+
+ceiling-by : (c : ℕ) → Ceiling c → ceilingOk c ≡ true
+unfolding ceilingOk
+ceiling-by c f = both-true (both-true (eq-eqb (c % 4) 0 (f .four)) (le-leb 16 c (f .low))) (le-leb c greatestCeiling (f .high))
 
 meaning-by : (s : State) (force : List ℕ) → askRefusal s force ≡ none → meaningOk (decode (tableInForce s force)) ≡ true
 unfolding tableOk
@@ -89,16 +97,18 @@ module _ (s : State) (force b : List ℕ) (e : askRefusal s force ≡ none) wher
 pub all-read-back-in-force : AllReadBackInForce
 unfolding writeOf writtenOf
 all-read-back-in-force s force d buffer b m =
+    let c = ceilingOf s in
     let tab = decode (tableInForce s force) in
-    let e = asked-none (askRefusal s force) buffer (writtenOf tab d buffer) (length b) (m .answer) in
-    let w : writeOf s force d buffer ≡ writtenOf tab d buffer = ap (λ (o : Option ℕ). writtenUnless o buffer (writtenOf tab d buffer)) e in
+    let e = asked-none (askRefusal s force) buffer (writtenOf c tab d buffer) (length b) (m .answer) in
+    let w : writeOf s force d buffer ≡ writtenOf c tab d buffer = ap (λ (o : Option ℕ). writtenUnless o buffer (writtenOf c tab d buffer)) e in
     let answer = ap (λ (x : WriteOutcome). x .said) (sym w) ∙ m .answer in
-    let f = row-found (findRow tab (d .number)) d buffer (length b) answer in
-    let made : Made tab (f .0) d buffer b =
+    let f = row-found c (findRow tab (d .number)) d buffer (length b) answer in
+    let made : Made c tab (f .0) d buffer b =
     record {
+      ceiling = ceiling-by c (facts s (sound-by s force e) .ceiling);
       right = meaning-by s force e;
       found = f .1;
       answer = answer;
       front = ap (λ (x : WriteOutcome). take (length b) (x .buffer)) (sym w) ∙ m .front;
     } in
-    (f .0, back-in s force b e (f .0) d (f .1) (all-read-back tab (f .0) d buffer b made))
+    (f .0, back-in s force b e (f .0) d (f .1) (all-read-back c tab (f .0) d buffer b made))

@@ -1,15 +1,16 @@
--- A block that was made is one whole frame, by its header and its length; read as a run it is one block.
+-- A block that was made is one whole frame, by its header and its length; read as a run, with any ceiling that it is not above, it is
+-- one block.
 -- Assumes nothing.
 use mathlib.Core.Bool.{true}
 use mathlib.Core.Path.{_≡_, refl, sym, ap, _∙_}
-use Prim.Native.Nat.{_+_, _%_, _<_, _≤_}
+use Prim.Native.Nat.{ℕ, _+_, _%_, _<_, _≤_}
 use native.Mathlib.Nat.{zero-add}
 use native.Mathlib.Omega.{arith}
 use lib.ListN.{length, take, drop}
 use lib.Seq.{take-all, take-length}
 use borrow.Author.Tests.{eq-eqb, le-leb}
 use Rattle.crc.specs.Crc.{crcOf}
-use Rattle.frame.specs.Frame.{syncAt, lengthAt, allowed, endsWithin, crcRight, frameAt, wholeFrame}
+use Rattle.frame.specs.Frame.{greatestCeiling, syncAt, lengthAt, allowed, endsWithin, crcRight, frameAt, wholeFrame}
 use Rattle.framing.specs.ReadRun.{blockAt, nothingRead, blockThen, readRun}
 use Rattle.framing.specs.Theorems.{readAt}
 use Rattle.framing.proofs.Reading.{rule}
@@ -41,9 +42,11 @@ module _ (r : BlockRow) (d : Draft) (k : RowKept r) (most : blockLength r d ≤ 
   unfolding blockEndBy
   eight = omega (arith, at-last (d .revision) 14 (r .body) (k .body .order), round-holds (blockEnd r d))
 
-  size-allowed : allowed (lengthAt (blockBytes r d) 0) ≡ true
+  size-allowed : (top : ℕ) → blockLength r d ≤ top → allowed top (lengthAt (blockBytes r d) 0) ≡ true
   unfolding allowed
-  size-allowed = rw (size-is r d most) (both-true (eq-eqb (blockLength r d % 4) 0 (omega arith)) (le-leb 8 (blockLength r d) eight))
+  size-allowed top under =
+      rw (size-is r d most)
+      (both-true (both-true (eq-eqb (blockLength r d % 4) 0 (omega arith)) (le-leb 8 (blockLength r d) eight)) (le-leb (blockLength r d) top under))
 
   within : endsWithin (blockBytes r d) 0 ≡ true
   unfolding endsWithin
@@ -61,34 +64,37 @@ module _ (r : BlockRow) (d : Draft) (k : RowKept r) (most : blockLength r d ≤ 
       take-all (0 + lengthAt (blockBytes r d) 0) (blockBytes r d) (omega (arith, size-all)) in
       eq-eqb _ _ (crc-is r d ∙ ap crcOf (sym (ap (drop 4) all ∙ behind)))
 
-  pub stands : frameAt (blockBytes r d) 0 ≡ true
+  pub stands : (top : ℕ) → blockLength r d ≤ top → frameAt top (blockBytes r d) 0 ≡ true
   unfolding frameAt
-  stands = both-true (both-true (both-true sync size-allowed) within) crc-right
+  stands top under = both-true (both-true (both-true sync (size-allowed top under)) within) crc-right
 
   pub is-whole : wholeFrame (blockBytes r d) ≡ true
   unfolding wholeFrame
-  is-whole = both-true stands (eq-eqb _ _ size-all)
+  is-whole = both-true (stands greatestCeiling most) (eq-eqb _ _ size-all)
 
   -- ---- the run
 
-  rest-none : readAt (blockBytes r d) (0 + lengthAt (blockBytes r d) 0) ≡ nothingRead
-  rest-none =
-      ap (readAt (blockBytes r d)) (zero-add (lengthAt (blockBytes r d) 0) ∙ size-all) ∙ rule .end (blockBytes r d)
+  rest-none : (top : ℕ) → readAt top (blockBytes r d) (0 + lengthAt (blockBytes r d) 0) ≡ nothingRead
+  rest-none top =
+      ap (readAt top (blockBytes r d)) (zero-add (lengthAt (blockBytes r d) 0) ∙ size-all) ∙ rule top .end (blockBytes r d)
 
   block-is : d .number ≤ 8191 → d .revision ≤ 7 → blockThen (blockAt 0 (lengthAt (blockBytes r d) 0) (blockBytes r d)) nothingRead ≡ oneBlock d (blockBytes r d)
   unfolding blockAt
   block-is n v = rw (size-all, take-length (blockBytes r d), number-is r d n v, revision-is r d n v)
 
-  one-block : d .number ≤ 8191 → d .revision ≤ 7 → readRun 0 (blockBytes r d) ≡ oneBlock d (blockBytes r d)
-  one-block n v =
+  one-block : d .number ≤ 8191 → d .revision ≤ 7 → (top : ℕ) → blockLength r d ≤ top → readRun top 0 (blockBytes r d) ≡ oneBlock d (blockBytes r d)
+  one-block n v top under =
       let some : 0 < length (blockBytes r d) = omega (arith, length-block r d k, eight) in
-      rule .block (blockBytes r d) 0 some stands
-      ∙ ap (blockThen (blockAt 0 (lengthAt (blockBytes r d) 0) (blockBytes r d))) rest-none
+      rule top .block (blockBytes r d) 0 some (stands top under)
+      ∙ ap (blockThen (blockAt 0 (lengthAt (blockBytes r d) 0) (blockBytes r d))) (rest-none top)
       ∙ block-is n v
 
 pub all-framed : AllFramed
-all-framed tab r d buffer b m =
-    let g = making tab r d buffer b m in
+all-framed c tab r d buffer b m =
+    let g = making c tab r d buffer b m in
     let k = g .found .kept in
     rw (g .bytes)
-    (record { whole = is-whole r d k (g .room .most); run = one-block r d k (g .room .most) (g .found .small) (g .draft .revision) })
+    (record {
+      whole = is-whole r d k (g .room .most);
+      run = λ top under. one-block r d k (g .room .most) (g .found .small) (g .draft .revision) top (omega (arith, under, length-block r d k));
+    })

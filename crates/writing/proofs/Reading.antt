@@ -187,4 +187,4 @@ module _ {tab : Table} {r : BlockRow} {d : Draft} {buffer b : List ℕ} (s : Kno
       }
 
 pub all-read-back : AllReadBack
-all-read-back tab r d buffer b m = reads-back-all (known tab r d buffer b m)
+all-read-back c tab r d buffer b m = reads-back-all (known c tab r d buffer b m)

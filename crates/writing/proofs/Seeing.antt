@@ -175,15 +175,15 @@ module _ {tab : Table} {r : BlockRow} {d : Draft} {buffer b : List ℕ} (s : Kno
   pub count-is : subCount b r ≡ length (d .subs)
   count-is = bool? (hasSubs r) (λ h. rw h (count-back h)) (λ h. rw h (sym (s .making .draft .alone h)))
 
-pub known : (tab : Table) (r : BlockRow) (d : Draft) (buffer b : List ℕ) → Made tab r d buffer b → Known tab r d buffer b
-known tab r d buffer b m =
-    let g = making tab r d buffer b m in
-    let f = all-framed tab r d buffer b m in
+pub known : (c : ℕ) (tab : Table) (r : BlockRow) (d : Draft) (buffer b : List ℕ) → Made c tab r d buffer b → Known tab r d buffer b
+known c tab r d buffer b m =
+    let g = making c tab r d buffer b m in
+    let f = all-framed c tab r d buffer b m in
     record {
       making = g;
       found = m .found;
       whole = f .whole;
       number = ap numberIn (g .bytes) ∙ number-is r d (g .found .small) (g .draft .revision);
       revision = ap revisionIn (g .bytes) ∙ revision-is r d (g .found .small) (g .draft .revision);
-      shortest = all-shortest tab r d buffer b m;
+      shortest = all-shortest c tab r d buffer b m;
     }

@@ -14,6 +14,7 @@ use Rattle.table.specs.Rows.{BlockRow}
 use Rattle.value.specs.Said.{unsigned, signed, single}
 use Rattle.entry.specs.Wanted.{Wanted}
 use Rattle.draft.specs.Draft.{Draft}
+use Rattle.frame.specs.Frame.{greatestCeiling}
 use Rattle.writer.specs.Write.{WriteSaid, wrote, writeRefused, WriteOutcome, writeOutcome, writtenOf}
 
 -- ---- rows
@@ -141,10 +142,20 @@ blockCases =
 
 -- W1: by a table of this row, into a buffer of two bytes more, which stay as they are
 abbrev pub blockWritten : BlockCase → WriteOutcome
-blockWritten c = writtenOf (record { version = 1; rows = c .row ∷ [] }) (c .draft) (replicate (c .size + 2) 0xEE)
+blockWritten c = writtenOf greatestCeiling (record { version = 1; rows = c .row ∷ [] }) (c .draft) (replicate (c .size + 2) 0xEE)
 
 abbrev pub blockExpected : BlockCase → WriteOutcome
 blockExpected c = writeOutcome (c .said) (c .bytes ++ 0xEE ∷ 0xEE ∷ [])
 
 abbrev pub BlocksHold : Type 0
 BlocksHold = map blockWritten blockCases ≡ map blockExpected blockCases
+
+-- R12, C17: the block with a gap, of 28 bytes, under ceilings
+abbrev pub gapWritten : ℕ → WriteSaid
+gapWritten top =
+    writtenOf top (record { version = 1; rows = gapRow ∷ [] })
+    (stampedBy gapRow 0 (some (unsigned 123456)) (some (unsigned 2200)) (some (unsigned 0xAB) ∷ some (unsigned 0x11223344) ∷ some (signed (negsuc 1)) ∷ []) [])
+    (replicate 30 0xEE) .said
+
+abbrev pub CeilingsHold : Type 0
+CeilingsHold = map gapWritten (24 ∷ 28 ∷ 32 ∷ []) ≡ writeRefused 12 ∷ wrote 28 ∷ wrote 28 ∷ []

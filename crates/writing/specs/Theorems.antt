@@ -8,7 +8,7 @@ use mathlib.Core.Option.{Option, none, some}
 use mathlib.Core.Path.{_≡_}
 use lib.ListN.{length, getD, take}
 use Rattle.wire.specs.Range.{Bytes}
-use Rattle.frame.specs.Frame.{wholeFrame}
+use Rattle.frame.specs.Frame.{ceilingOk, wholeFrame}
 use Rattle.framing.specs.ReadRun.{Reading, readRun}
 use Rattle.rows.specs.declared.FieldRow.{FieldRow}
 use Rattle.table.specs.Lists.{tabulate, pick}
@@ -25,12 +25,13 @@ use Rattle.draft.specs.Draft.{Draft, draftOk, sbLength, blockLength}
 use Rattle.writer.specs.Write.{wrote, writeOutcome, writtenOf}
 use Rattle.writing.specs.Holds.{HoldsFields, Holds}
 
--- b is a block that Write made of a draft by a row: as many bytes at the start of the buffer as it answered
-pub record Made (tab : Table) (r : BlockRow) (d : Draft) (buffer b : List ℕ) : Type 0 where
+-- b is a block that Write made of a draft by a row, under the ceiling c: as many bytes at the start of the buffer as it answered
+pub record Made (c : ℕ) (tab : Table) (r : BlockRow) (d : Draft) (buffer b : List ℕ) : Type 0 where
+  pub ceiling : ceilingOk c ≡ true
   pub right : meaningOk tab ≡ true
   pub found : findRow tab (d .number) ≡ some r
-  pub answer : writtenOf tab d buffer .said ≡ wrote (length b)
-  pub front : take (length b) (writtenOf tab d buffer .buffer) ≡ b
+  pub answer : writtenOf c tab d buffer .said ≡ wrote (length b)
+  pub front : take (length b) (writtenOf c tab d buffer .buffer) ≡ b
 
 -- ---- W20
 
@@ -73,7 +74,7 @@ pub record ReadsBack (tab : Table) (r : BlockRow) (d : Draft) (b : List ℕ) : T
   pub sub-nine : (k j n : ℕ) → subField tab b k j ≡ fieldRefused n → n ≡ 9
 
 abbrev pub AllReadBack : Type 0
-AllReadBack = (tab : Table) (r : BlockRow) (d : Draft) (buffer b : List ℕ) → Made tab r d buffer b → ReadsBack tab r d b
+AllReadBack = (c : ℕ) (tab : Table) (r : BlockRow) (d : Draft) (buffer b : List ℕ) → Made c tab r d buffer b → ReadsBack tab r d b
 
 -- ---- W21
 
@@ -99,10 +100,12 @@ draftRead tab r b =
       subs = tabulate (λ k. tabulate (λ j. asRead (subField tab b k j)) 0 (length (r .subs))) 0 (subCount b r);
     }
 
+-- under the same ceiling or another one that has room
 abbrev pub AllWriteBack : Type 0
 AllWriteBack =
-    (tab : Table) (r : BlockRow) (d : Draft) (buffer b room : List ℕ) → Made tab r d buffer b → length b ≤ length room
-    → writtenOf tab (draftRead tab r b) room ≡ writeOutcome (wrote (length b)) (over b room)
+    (c top : ℕ) (tab : Table) (r : BlockRow) (d : Draft) (buffer b room : List ℕ) → Made c tab r d buffer b → length b ≤ top
+    → length b ≤ length room
+    → writtenOf top tab (draftRead tab r b) room ≡ writeOutcome (wrote (length b)) (over b room)
 
 -- ---- W22
 
@@ -116,10 +119,11 @@ oneBlock d b =
 
 pub record FramedAlone (d : Draft) (b : List ℕ) : Type 0 where
   pub whole : wholeFrame b ≡ true
-  pub run : readRun 0 b ≡ oneBlock d b
+  -- with any ceiling that is not below its length
+  pub run : (top : ℕ) → length b ≤ top → readRun top 0 b ≡ oneBlock d b
 
 abbrev pub AllFramed : Type 0
-AllFramed = (tab : Table) (r : BlockRow) (d : Draft) (buffer b : List ℕ) → Made tab r d buffer b → FramedAlone d b
+AllFramed = (c : ℕ) (tab : Table) (r : BlockRow) (d : Draft) (buffer b : List ℕ) → Made c tab r d buffer b → FramedAlone d b
 
 -- ---- W23
 
@@ -133,7 +137,7 @@ pub record Shortest (r : BlockRow) (d : Draft) (n : ℕ) : Type 0 where
   pub shortest : (m : ℕ) → m % 4 ≡ 0 → Holds r d (sbLength r d) m → n ≤ m
 
 abbrev pub AllShortest : Type 0
-AllShortest = (tab : Table) (r : BlockRow) (d : Draft) (buffer b : List ℕ) → Made tab r d buffer b → Shortest r d (length b)
+AllShortest = (c : ℕ) (tab : Table) (r : BlockRow) (d : Draft) (buffer b : List ℕ) → Made c tab r d buffer b → Shortest r d (length b)
 
 -- ---- W24
 

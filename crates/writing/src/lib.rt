@@ -2,7 +2,7 @@
 // the contracts cite; and cases of both, computed.
 ghost use Rattle.writing.specs.Giving.{CanBeGiven, GivingHolds};
 ghost use Rattle.writing.specs.InForce.{AllReadBackInForce};
-ghost use Rattle.writing.specs.Samples.{BlocksHold};
+ghost use Rattle.writing.specs.Samples.{BlocksHold, CeilingsHold};
 ghost use Rattle.writing.specs.Theorems.{AllReadBack, AllWriteBack, AllFramed, AllShortest, NeverOver};
 
 // W20: it reads back.
@@ -48,4 +48,9 @@ pub fn giving_holds()
 // W6 to W9: blocks with all their bytes.
 pub fn blocks_hold()
     ensures { λ _. ⌜ BlocksHold ⌝ }
+{}
+
+// R12, C17: a block under ceilings below its length, at it and above it.
+pub fn ceilings_hold()
+    ensures { λ _. ⌜ CeilingsHold ⌝ }
 {}

@@ -4,13 +4,12 @@ use mathlib.Core.Path.{_≡_, sym, ap, _∙_}
 use mathlib.Core.List.{List}
 use Prim.Native.Nat.{ℕ, _-_, _+_, _≤_, min}
 use native.Mathlib.Omega.{arith}
-use lib.ListN.{length, drop}
+use lib.ListN.{length}
 use lib.Seq.{length-take-le}
-use Rattle.wire.specs.Range.{Bytes}
 use Rattle.scan.specs.Feed.{Intake, feedLit}
 use Rattle.scan.specs.Passed.{scannedOf}
 use Rattle.feed.specs.Hold.{restOf}
-use Rattle.feed.proofs.Bounds.{take-bytes, drop-bytes, fed-held}
+use Rattle.feed.proofs.Bounds.{fed-held}
 use Rattle.feed.proofs.Literally.{roomed, rest-length, sum, few, whole, numbers-are, kept}
 use borrow.Author.Needs.{needs}
 use Rattle.feed.proofs.feed.Statement.{statement}
@@ -43,7 +42,7 @@ abbrev entry : tie.After-scan → tie.Start
 entry s = s .before .before .before .before .before .before .before
 
 front : (s : tie.After-scan) → entry s .args .standing ≤ entry s .args .held
-front s = entry s .pre .0
+front s = entry s .pre .1
 
 fits : (s : tie.After-scan) → entry s .args .held ≤ length (entry s .args .hold .now)
 fits s = omega (arith, entry s .pre)
@@ -54,35 +53,28 @@ rest s = let a = entry s .args in restOf (a .hold .now) (a .held) (a .standing)
 
 -- what the rule gives
 abbrev fed : tie.After-scan → Intake
-fed s = feedLit (rest s) (entry s .args .piece .now) (entry s .args .room)
+fed s = feedLit (entry s .args .ceiling) (rest s) (entry s .args .piece .now) (entry s .args .room)
 
 came : (s : tie.After-scan) → s .scan .result ≡ scannedOf (fed s)
 unfolding restOf
 came s =
     let a = entry s .args in
     let l = s .before .before .before .before .lesser in
-    s .scan .ensures ∙ ap scannedOf (roomed (rest s) (a .piece .now) (a .room) (l .result) (l .ensures))
+    s .scan .ensures ∙ ap scannedOf (roomed (a .ceiling) (rest s) (a .piece .now) (a .room) (l .result) (l .ensures))
 
 -- none is lost
 adds : (s : tie.After-scan)
     → entry s .args .held - entry s .args .standing + s .scan .result .taken ≡ s .scan .result .passed .skipped + length (fed s .held)
-adds s = let a = entry s .args in sum (a .hold .now) (a .held) (a .standing) (a .piece .now) (a .room) (front s) (fits s) (s .scan .result) (came s)
+adds s = let a = entry s .args in sum (a .ceiling) (a .hold .now) (a .held) (a .standing) (a .piece .now) (a .room) (front s) (fits s) (s .scan .result) (came s)
 
 takes : (s : tie.After-scan) → s .scan .result .taken ≤ min (entry s .args .room) (length (entry s .args .piece .now))
-takes s = let a = entry s .args in few (a .hold .now) (a .held) (a .standing) (a .piece .now) (a .room) (front s) (fits s) (s .scan .result) (came s)
-
-byte-h : (s : tie.After-scan) → Bytes (entry s .args .hold .now)
-byte-h s i = omega (arith, s .before .before .before .before .before .before .slice-known .given i)
-
-byte-p : (s : tie.After-scan) → Bytes (entry s .args .piece .now)
-byte-p s i = omega (arith, s .before .before .before .before .before .shared-slice-known .given i)
+takes s = let a = entry s .args in few (a .ceiling) (a .hold .now) (a .held) (a .standing) (a .piece .now) (a .room) (front s) (fits s) (s .scan .result) (came s)
 
 held-few : (s : tie.After-scan) → length (fed s .held) ≤ 65532
 unfolding restOf
 held-few s =
     let a = entry s .args in
-    fed-held (a .piece .now) (a .room) (rest s)
-    (take-bytes (drop (a .standing) (a .hold .now)) (a .held - a .standing) (drop-bytes (a .hold .now) (a .standing) (byte-h s))) (byte-p s)
+    fed-held (a .ceiling) (entry s .pre .0) (a .piece .now) (a .room) (rest s)
     (omega (arith, rest-length (a .hold .now) (a .held) (a .standing) (front s) (fits s), entry s .pre))
 
 add-m : tie.Need-add-m
@@ -96,8 +88,8 @@ keep-requires c κs =
     let f = held-few s in
     omega (arith, t, l, f, entry s .pre)
 
-sub-t14 : tie.Need-sub-t14
-sub-t14 c = omega (arith, adds (c .before .before .before .before .before))
+sub-t15 : tie.Need-sub-t15
+sub-t15 c = omega (arith, adds (c .before .before .before .before .before))
 
 same-length : tie.Need-same-length
 same-length c = search needs
@@ -109,10 +101,10 @@ returns c =
     let t = takes s in
     let l = adds s in
     let f = held-few s in
-    let w = whole (a .hold .now) (a .held) (a .standing) (a .piece .now) (a .room) (front s) (fits s) (s .scan .result) (came s) in (
-      numbers-are (a .hold .now) (a .held) (a .standing) (a .piece .now) (a .room) (front s) (fits s) (s .scan .result) (came s),
+    let w = whole (a .ceiling) (a .hold .now) (a .held) (a .standing) (a .piece .now) (a .room) (front s) (fits s) (s .scan .result) (came s) in (
+      numbers-are (a .ceiling) (a .hold .now) (a .held) (a .standing) (a .piece .now) (a .room) (front s) (fits s) (s .scan .result) (came s),
       (
-        kept (a .hold .now) (a .held) (a .standing) (a .piece .now) (a .room) (front s) (fits s) (s .scan .result) (came s) (c .before .before .keep .ensures),
+        kept (a .ceiling) (a .hold .now) (a .held) (a .standing) (a .piece .now) (a .room) (front s) (fits s) (s .scan .result) (came s) (c .before .before .keep .ensures),
         record { front = omega (arith, l, w); few = omega (arith, l, f); taken = t },
       ),
     )
@@ -130,6 +122,6 @@ feed-spec =
     scan-requires
     add-m
     keep-requires
-    sub-t14
+    sub-t15
     same-length
     returns)

@@ -35,12 +35,12 @@ front s = entry s .pre .0
 fits : (s : tie.After-last) → entry s .args .held ≤ length (entry s .args .hold .now)
 fits s = omega (arith, entry s .pre)
 
-came : (s : tie.After-last) → s .last .result ≡ scannedOf (stop (settle judgedLast (restOf (entry s .args .hold .now) (entry s .args .held) (entry s .args .standing))))
+came : (s : tie.After-last) → s .last .result ≡ scannedOf (stop (settle (judgedLast (entry s .args .ceiling)) (restOf (entry s .args .hold .now) (entry s .args .held) (entry s .args .standing))))
 unfolding restOf
 came s = s .last .ensures
 
 few : (s : tie.After-last) → s .last .result .passed .skipped ≤ entry s .args .held - entry s .args .standing
-few s = let a = entry s .args in end-few (a .hold .now) (a .held) (a .standing) (front s) (fits s) (s .last .result) (came s)
+few s = let a = entry s .args in end-few (a .ceiling) (a .hold .now) (a .held) (a .standing) (front s) (fits s) (s .last .result) (came s)
 
 sub-k : tie.Need-sub-k
 sub-k c = omega arith
@@ -62,10 +62,10 @@ returns c =
     let s = c .before .before .before .before .before in
     let a = entry s .args in
     let f = few s in
-    let g = end-front (a .hold .now) (a .held) (a .standing) (front s) (fits s) (s .last .result) (came s) in (
-      end-told (a .hold .now) (a .held) (a .standing) (front s) (fits s) (s .last .result) (came s),
+    let g = end-front (a .ceiling) (a .hold .now) (a .held) (a .standing) (front s) (fits s) (s .last .result) (came s) in (
+      end-told (a .ceiling) (a .hold .now) (a .held) (a .standing) (front s) (fits s) (s .last .result) (came s),
       (
-        end-kept (a .hold .now) (a .held) (a .standing) (front s) (fits s) (s .last .result) (came s) (c .before .before .move-down .ensures),
+        end-kept (a .ceiling) (a .hold .now) (a .held) (a .standing) (front s) (fits s) (s .last .result) (came s) (c .before .before .move-down .ensures),
         record { front = g; few = omega (arith, entry s .pre); taken = omega arith },
       ),
     )

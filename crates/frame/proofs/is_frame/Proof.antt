@@ -6,7 +6,7 @@ use mathlib.Core.List.{append-nil}
 use Prim.Native.Nat.{ℕ}
 use lib.ListN.{length}
 use lib.Dec.{eqb}
-use Rattle.frame.specs.Frame.{lengthAt, frameAt, wholeFrame}
+use Rattle.frame.specs.Frame.{greatestCeiling, lengthAt, frameAt, wholeFrame}
 use Rattle.frame.specs.Judge.{judged}
 use Rattle.frame.proofs.Standing.{front-judged, judged-front}
 use Rattle.wire.proofs.Tests.{bool?}
@@ -24,23 +24,23 @@ judge-requires c κs = search needs
 enum-known-v : tie.Need-enum-known-v
 enum-known-v c = search needs
 
-judges : (j : tie.After-judge) → j .judge .result ≡ judged (j .before .before .before .args .s .now)
-judges j = j .judge .ensures ∙ ap judged (append-nil (j .before .before .before .args .s .now))
+judges : (j : tie.After-judge) → j .judge .result ≡ judged greatestCeiling (j .before .before .before .args .s .now)
+judges j = j .judge .ensures ∙ ap (judged greatestCeiling) (append-nil (j .before .before .before .args .s .now))
 
 returns : tie.Need-returns
 unfolding wholeFrame
 returns c =
     let s = c .before .before .before .before .before .before .args .s .now in
     let n = c .before .v .given .0 .0 in
-    let f = judged-front s n (sym (judges (c .before .before .before)) ∙ c .before .v .given .1) in
+    let f = judged-front greatestCeiling s n (sym (judges (c .before .before .before)) ∙ c .before .v .given .1) in
     ap (λ (k : ℕ). eqb k (length s)) (f .1) ∙ ap (λ (b : Bool). b && eqb (lengthAt s 0) (length s)) (sym (f .0))
 
 returns-2 : tie.Need-returns-2
 unfolding wholeFrame
 returns-2 c =
     let s = c .before .before .before .before .args .s .now in
-    bool? (frameAt s 0)
-    (λ e. absurd (no-frame (c .before .judge .result) (c .match .keys2) (lengthAt s 0) (judges (c .before) ∙ front-judged s e)))
+    bool? (frameAt greatestCeiling s 0)
+    (λ e. absurd (no-frame (c .before .judge .result) (c .match .keys2) (lengthAt s 0) (judges (c .before) ∙ front-judged greatestCeiling s e)))
     (λ e. ap (λ (b : Bool). b && eqb (lengthAt s 0) (length s)) (sym e))
 
 pub is-frame-spec : {M : Type 1} → statement M

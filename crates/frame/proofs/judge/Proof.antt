@@ -23,6 +23,10 @@ use Rattle.frame.proofs.judge.Tie as tie
 abbrev run : tie.After-shared-slice-known2 → List ℕ
 run b = b .before .before .args .a .now ++ b .before .before .args .b .now
 
+-- the ceiling
+abbrev top : tie.After-shared-slice-known2 → ℕ
+top b = b .before .before .args .ceiling
+
 long : (b : tie.After-shared-slice-known2) → length (run b) ≡ length (b .before .before .args .a .now) + length (b .before .before .args .b .now)
 long b = length-append (b .before .before .args .a .now) (b .before .before .args .b .now)
 
@@ -52,9 +56,9 @@ head u =
       second = second (u .before .before);
     }
 
-ok : (c : tie.Else6) → allowed (lengthAt (run (start (c .before .before))) 0) ≡ true
+ok : (c : tie.Else6) → allowed (top (start (c .before .before))) (lengthAt (run (start (c .before .before))) 0) ≡ true
 ok c =
-    ap allowed (sym (c .before .before .pair-at .ensures)) ∙ sym (c .before .length-allowed .ensures) ∙ not-false _ (c .if6 .left)
+    ap (allowed (top (start (c .before .before)))) (sym (c .before .before .pair-at .ensures)) ∙ sym (c .before .length-allowed .ensures) ∙ not-false _ (c .if6 .left)
 
 -- the test of the CRC, as `crcRight` has it
 sums : (c : tie.After-pair-at2)
@@ -70,7 +74,7 @@ add-left : tie.Need-add-left
 add-left c = search needs
 
 returns : tie.Need-returns
-returns c = sym (empty (run (c .before)) (omega (arith, long (c .before), c .if1 .taken)))
+returns c = sym (empty (top (c .before)) (run (c .before)) (omega (arith, long (c .before), c .if1 .taken)))
 
 at-requires : tie.Need-at-requires
 at-requires c κs = search needs
@@ -78,12 +82,12 @@ at-requires c κs = search needs
 returns-2 : tie.Need-returns-2
 returns-2 c =
     let b = c .before .before .before in
-    sym (sync0 (run b) (some (c .before .before)) (λ e. c .if2 .taken (c .before .at .ensures ∙ e)))
+    sym (sync0 (top b) (run b) (some (c .before .before)) (λ e. c .if2 .taken (c .before .at .ensures ∙ e)))
 
 returns-3 : tie.Need-returns-3
 returns-3 c =
     let b = c .before .before .before .before in
-    sym (one (run b) (some (c .before .before .before)) (first (c .before)) (long b ∙ c .if3 .taken))
+    sym (one (top b) (run b) (some (c .before .before .before)) (first (c .before)) (long b ∙ c .if3 .taken))
 
 at-requires-2 : tie.Need-at-requires-2
 at-requires-2 c κs = search needs
@@ -91,15 +95,18 @@ at-requires-2 c κs = search needs
 returns-4 : tie.Need-returns-4
 returns-4 c =
     let b = c .before .before .before .before .before .before in
-    sym (sync1 (run b) (two (c .before .before)) (first (c .before .before .before)) (λ e. c .if4 .taken (c .before .at2 .ensures ∙ e)))
+    sym (sync1 (top b) (run b) (two (c .before .before)) (first (c .before .before .before)) (λ e. c .if4 .taken (c .before .at2 .ensures ∙ e)))
 
 returns-5 : tie.Need-returns-5
 returns-5 c =
     let b = c .before .before .before .before .before .before .before in
-    sym (short (run b) (two (c .before .before .before)) (first (c .before .before .before .before)) (second (c .before)) (omega (arith, long b, c .if5 .taken)))
+    sym (short (top b) (run b) (two (c .before .before .before)) (first (c .before .before .before .before)) (second (c .before)) (omega (arith, long b, c .if5 .taken)))
 
 pair-at-requires : tie.Need-pair-at-requires
 pair-at-requires c κs = search needs
+
+cast-n : tie.Need-cast-n
+cast-n c = search needs
 
 length-allowed-requires : tie.Need-length-allowed-requires
 length-allowed-requires c κs = search needs
@@ -109,24 +116,21 @@ returns-6 c =
     let u = c .before .before in
     let d = head u in
     sym
-    (bad-length (run (start u)) (omega (arith, d .eight)) (d .first) (d .second) (d .eight)
-    (ap allowed (sym (u .pair-at .ensures)) ∙ sym (c .before .length-allowed .ensures) ∙ not-true _ (c .if6 .taken)))
-
-cast-n : tie.Need-cast-n
-cast-n c = search needs
+    (bad-length (top (start u)) (run (start u)) (omega (arith, d .eight)) (d .first) (d .second) (d .eight)
+    (ap (allowed (top (start u))) (sym (u .pair-at .ensures)) ∙ sym (c .before .length-allowed .ensures) ∙ not-true _ (c .if6 .taken)))
 
 returns-7 : tie.Need-returns-7
 returns-7 c =
     let u = c .before .before .before in
     let d = head u in
     sym
-    (part (run (start u)) (omega (arith, d .eight)) (d .first) (d .second) (d .eight) (ok (c .before))
+    (part (top (start u)) (run (start u)) (omega (arith, d .eight)) (d .first) (d .second) (d .eight) (ok (c .before))
     (omega (arith, long (start u), c .if7 .taken, u .pair-at .ensures)))
 
 crc-between-requires : tie.Need-crc-between-requires
 crc-between-requires c κs =
     let u = c .before .before .before in
-    (omega (arith, allows (lengthAt (run (start u)) 0) (ok (c .before)) .not-small, u .pair-at .ensures), omega (arith, c .if7 .left))
+    (omega (arith, allows (top (start u)) (lengthAt (run (start u)) 0) (ok (c .before)) .not-small, u .pair-at .ensures), omega (arith, c .if7 .left))
 
 pair-at-requires-2 : tie.Need-pair-at-requires-2
 pair-at-requires-2 c κs = search needs
@@ -136,7 +140,7 @@ returns-8 c =
     let u = c .before .before .before .before .before .before in
     let d = head u in
     sym
-    (good (run (start u)) (omega (arith, d .eight)) (d .first) (d .second) (d .eight) (ok (c .before .before .before .before))
+    (good (top (start u)) (run (start u)) (omega (arith, d .eight)) (d .first) (d .second) (d .eight) (ok (c .before .before .before .before))
     (omega (arith, long (start u), c .before .before .before .if7 .left, u .pair-at .ensures))
     (sums (c .before) ∙ eq-eqb (c .before .pair-at2 .result) (c .before .before .crc-between .result) (c .if8 .taken))
     ∙ ap Frame (sym (u .pair-at .ensures)))
@@ -146,7 +150,7 @@ returns-9 c =
     let u = c .before .before .before .before .before .before in
     let d = head u in
     sym
-    (bad (run (start u)) (omega (arith, d .eight)) (d .first) (d .second) (d .eight) (ok (c .before .before .before .before))
+    (bad (top (start u)) (run (start u)) (omega (arith, d .eight)) (d .first) (d .second) (d .eight) (ok (c .before .before .before .before))
     (omega (arith, long (start u), c .before .before .before .if7 .left, u .pair-at .ensures))
     (sums (c .before) ∙ ne-eqb (c .before .pair-at2 .result) (c .before .before .crc-between .result) (c .if8 .left))
     ∙ ap (λ (k : ℕ). NoFrame (CrcWrong k)) (sym (u .pair-at .ensures)))
@@ -164,9 +168,9 @@ judge-spec =
     returns-4
     returns-5
     pair-at-requires
+    cast-n
     length-allowed-requires
     returns-6
-    cast-n
     returns-7
     crc-between-requires
     pair-at-requires-2

@@ -16,8 +16,11 @@ use Rattle.frame.proofs.judge_last.Tie as tie
 abbrev run : tie.After-judge → List ℕ
 run j = j .before .before .before .args .s .now
 
-verdict : (j : tie.After-judge) {x : Verdict} → j .judge .result ≡ x → judged (run j) ≡ x
-verdict j e = sym (j .judge .ensures ∙ ap judged (append-nil (run j))) ∙ e
+abbrev top : tie.After-judge → ℕ
+top j = j .before .before .before .args .ceiling
+
+verdict : (j : tie.After-judge) {x : Verdict} → j .judge .result ≡ x → judged (top j) (run j) ≡ x
+verdict j e = sym (j .judge .ensures ∙ ap (judged (top j)) (append-nil (run j))) ∙ e
 
 slice-aggregate-judge : tie.Need-slice-aggregate-judge
 slice-aggregate-judge c = search needs
@@ -31,22 +34,22 @@ enum-told c = search needs
 returns : tie.Need-returns
 returns c =
     let j = c .before .before .before in
-    sym (last-ends (run j) (verdict j (c .before .enum-told .given .1)) (lt-ltb (length (run j)) 2 (omega arith)) refl)
+    sym (last-ends (top j) (run j) (verdict j (c .before .enum-told .given .1)) (lt-ltb (length (run j)) 2 (omega arith)) refl)
 
 returns-2 : tie.Need-returns-2
 returns-2 c =
     let j = c .before .before .before .before in
     sym
-    (last-ends (run j) (verdict j (c .before .before .enum-told .given .1)) (le-ltb (length (run j)) 2 (omega arith)) (lt-ltb (length (run j)) 8 (omega arith)))
+    (last-ends (top j) (run j) (verdict j (c .before .before .enum-told .given .1)) (le-ltb (length (run j)) 2 (omega arith)) (lt-ltb (length (run j)) 8 (omega arith)))
 
 returns-3 : tie.Need-returns-3
 returns-3 c =
     let j = c .before .before .before .before in
     sym
-    (last-ends (run j) (verdict j (c .before .before .enum-told .given .1)) (le-ltb (length (run j)) 2 (omega arith)) (le-ltb (length (run j)) 8 (omega arith)))
+    (last-ends (top j) (run j) (verdict j (c .before .before .enum-told .given .1)) (le-ltb (length (run j)) 2 (omega arith)) (le-ltb (length (run j)) 8 (omega arith)))
 
 returns-4 : tie.Need-returns-4
-returns-4 c = let j = c .before in sym (last-same (run j) (j .judge .result) (c .match .keys2) (verdict j refl))
+returns-4 c = let j = c .before in sym (last-same (top j) (run j) (j .judge .result) (c .match .keys2) (verdict j refl))
 
 pub judge-last-spec : {M : Type 1} → statement M
 judge-last-spec = tie.close (tie.spec slice-aggregate-judge judge-requires enum-told returns returns-2 returns-3 returns-4)

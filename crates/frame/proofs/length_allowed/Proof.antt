@@ -1,4 +1,4 @@
--- `frame::length_allowed` meets its contract: the same two tests.
+-- `frame::length_allowed` meets its contract: the same three tests.
 -- Assumes nothing.
 use mathlib.Core.Path.{refl}
 use Rattle.frame.specs.Frame.{allowed}

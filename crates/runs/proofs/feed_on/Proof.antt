@@ -11,7 +11,7 @@ use Rattle.scan.specs.Feed.{Intake}
 use Rattle.feed.specs.Hold.{restOf, numbersOf, holdOf, GoodNumbers}
 use Rattle.feed.specs.declared.HoldNumbers.{HoldNumbers}
 use Rattle.feed.proofs.Literally.{rest-length}
-use Rattle.reader.specs.State.{limit, sound}
+use Rattle.reader.specs.State.{limit, ceilingOf, sound}
 use Rattle.reader.specs.Said.{Report, took}
 use Rattle.reader.specs.Refusals.{longHold}
 use Rattle.runs.specs.Refusals.{feedRefusal}
@@ -32,7 +32,7 @@ unfolding feedRefusal
 room c = with-hold (c .args .s) (c .args .hold .now) (passes (sound (c .args .s) && longHold (c .args .hold .now)) 1 _ (c .pre) .0)
 
 abbrev entry : tie.After-feed → tie.Start
-entry d = d .before .before .before .before .before .before
+entry d = d .before .before .before .before .before .before .before
 
 -- what was fed, by the definition
 abbrev meaning : tie.After-feed → Intake
@@ -42,18 +42,18 @@ numbers : (d : tie.After-feed) → d .feed .result ≡ numbersOf (meaning d)
 unfolding feedingOf
 numbers d = d .feed .ensures .0
 
-left : (d : tie.After-feed) → d .feed .last .0 ≡ holdOf (meaning d) (entry d .args .hold .now)
+left : (d : tie.After-feed) → d .feed .last .1 .0 ≡ holdOf (meaning d) (entry d .args .hold .now)
 unfolding feedingOf
 left d = d .feed .ensures .1 .0
 
 whole : (d : tie.After-feed) → WholeIf (meaning d .standing) (meaning d .held)
 unfolding feedingOf
-whole d = fed-whole _ _ _
+whole d = fed-whole _ _ _ _
 
 good : (d : tie.After-feed) → GoodNumbers (d .feed .result) (min (limit - entry d .args .s .run .counts .taken) (length (entry d .args .piece .now)))
 good d = d .feed .ensures .1 .1
 
-long-left : (d : tie.After-feed) → length (entry d .args .hold .now) ≤ length (d .feed .last .0)
+long-left : (d : tie.After-feed) → length (entry d .args .hold .now) ≤ length (d .feed .last .1 .0)
 long-left d =
     let F = meaning d in
     omega (arith, ap length (left d) ∙ length-append (meaning d .held) (drop (length (meaning d .held)) (entry d .args .hold .now)), length-drop (length (meaning d .held)) (entry d .args .hold .now))
@@ -79,15 +79,15 @@ fewer d =
     let a = entry d .args in
     let f = room (entry d) in
     rw (sym (rest-length (a .hold .now) (a .s .run .held) (a .s .run .standing) (f .0 .front) (omega (arith, f .0 .held, f .1))))
-    (fed-few (restOf (a .hold .now) (a .s .run .held) (a .s .run .standing)) (a .piece .now) (limit - a .s .run .counts .taken) (d .feed .result) (numbers d))
+    (fed-few (ceilingOf (a .s)) (restOf (a .hold .now) (a .s .run .held) (a .s .run .standing)) (a .piece .now) (limit - a .s .run .counts .taken) (d .feed .result) (numbers d))
 
 sub-room : tie.Need-sub-room
-sub-room c = omega (arith, room (c .before .before .before .before) .0 .taken)
+sub-room c = omega (arith, room (c .before .before .before .before .before) .0 .taken)
 
 feed-requires : tie.Need-feed-requires
 feed-requires c κs =
-    let f = room (c .before .before .before .before .before) in
-    (f .0 .front, f .0 .held, omega (arith, f .1))
+    let f = room (c .before .before .before .before .before .before) in
+    (f .0 .ceiling .high, f .0 .front, f .0 .held, omega (arith, f .1))
 
 went-on-requires : tie.Need-went-on-requires
 went-on-requires c κs =

@@ -11,7 +11,7 @@ use Rattle.scan.specs.Feed.{Intake}
 use Rattle.feed.specs.Hold.{restOf, numbersOf, holdOf}
 use Rattle.feed.specs.declared.HoldNumbers.{HoldNumbers}
 use Rattle.feed.proofs.Literally.{rest-length}
-use Rattle.reader.specs.State.{sound}
+use Rattle.reader.specs.State.{ceilingOf, sound}
 use Rattle.reader.specs.Said.{ended, found}
 use Rattle.reader.specs.Refusals.{longHold}
 use Rattle.runs.specs.Refusals.{finishRefusal}
@@ -32,7 +32,7 @@ unfolding finishRefusal
 room c = with-hold (c .args .s) (c .args .hold .now) (passes (sound (c .args .s) && longHold (c .args .hold .now)) 1 _ (c .pre) .0)
 
 abbrev entry : tie.After-finish → tie.Start
-entry d = d .before .before .before .before
+entry d = d .before .before .before .before .before
 
 -- what finishing gave, by the definition
 abbrev meaning : tie.After-finish → Intake
@@ -42,15 +42,15 @@ numbers : (d : tie.After-finish) → d .finish .result ≡ numbersOf (meaning d)
 unfolding finishingOf
 numbers d = d .finish .ensures .0
 
-left : (d : tie.After-finish) → d .finish .last .0 ≡ holdOf (meaning d) (entry d .args .hold .now)
+left : (d : tie.After-finish) → d .finish .last .1 .0 ≡ holdOf (meaning d) (entry d .args .hold .now)
 unfolding finishingOf
 left d = d .finish .ensures .1 .0
 
 whole : (d : tie.After-finish) → WholeIf (meaning d .standing) (meaning d .held)
 unfolding finishingOf
-whole d = end-whole _
+whole d = end-whole _ _
 
-long-left : (d : tie.After-finish) → length (entry d .args .hold .now) ≤ length (d .finish .last .0)
+long-left : (d : tie.After-finish) → length (entry d .args .hold .now) ≤ length (d .finish .last .1 .0)
 long-left d =
     omega (arith, ap length (left d) ∙ length-append (meaning d .held) (drop (length (meaning d .held)) (entry d .args .hold .now)), length-drop (length (meaning d .held)) (entry d .args .hold .now))
 
@@ -60,7 +60,7 @@ fewer d =
     let a = entry d .args in
     let f = room (entry d) in
     rw (sym (rest-length (a .hold .now) (a .s .run .held) (a .s .run .standing) (f .0 .front) (omega (arith, f .0 .held, f .1))))
-    (end-few (restOf (a .hold .now) (a .s .run .held) (a .s .run .standing)) (d .finish .result) (numbers d))
+    (end-few (ceilingOf (a .s)) (restOf (a .hold .now) (a .s .run .held) (a .s .run .standing)) (d .finish .result) (numbers d))
 
 -- the sums fit
 went-on-requires : tie.Need-went-on-requires
@@ -85,7 +85,7 @@ run-is w =
 
 finish-requires : tie.Need-finish-requires
 finish-requires c κs =
-    let f = room (c .before .before .before) in
+    let f = room (c .before .before .before .before) in
     (f .0 .front, f .0 .held, omega (arith, f .1))
 
 phase-after-requires : tie.Need-phase-after-requires

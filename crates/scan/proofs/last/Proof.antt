@@ -19,10 +19,10 @@ use Rattle.scan.proofs.last.Statement.{statement}
 use Rattle.scan.proofs.last.Tie as tie
 
 abbrev Inv-loop : tie.InvT-loop
-Inv-loop held passed₀ passed = (passed .skipped ≤ length held) × (fromEnd held (passed .skipped) passed ≡ fromEnd held 0 nothingPassed)
+Inv-loop ceiling held passed₀ passed = (passed .skipped ≤ length held) × (fromEnd ceiling held (passed .skipped) passed ≡ fromEnd ceiling held 0 nothingPassed)
 
 abbrev μ-loop : tie.MeasureT-loop
-μ-loop held passed₀ passed = length held - passed .skipped
+μ-loop ceiling held passed₀ passed = length held - passed .skipped
 
 nothing-passed-requires : tie.Need-nothing-passed-requires Inv-loop μ-loop
 nothing-passed-requires c κs = search needs
@@ -30,7 +30,7 @@ nothing-passed-requires c κs = search needs
 loop-holds : tie.Need-loop-holds Inv-loop μ-loop
 loop-holds c =
     let e = c .nothing-passed .ensures in
-    (omega (arith, ap (λ (x : Passed). x .skipped) e), ap (λ (x : Passed). fromEnd (c .before .before .args .held .now) (x .skipped) x) e)
+    (omega (arith, ap (λ (x : Passed). x .skipped) e), ap (λ (x : Passed). fromEnd (c .before .before .args .ceiling) (c .before .before .args .held .now) (x .skipped) x) e)
 
 start-from-requires : tie.Need-start-from-requires Inv-loop μ-loop
 start-from-requires c κs = c .before .before .loop .inv .0
@@ -41,6 +41,9 @@ sub-count-no-sync c = c .start-from .ensures .from
 -- the held bytes
 abbrev bytes : tie.After-start-from Inv-loop μ-loop → List ℕ
 bytes f = f .before .before .before .before .before .before .args .held .now
+
+abbrev topAt : tie.After-start-from Inv-loop μ-loop → ℕ
+topAt f = f .before .before .before .before .before .before .args .ceiling
 
 count-no-sync-requires : tie.Need-count-no-sync-requires Inv-loop μ-loop
 count-no-sync-requires c κs = omega (arith, c .start-from .ensures .from, c .start-from .ensures .within)
@@ -58,12 +61,12 @@ placed n =
     omega (arith, e, f .start-from .ensures .from)
 
 there : (n : tie.After-count-no-sync Inv-loop μ-loop)
-    → fromEnd (bytes (n .before)) (n .before .start-from .result) (past n) ≡ fromEnd (bytes (n .before)) 0 nothingPassed
+    → fromEnd (topAt (n .before)) (bytes (n .before)) (n .before .start-from .result) (past n) ≡ fromEnd (topAt (n .before)) (bytes (n .before)) 0 nothingPassed
 there n =
     let f = n .before in
     let l = f .before .before .before .loop in
-    ap (fromEnd (bytes f) (f .start-from .result)) (n .count-no-sync .ensures)
-    ∙ sym (end-skip (bytes f) (l .passed .skipped) (f .start-from .result) (l .passed) (f .start-from .ensures))
+    ap (fromEnd (topAt f) (bytes f) (f .start-from .result)) (n .count-no-sync .ensures)
+    ∙ sym (end-skip (topAt f) (bytes f) (l .passed .skipped) (f .start-from .result) (l .passed) (f .start-from .ensures))
     ∙ l .inv .1
 
 inside : (c : tie.Else2 Inv-loop μ-loop) → c .before .before .start-from .result < length (bytes (c .before .before))
@@ -78,11 +81,14 @@ run j = bytes (begin j .before)
 abbrev place : tie.After-judge-last Inv-loop μ-loop → ℕ
 place j = begin j .before .start-from .result
 
-verdict : (j : tie.After-judge-last Inv-loop μ-loop) {x : Verdict} → j .judge-last .result ≡ x → judgedLast (drop (place j) (run j)) ≡ x
+abbrev top : tie.After-judge-last Inv-loop μ-loop → ℕ
+top j = topAt (begin j .before)
+
+verdict : (j : tie.After-judge-last Inv-loop μ-loop) {x : Verdict} → j .judge-last .result ≡ x → judgedLast (top j) (drop (place j) (run j)) ≡ x
 verdict j e =
     sym
     (j .judge-last .ensures
-    ∙ ap judgedLast (take-all (length (run j) - place j) (drop (place j) (run j)) (omega (arith, length-drop (place j) (run j)))))
+    ∙ ap (judgedLast (top j)) (take-all (length (run j) - place j) (drop (place j) (run j)) (omega (arith, length-drop (place j) (run j)))))
     ∙ e
 
 last-found-requires : tie.Need-last-found-requires Inv-loop μ-loop
@@ -92,7 +98,7 @@ returns : tie.Need-returns Inv-loop μ-loop
 returns c =
     let n = c .before .before in
     c .last-found .ensures
-    ∙ sym (end-end (bytes (n .before)) (n .before .start-from .result) (past n) (omega (arith, c .before .if2 .taken)))
+    ∙ sym (end-end (topAt (n .before)) (bytes (n .before)) (n .before .start-from .result) (past n) (omega (arith, c .before .if2 .taken)))
     ∙ there n
 
 sub-judge-last : tie.Need-sub-judge-last Inv-loop μ-loop
@@ -118,7 +124,7 @@ returns-2 c =
     let v = c .before .before in
     let j = v .before .before in
     c .last-found2 .ensures
-    ∙ sym (end-frame (run j) (place j) (past (begin j)) (v .v .given .0 .0) (inside (j .before .before)) (verdict j (v .v .given .1)))
+    ∙ sym (end-frame (top j) (run j) (place j) (past (begin j)) (v .v .given .0 .0) (inside (j .before .before)) (verdict j (v .v .given .1)))
     ∙ there (begin j)
 
 enum-known-v-2 : tie.Need-enum-known-v-2 Inv-loop μ-loop
@@ -144,9 +150,9 @@ loop-again c =
     let v = c .before .before in
     let j = c .before .before .before .before in (
       omega (arith, one-more c, inside (j .before .before)),
-      ap (λ (i : ℕ). fromEnd (run j) i (c .count .result)) (one-more c)
-          ∙ ap (fromEnd (run j) (place j + 1)) (c .count .ensures)
-          ∙ sym (end-pass (run j) (place j) (past (begin j)) (v .v2 .given .0 .0) (inside (j .before .before)) (verdict j (v .v2 .given .1)))
+      ap (λ (i : ℕ). fromEnd (top j) (run j) i (c .count .result)) (one-more c)
+          ∙ ap (fromEnd (top j) (run j) (place j + 1)) (c .count .ensures)
+          ∙ sym (end-pass (top j) (run j) (place j) (past (begin j)) (v .v2 .given .0 .0) (inside (j .before .before)) (verdict j (v .v2 .given .1)))
           ∙ there (begin j),
     )
 
@@ -159,16 +165,16 @@ last-found-requires-3 c κs = search needs
 returns-3 : tie.Need-returns-3 Inv-loop μ-loop
 returns-3 c =
     let j = c .before .before .before in
-    absurd (last-decides (drop (place j) (run j)) (verdict j (c .before .enum-told .given .1)))
+    absurd (last-decides (top j) (drop (place j) (run j)) (verdict j (c .before .enum-told .given .1)))
 
 last-found-requires-4 : tie.Need-last-found-requires-4 Inv-loop μ-loop
 last-found-requires-4 c κs = search needs
 
 returns-4 : tie.Need-returns-4 Inv-loop μ-loop
 returns-4 c =
-    let w = c .before .before .before .before .before .before .args .held .now in
+    let w = c .before .before .before .before .before .before .args in
     let l = c .before .before .before .loop in
-    c .last-found4 .ensures ∙ sym (end-end w (l .passed .skipped) (l .passed) (omega (arith, c .before))) ∙ l .inv .1
+    c .last-found4 .ensures ∙ sym (end-end (w .ceiling) (w .held .now) (l .passed .skipped) (l .passed) (omega (arith, c .before))) ∙ l .inv .1
 
 pub last-spec : {M : Type 1} → statement M
 last-spec =

@@ -24,7 +24,7 @@ entry s = s .before .before .before .before
 
 -- what the call is to give
 abbrev whole : tie.After-scan-part → Scanned
-whole s = let a = entry s .args in scannedOf (feedLit (a .held .now) (a .piece .now) (length (a .piece .now)))
+whole s = let a = entry s .args in scannedOf (feedLit (a .ceiling) (a .held .now) (a .piece .now) (length (a .piece .now)))
 
 -- what is given for what is found in the end
 abbrev given : tie.After-scan-part → Stretch → Scanned
@@ -32,43 +32,43 @@ given s x = let a = entry s .args in scannedBy x (length (a .held .now)) (length
 
 -- what the held bytes give, where nothing was passed before
 begun : (s : tie.After-scan-part) {x : Stretch} → s .scan-part .result ≡ x
-    → stretchOf (settle (withRest judged (entry s .args .piece .now)) (entry s .args .held .now)) nothingPassed (length (entry s .args .held .now)) ≡ x
+    → stretchOf (settle (withRest (judged (entry s .args .ceiling)) (entry s .args .piece .now)) (entry s .args .held .now)) nothingPassed (length (entry s .args .held .now)) ≡ x
 begun s e =
     let a = entry s .args in
-    ap (λ (p : Passed). stretchOf (settle (withRest judged (a .piece .now)) (a .held .now)) p (length (a .held .now))) (sym (s .before .nothing-passed .ensures))
+    ap (λ (p : Passed). stretchOf (settle (withRest (judged (a .ceiling)) (a .piece .now)) (a .held .now)) p (length (a .held .now))) (sym (s .before .nothing-passed .ensures))
     ∙ sym (s .scan-part .ensures)
     ∙ e
 
 -- and then the piece
-first : (s : tie.After-scan-part) {x : Stretch} → s .scan-part .result ≡ x → whole s ≡ given s (thenPart judged (entry s .args .piece .now) x)
+first : (s : tie.After-scan-part) {x : Stretch} → s .scan-part .result ≡ x → whole s ≡ given s (thenPart (judged (entry s .args .ceiling)) (entry s .args .piece .now) x)
 first s e =
     let a = entry s .args in
-    found judged judging (a .held .now) (a .piece .now)
+    found (judged (a .ceiling)) (judging (a .ceiling)) (a .held .now) (a .piece .now)
     ∙ ap (given s)
-    (part-then judged (a .piece .now) (a .held .now) nothingPassed (length (a .held .now)) ∙ ap (thenPart judged (a .piece .now)) (begun s e))
+    (part-then (judged (a .ceiling)) (a .piece .now) (a .held .now) nothingPassed (length (a .held .now)) ∙ ap (thenPart (judged (a .ceiling)) (a .piece .now)) (begun s e))
 
 first-kept : (s : tie.After-scan-part) {x : Stretch} → s .scan-part .result ≡ x → Kept (0 + length (entry s .args .held .now)) (length (entry s .args .held .now)) x
 first-kept s e =
     let a = entry s .args in
     subst (Kept (0 + length (a .held .now)) (length (a .held .now))) (begun s e)
-    (kept (withRest judged (a .piece .now)) (a .held .now) nothingPassed (length (a .held .now)))
+    (kept (withRest (judged (a .ceiling)) (a .piece .now)) (a .held .now) nothingPassed (length (a .held .now)))
 
 abbrev start : tie.After-scan-part2 → tie.After-scan-part
 start t = t .before .before .before .before .before
 
-second : (t : tie.After-scan-part2) {x : Stretch} → t .scan-part2 .result ≡ x → whole (start t) ≡ given (start t) (thenPart judged [] x)
+second : (t : tie.After-scan-part2) {x : Stretch} → t .scan-part2 .result ≡ x → whole (start t) ≡ given (start t) (thenPart (judged (entry (start t) .args .ceiling)) [] x)
 second t e =
     let s = start t in
     let b = t .before .before .before .before2 .given in
     first s (b .1)
-    ∙ ap (given s) (last-part judged (entry s .args .piece .now) (b .0 .0) (b .0 .1 .0) ∙ ap (thenPart judged []) (sym (t .scan-part2 .ensures) ∙ e))
+    ∙ ap (given s) (last-part (judged (entry s .args .ceiling)) (entry s .args .piece .now) (b .0 .0) (b .0 .1 .0) ∙ ap (thenPart (judged (entry s .args .ceiling)) []) (sym (t .scan-part2 .ensures) ∙ e))
 
 second-kept : (t : tie.After-scan-part2) {x : Stretch} → t .scan-part2 .result ≡ x
     → Kept (t .before .before .before .before2 .given .0 .0 .skipped + length (entry (start t) .args .piece .now)) (t .before .before .before .before2 .given .0 .1 .0) x
 second-kept t e =
     let p = entry (start t) .args .piece .now in
     let b = t .before .before .before .before2 .given in
-    subst (Kept (b .0 .0 .skipped + length p) (b .0 .1 .0)) (sym (t .scan-part2 .ensures) ∙ e) (kept (withRest judged []) p (b .0 .0) (b .0 .1 .0))
+    subst (Kept (b .0 .0 .skipped + length p) (b .0 .1 .0)) (sym (t .scan-part2 .ensures) ∙ e) (kept (withRest (judged (entry (start t) .args .ceiling)) []) p (b .0 .0) (b .0 .1 .0))
 
 nothing-passed-requires : tie.Need-nothing-passed-requires
 nothing-passed-requires c κs = search needs
@@ -79,8 +79,8 @@ scan-part-requires c κs = omega (arith, ap (λ (p : Passed). p .skipped) (c .no
 enum-known-passed : tie.Need-enum-known-passed
 enum-known-passed c = search needs
 
-sub-t20 : tie.Need-sub-t20
-sub-t20 c = omega (arith, first-kept (c .before .before .before) (c .before .passed .given .1))
+sub-t21 : tie.Need-sub-t21
+sub-t21 c = omega (arith, first-kept (c .before .before .before) (c .before .passed .given .1))
 
 enum-known-passed-2 : tie.Need-enum-known-passed-2
 enum-known-passed-2 c = search needs
@@ -100,8 +100,8 @@ scan-part-requires-2 c κs =
 enum-known-passed-3 : tie.Need-enum-known-passed-3
 enum-known-passed-3 c = search needs
 
-sub-t25 : tie.Need-sub-t25
-sub-t25 c =
+sub-t26 : tie.Need-sub-t26
+sub-t26 c =
     let t = c .before .before .before in
     let b = t .before .before .before in
     omega (arith, second-kept t (c .before .passed3 .given .1), first-kept (start t) (b .before2 .given .1) .1)
@@ -135,13 +135,13 @@ scan-spec =
     nothing-passed-requires
     scan-part-requires
     enum-known-passed
-    sub-t20
+    sub-t21
     enum-known-passed-2
     enum-known-before
     slice-aggregate-scan-part
     scan-part-requires-2
     enum-known-passed-3
-    sub-t25
+    sub-t26
     enum-known-passed-4
     enum-known-passed-5
     returns

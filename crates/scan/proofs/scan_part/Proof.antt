@@ -23,11 +23,11 @@ use Rattle.scan.proofs.scan_part.Statement.{statement}
 use Rattle.scan.proofs.scan_part.Tie as tie
 
 abbrev Inv-loop : tie.InvT-loop
-Inv-loop s rest mark k₀ m₀ passed₀ k m passed =
-    (k ≤ length s) × (passed .skipped ≡ passed₀ .skipped + k) × (fromPlace s rest k passed m ≡ fromPlace s rest 0 passed₀ mark)
+Inv-loop ceiling s rest mark k₀ m₀ passed₀ k m passed =
+    (k ≤ length s) × (passed .skipped ≡ passed₀ .skipped + k) × (fromPlace ceiling s rest k passed m ≡ fromPlace ceiling s rest 0 passed₀ mark)
 
 abbrev μ-loop : tie.MeasureT-loop
-μ-loop s rest mark k₀ m₀ passed₀ k m passed = length s - k
+μ-loop ceiling s rest mark k₀ m₀ passed₀ k m passed = length s - k
 
 loop-holds : tie.Need-loop-holds Inv-loop μ-loop
 loop-holds c = (omega arith, omega arith, refl)
@@ -62,11 +62,11 @@ placed n =
 
 -- what the whole part gives
 abbrev whole : tie.After-start-from Inv-loop μ-loop → Stretch
-whole f = let a = entry f .args in fromPlace (a .s .now) (a .rest .now) 0 (a .before) (a .mark)
+whole f = let a = entry f .args in fromPlace (a .ceiling) (a .s .now) (a .rest .now) 0 (a .before) (a .mark)
 
 -- the places from k on
 abbrev fromHere : tie.After-start-from Inv-loop μ-loop → ℕ → Passed → ℕ → Stretch
-fromHere f = let a = entry f .args in fromPlace (a .s .now) (a .rest .now)
+fromHere f = let a = entry f .args in fromPlace (a .ceiling) (a .s .now) (a .rest .now)
 
 -- the places up to the next start are passed
 there : (n : tie.After-count-no-sync Inv-loop μ-loop)
@@ -76,7 +76,7 @@ there n =
     let a = entry f .args in
     let l = f .before .before .loop in
     ap (λ (x : Passed). fromHere f (f .start-from .result) x (l .m)) (n .count-no-sync .ensures)
-    ∙ sym (skip-run (a .s .now) (a .rest .now) (l .k) (f .start-from .result) (l .passed) (l .m) (f .start-from .ensures))
+    ∙ sym (skip-run (a .ceiling) (a .s .now) (a .rest .now) (l .k) (f .start-from .result) (l .passed) (l .m) (f .start-from .ensures))
     ∙ l .inv .2
 
 inside : (c : tie.Else1 Inv-loop μ-loop) → c .before .before .start-from .result < length (entry (c .before .before) .args .s .now)
@@ -95,12 +95,16 @@ place j = begin j .start-from .result
 abbrev run : tie.After-judge Inv-loop μ-loop → List ℕ
 run j = drop (place j) (entry (begin j) .args .s .now) ++ entry (begin j) .args .rest .now
 
-verdict : (j : tie.After-judge Inv-loop μ-loop) {x : Verdict} → j .judge .result ≡ x → judged (run j) ≡ x
+-- the ceiling
+abbrev top : tie.After-judge Inv-loop μ-loop → ℕ
+top j = entry (begin j) .args .ceiling
+
+verdict : (j : tie.After-judge Inv-loop μ-loop) {x : Verdict} → j .judge .result ≡ x → judged (top j) (run j) ≡ x
 verdict j e =
     let s = entry (begin j) .args .s .now in
     sym
     (j .judge .ensures
-    ∙ ap (λ (x : List ℕ). judged (x ++ entry (begin j) .args .rest .now))
+    ∙ ap (λ (x : List ℕ). judged (top j) (x ++ entry (begin j) .args .rest .now))
     (take-all (length s - place j) (drop (place j) s) (omega (arith, length-drop (place j) s))))
     ∙ e
 
@@ -111,7 +115,7 @@ within j n t =
     omega (arith, t .within, length-append (drop (place j) s) (entry (begin j) .args .rest .now), length-drop (place j) s, inside (j .before .before))
 
 fits : (j : tie.After-judge Inv-loop μ-loop) {x : Verdict} → j .judge .result ≡ x → Fits (run j) x
-fits j e = subst (Fits (run j)) (verdict j e) (judging .fits (run j))
+fits j e = subst (Fits (run j)) (verdict j e) (judging (top j) .fits (run j))
 
 -- the next place fits a number, and so does the block's end
 place-fits : (j : tie.After-judge Inv-loop μ-loop) → past (counted j) .skipped + 1 < 18446744073709551616
@@ -125,7 +129,7 @@ returns c =
     let n = c .before in
     let f = n .before in
     let a = entry f .args in
-    sym (part-end (a .s .now) (a .rest .now) (f .start-from .result) (past n) (f .before .before .loop .m) (omega (arith, c .if1 .taken))) ∙ there n
+    sym (part-end (a .ceiling) (a .s .now) (a .rest .now) (f .start-from .result) (past n) (f .before .before .loop .m) (omega (arith, c .if1 .taken))) ∙ there n
 
 sub-judge : tie.Need-sub-judge Inv-loop μ-loop
 sub-judge c = omega (arith, inside c)
@@ -155,7 +159,7 @@ returns-2 c =
     let v = c .before .before .v in
     ap (Block (past (counted j)) (v .given .0 .0)) (c .greater .ensures)
     ∙ sym
-    (part-frame (a .s .now) (a .rest .now) (place j) (past (counted j)) (begin j .before .before .loop .m) (v .given .0 .0) (inside (j .before .before)) (verdict j (v .given .1)))
+    (part-frame (a .ceiling) (a .s .now) (a .rest .now) (place j) (past (counted j)) (begin j .before .before .loop .m) (v .given .0 .0) (inside (j .before .before)) (verdict j (v .given .1)))
     ∙ there (counted j)
 
 enum-told : tie.Need-enum-told Inv-loop μ-loop
@@ -166,7 +170,7 @@ returns-3 c =
     let j = c .before .before in
     let a = entry (begin j) .args in
     sym
-    (part-waits (a .s .now) (a .rest .now) (place j) (past (counted j)) (begin j .before .before .loop .m) (inside (j .before .before)) (verdict j (c .enum-told .given .1)))
+    (part-waits (a .ceiling) (a .s .now) (a .rest .now) (place j) (past (counted j)) (begin j .before .before .loop .m) (inside (j .before .before)) (verdict j (c .enum-told .given .1)))
     ∙ there (counted j)
 
 enum-known-v-2 : tie.Need-enum-known-v-2 Inv-loop μ-loop
@@ -189,7 +193,7 @@ one-more q =
     omega (arith, e, placed n)
 
 -- no frame stands at the place, for this reason
-reasoned : (w : tie.After-why Inv-loop μ-loop) → judged (run (at (w .before .before))) ≡ NoFrame (CrcWrong (w .why .given .0 .0))
+reasoned : (w : tie.After-why Inv-loop μ-loop) → judged (top (at (w .before .before))) (run (at (w .before .before))) ≡ NoFrame (CrcWrong (w .why .given .0 .0))
 reasoned w =
     let q = w .before .before in
     verdict (at q) (q .before .before .v2 .given .1 ∙ ap NoFrame (w .why .given .1))
@@ -198,7 +202,7 @@ add-greater-2 : tie.Need-add-greater-2 Inv-loop μ-loop
 add-greater-2 c =
     let w = c .before in
     let j = at (w .before .before) in
-    let t : There (w .why .given .0 .0) (run j) = subst (Fits (run j)) (reasoned w) (judging .fits (run j)) in
+    let t : There (w .why .given .0 .0) (run j) = subst (Fits (run j)) (reasoned w) (judging (top j) .fits (run j)) in
     omega (arith, end-fits j (w .why .given .0 .0) t)
 
 greater-requires-2 : tie.Need-greater-requires-2 Inv-loop μ-loop
@@ -224,7 +228,7 @@ loop-again c =
       omega (arith, one-more q),
       ap (λ (i : ℕ). fromHere (begin j) i (q .count .result) (c .greater2 .result)) e
           ∙ ap₂ (fromHere (begin j) (place j + 1)) (q .count .ensures ∙ ap (count (past (counted j))) (w .why .given .1)) (c .greater2 .ensures)
-          ∙ sym (part-pass (a .s .now) (a .rest .now) (place j) (past (counted j)) m (CrcWrong (w .why .given .0 .0)) (inside (j .before .before)) (reasoned w))
+          ∙ sym (part-pass (a .ceiling) (a .s .now) (a .rest .now) (place j) (past (counted j)) m (CrcWrong (w .why .given .0 .0)) (inside (j .before .before)) (reasoned w))
           ∙ there (counted j),
     )
 
@@ -246,7 +250,7 @@ loop-again-2 c =
       omega (arith, inside (j .before .before)),
       one-more q,
       ap₂ (fromHere (begin j) (place j + 1)) (q .count .ensures) (sym (no-mark (v .given .0 .0) (c .match2 .keys2) (past (counted j) .skipped) m))
-          ∙ sym (part-pass (a .s .now) (a .rest .now) (place j) (past (counted j)) m (v .given .0 .0) (inside (j .before .before)) (verdict j (v .given .1)))
+          ∙ sym (part-pass (a .ceiling) (a .s .now) (a .rest .now) (place j) (past (counted j)) m (v .given .0 .0) (inside (j .before .before)) (verdict j (v .given .1)))
           ∙ there (counted j),
     )
 
@@ -254,7 +258,7 @@ returns-4 : tie.Need-returns-4 Inv-loop μ-loop
 returns-4 c =
     let a = c .before .before .before .before .args in
     let l = c .before .loop in
-    sym (part-end (a .s .now) (a .rest .now) (l .k) (l .passed) (l .m) (omega arith)) ∙ l .inv .2
+    sym (part-end (a .ceiling) (a .s .now) (a .rest .now) (l .k) (l .passed) (l .m) (omega arith)) ∙ l .inv .2
 
 pub scan-part-spec : {M : Type 1} → statement M
 scan-part-spec =

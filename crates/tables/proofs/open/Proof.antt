@@ -1,4 +1,4 @@
--- `runs::open` meets its contract: refused, or the table copied and the run begun.
+-- `tables::open` meets its contract: refused, or the table copied and the run begun.
 -- Assumes nothing.
 use mathlib.Core.Path.{_≡_, refl, sym, ap, _∙_}
 use mathlib.Core.Bool.{Bool, cond}
@@ -31,22 +31,22 @@ enum-known-a-2 c = search needs
 abbrev entry : tie.After-of-open → tie.Start
 entry m = m .before .before .before .before
 
-free : (m : tie.After-of-open) {v : ℕ} → m .of-open .result ≡ Version v → openRefusal (entry m .args .s) (entry m .args .in-force .now) (entry m .args .waiting .now) ≡ none
+free : (m : tie.After-of-open) {v : ℕ} → m .of-open .result ≡ Version v → openRefusal (entry m .args .s) (entry m .args .settings) (entry m .args .in-force .now) (entry m .args .waiting .now) ≡ none
 unfolding openOf
 free m e =
     let a = entry m .args in
-    accepted-by (a .s) (a .in-force .now) (opening (a .s) (a .in-force .now) (a .waiting .now)) (openRefusal (a .s) (a .in-force .now) (a .waiting .now))
+    accepted-by (a .s) (a .in-force .now) (opening (a .s) (a .settings) (a .in-force .now) (a .waiting .now)) (openRefusal (a .s) (a .settings) (a .in-force .now) (a .waiting .now))
     (sym (m .of-open .ensures) ∙ ap saidOpened e)
 
 passed : (m : tie.After-of-open) {v : ℕ} → m .of-open .result ≡ Version v → OpenPassed (entry m .args .s) (entry m .args .in-force .now) (entry m .args .waiting .now)
-passed m e = open-passed (entry m .args .s) (entry m .args .in-force .now) (entry m .args .waiting .now) (free m e)
+passed m e = open-passed (entry m .args .s) (entry m .args .settings) (entry m .args .in-force .now) (entry m .args .waiting .now) (free m e)
 
 done : (m : tie.After-of-open) {v : ℕ} → m .of-open .result ≡ Version v
-    → openOf (entry m .args .s) (entry m .args .in-force .now) (entry m .args .waiting .now) ≡ opening (entry m .args .s) (entry m .args .in-force .now) (entry m .args .waiting .now)
+    → openOf (entry m .args .s) (entry m .args .settings) (entry m .args .in-force .now) (entry m .args .waiting .now) ≡ opening (entry m .args .s) (entry m .args .settings) (entry m .args .in-force .now) (entry m .args .waiting .now)
 unfolding openOf
 done m e =
     let a = entry m .args in
-    sym (is-done (a .s) (a .in-force .now) (opening (a .s) (a .in-force .now) (a .waiting .now)) (openRefusal (a .s) (a .in-force .now) (a .waiting .now)) (free m e))
+    sym (is-done (a .s) (a .in-force .now) (opening (a .s) (a .settings) (a .in-force .now) (a .waiting .now)) (openRefusal (a .s) (a .settings) (a .in-force .now) (a .waiting .now)) (free m e))
 
 copy-in-requires : tie.Need-copy-in-requires
 copy-in-requires c κs =
@@ -70,7 +70,7 @@ returns c =
     let q = c .open-state .ensures in
     same-outcome (sym (ap saidOpened (v .1)) ∙ m .of-open .ensures ∙ ap (λ (x : Outcome). x .said) (done m (v .1)))
     (same-state (c .open-state .result) (q .0) (q .1) (q .2)
-    ∙ sym (ap (λ (b : Bool). record { run = freshRun; «in_force» = cond b (a .s .waiting) (a .s .«in_force»); waiting = 0 }) l))
+    ∙ sym (ap (λ (b : Bool). record { run = freshRun (a .settings); «in_force» = cond b (a .s .waiting) (a .s .«in_force»); waiting = 0 }) l))
     (c .before .before .before .copy-in .ensures ∙ copied (a .in-force .now) (a .waiting .now) (a .s .waiting) (omega (arith, p .facts .waiting, p .long-wait))
     ∙ sym (ap (λ (b : Bool). cond b (over (take (a .s .waiting) (a .waiting .now)) (a .in-force .now)) (a .in-force .now)) l))
     ∙ sym (done m (v .1))
@@ -87,7 +87,7 @@ returns-2 c =
     let m = c .before .before .before in
     let a = entry m .args in
     sym
-    (refused-by (a .s) (a .in-force .now) (opening (a .s) (a .in-force .now) (a .waiting .now)) (openRefusal (a .s) (a .in-force .now) (a .waiting .now)) (numberFor (c .before .a .given .0 .0)) refl
+    (refused-by (a .s) (a .in-force .now) (opening (a .s) (a .settings) (a .in-force .now) (a .waiting .now)) (openRefusal (a .s) (a .settings) (a .in-force .now) (a .waiting .now)) (numberFor (c .before .a .given .0 .0)) refl
     (sym (m .of-open .ensures) ∙ ap saidOpened (c .before .a .given .1)))
 
 same-length-3 : tie.Need-same-length-3
@@ -102,7 +102,7 @@ returns-3 c =
     let q = c .open-state2 .ensures in
     same-outcome (sym (ap saidOpened (v .1)) ∙ m .of-open .ensures ∙ ap (λ (x : Outcome). x .said) (done m (v .1)))
     (same-state (c .open-state2 .result) (q .0) (q .1) (q .2)
-    ∙ sym (ap (λ (b : Bool). record { run = freshRun; «in_force» = cond b (a .s .waiting) (a .s .«in_force»); waiting = 0 }) l))
+    ∙ sym (ap (λ (b : Bool). record { run = freshRun (a .settings); «in_force» = cond b (a .s .waiting) (a .s .«in_force»); waiting = 0 }) l))
     (sym (ap (λ (b : Bool). cond b (over (take (a .s .waiting) (a .waiting .now)) (a .in-force .now)) (a .in-force .now)) l))
     ∙ sym (done m (v .1))
 

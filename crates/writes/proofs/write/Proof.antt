@@ -11,8 +11,8 @@ use Rattle.writes.proofs.Asking.{write-refused, write-asked}
 use Rattle.writes.proofs.write.Statement.{statement}
 use Rattle.writes.proofs.write.Tie as tie
 
-free : (e : tie.After-enum-told) → askRefusal (e .before .before .before .before .before .before .before .args .s) (e .before .before .before .before .before .before .before .args .in-force .now) ≡ none
-free e = sym (e .before .before .of-ask .ensures) ∙ ap refusalOf (e .enum-told .given .1)
+free : (e : tie.After-enum-told) → askRefusal (e .before .before .before .before .before .before .before .before .before .args .s) (e .before .before .before .before .before .before .before .before .before .args .in-force .now) ≡ none
+free e = sym (e .before .before .before .before .of-ask .ensures) ∙ ap refusalOf (e .enum-told .given .1)
 
 of-ask-requires : tie.Need-of-ask-requires
 of-ask-requires c κs = search needs
@@ -25,16 +25,16 @@ enum-told c = search needs
 
 slice-aggregate-write : tie.Need-slice-aggregate-write
 slice-aggregate-write c =
-    let a = c .before .before .before .before .before .before .before .before .args in
+    let a = c .before .before .before .before .before .before .before .before .before .before .args in
     sym (length-take-le _ _ (asked (a .s) (a .in-force .now) (free (c .before)) .fits))
 
 write-requires : tie.Need-write-requires
 write-requires c κs =
-    let a = c .before .before .before .before .before .before .before .before .before .args in
+    let a = c .before .before .before .before .before .before .before .before .before .before .before .args in
     asked (a .s) (a .in-force .now) (free (c .before .before)) .ok
 
 returns : tie.Need-returns
-returns c = write-refused _ _ _ _ (sym (c .before .before .before .of-ask .ensures) ∙ ap refusalOf (c .before .c .given .1))
+returns c = write-refused _ _ _ _ (sym (c .before .before .before .before .before .of-ask .ensures) ∙ ap refusalOf (c .before .c .given .1))
 
 same-length : tie.Need-same-length
 same-length c = search needs

@@ -11,8 +11,8 @@ counted-requires c κs = search needs
 
 returns : tie.Need-returns
 returns c =
-    let a = c .before .before .args in
-    ap (λ (k : Counts). record { phase = a .phase; held = a .f .held; standing = a .f .standing; counts = k }) (c .counted .ensures)
+    let a = c .before .before .before .args in
+    ap (λ (k : Counts). record { phase = a .phase; held = a .f .held; standing = a .f .standing; counts = k; settings = a .r .settings }) (c .counted .ensures)
 
 pub went-on-spec : {M : Type 1} → statement M
 went-on-spec = tie.close (tie.spec counted-requires returns)

@@ -23,7 +23,7 @@ scan-requires c κs = search needs
 
 returns : tie.Need-returns
 unfolding restOf
-returns c = gives _ _ (c .before .scan .ensures)
+returns c = gives _ _ _ (c .before .scan .ensures)
 
 pub gives-block-spec : {M : Type 1} → statement M
 gives-block-spec =

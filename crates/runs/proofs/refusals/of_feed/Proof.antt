@@ -12,7 +12,7 @@ use borrow.Author.Tests.{not-true, not-false}
 use Rattle.frame.specs.Judge.{judged}
 use Rattle.scan.specs.Settle.{settle}
 use Rattle.feed.specs.Hold.{restOf}
-use Rattle.reader.specs.State.{limit, sound}
+use Rattle.reader.specs.State.{limit, ceilingOf, sound}
 use Rattle.reader.specs.Refusals.{need, longHold}
 use Rattle.reader.specs.declared.State.{State}
 use Rattle.runs.specs.Refusals.{isFeeding, isSome, feedRefusal}
@@ -66,7 +66,7 @@ also : (a x : Bool) (v : List ℕ) (n : ℕ) {y : Bool} → length v ≡ n → (
 also a x v n e f = ap (λ (m : ℕ). a || (empty m || x)) e ∙ f
 
 abbrev gives : State → List ℕ → Bool
-gives s hold = isSome (settle judged (restOf hold (s .run .held) (s .run .standing)) .standing)
+gives s hold = isSome (settle (judged (ceilingOf s)) (restOf hold (s .run .held) (s .run .standing)) .standing)
 
 returns : tie.Need-returns
 unfolding feedRefusal
@@ -94,7 +94,7 @@ returns-3 c v same =
 
 gives-block-requires : tie.Need-gives-block-requires
 gives-block-requires c κs =
-    let e = c .before .before in
+    let e = c .before .before .before in
     let a = e .before .before .before .before .before .before .args in
     let f = with-hold (a .s) (a .hold .now) (long (e .before .before .before)) in
     (f .0 .front, omega (arith, f .0 .held, f .1))
@@ -102,18 +102,18 @@ gives-block-requires c κs =
 returns-4 : tie.Need-returns-4
 unfolding feedRefusal
 returns-4 c v same =
-    let e = c .before .before .before .before in
+    let e = c .before .before .before .before .before in
     let a = e .before .before .before .before .before .before .args in
     at-3 (safe (a .s) (a .hold .now)) (isFeeding (a .s .run .phase)) _ true (long (e .before .before .before)) (fed e)
-    (also (may (a .s)) (gives (a .s) (a .hold .now)) v (a .piece) same (full-or (may (a .s)) (empty (a .piece)) (gives (a .s) (a .hold .now)) (c .before .before .if3 .left) ∙ sym (c .before .gives-block .ensures) ∙ c .if4 .taken))
+    (also (may (a .s)) (gives (a .s) (a .hold .now)) v (a .piece) same (full-or (may (a .s)) (empty (a .piece)) (gives (a .s) (a .hold .now)) (c .before .before .before .if3 .left) ∙ sym (c .before .gives-block .ensures) ∙ c .if4 .taken))
 
 returns-5 : tie.Need-returns-5
 unfolding feedRefusal
 returns-5 c v same =
-    let e = c .before .before .before .before in
+    let e = c .before .before .before .before .before in
     let a = e .before .before .before .before .before .before .args in
     at-3 (safe (a .s) (a .hold .now)) (isFeeding (a .s .run .phase)) _ false (long (e .before .before .before)) (fed e)
-    (also (may (a .s)) (gives (a .s) (a .hold .now)) v (a .piece) same (full-or (may (a .s)) (empty (a .piece)) (gives (a .s) (a .hold .now)) (c .before .before .if3 .left) ∙ sym (c .before .gives-block .ensures) ∙ c .if4 .left))
+    (also (may (a .s)) (gives (a .s) (a .hold .now)) v (a .piece) same (full-or (may (a .s)) (empty (a .piece)) (gives (a .s) (a .hold .now)) (c .before .before .before .if3 .left) ∙ sym (c .before .gives-block .ensures) ∙ c .if4 .left))
 
 pub of-feed-spec : {M : Type 1} → statement M
 of-feed-spec =

@@ -11,7 +11,7 @@ no-counts-requires : tie.Need-no-counts-requires
 no-counts-requires c κs = search needs
 
 returns : tie.Need-returns
-returns c = (ap (λ (k : Counts). record { phase = Feeding; held = 0; standing = 0; counts = k }) (c .no-counts .ensures), refl, refl)
+returns c = (ap (λ (k : Counts). record { phase = Feeding; held = 0; standing = 0; counts = k; settings = c .before .args .settings }) (c .no-counts .ensures), refl, refl)
 
 pub open-state-spec : {M : Type 1} → statement M
 open-state-spec = tie.close (tie.spec no-counts-requires returns)
