@@ -10,16 +10,16 @@ use Rattle.crc.proofs.after_byte.Reads
 use Rattle.crc.proofs.after_byte.Tie as tie
 
 abbrev Start : Type 0
-Start = Lts.Start tie.the-claims Reads.Pre Reads.Post
+Start = Lts.Start Reads.Pre Reads.Post
 
 below : (c : Start) → bit_xor (c.args.c / 256) c.args.b < 256
 below c = index_lt c.args.c c.args.b (omega arith) (omega arith)
 
 pub overflow_cast-k-2 : goal.overflow_cast-k-2
-overflow_cast-k-2 c = omega (arith, below c.before)
+overflow_cast-k-2 c = omega (arith, below c)
 
 pub offset_bounds-t-k : goal.offset_bounds-t-k
-offset_bounds-t-k c = omega (arith, below c.before)
+offset_bounds-t-k c = omega (arith, below c)
 
 pub bounds-t-k : goal.bounds-t-k
 bounds-t-k c = below c.before

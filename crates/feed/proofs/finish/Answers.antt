@@ -38,13 +38,13 @@ few : (s : AfterLast) → s.last-found.result.passed.skipped ≤ (entry s).args.
 few s = let a = (entry s).args in end_few a.ceiling a.hold.now a.held a.standing (front s) (fits s) s.last-found.result (came s)
 
 pub overflow_sub-k-2 : goal.overflow_sub-k-2
-overflow_sub-k-2 c = few c.before.before
+overflow_sub-k-2 c = few c.before
 
 pub overflow_add-standing : goal.overflow_add-standing
-overflow_add-standing c = omega (arith, few c.before.before.before)
+overflow_add-standing c = omega (arith, few c.before.before)
 
 pub move_down-requires : goal.move_down-requires
-move_down-requires c = omega (arith, few c.before.before.before)
+move_down-requires c = omega (arith, few c.before.before)
 
 pub returns : goal.returns
 returns c =

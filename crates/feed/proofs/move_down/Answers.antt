@@ -39,8 +39,8 @@ least m = m.lesser-n.ensures
 
 pub move_some-requires : goal.move_some-requires
 move_some-requires c =
-    let n = least c.before.before.before in
-    let l = long c.before.before.before.before.before in
+    let n = least c.before.before in
+    let l = long c.before.before.before.before in
     omega arith
 
 pub overflow_add-moved : goal.overflow_add-moved
@@ -66,7 +66,7 @@ loop-moved-preserved c =
     )
 
 pub shape_of-hold : goal.shape_of-hold
-shape_of-hold c = long c.before.before
+shape_of-hold c = long c.before
 
 pub returns : goal.returns
 returns c =

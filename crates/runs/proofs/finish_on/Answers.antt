@@ -97,7 +97,7 @@ run_is w =
 
 pub finish-f-requires : goal.finish-f-requires
 finish-f-requires c =
-    let f = room c.before.before.before.before.before in
+    let f = room c.before.before.before.before in
     (f.0.front, f.0.held, omega (arith, f.1))
 
 state_is : (w : AfterWithRun)
@@ -116,7 +116,7 @@ returns-then-len-eq0 c =
 
 pub overflow_sub-next : goal.overflow_sub-next
 overflow_sub-next c =
-    let d = fed c.before.before.before.before.before in
+    let d = fed c.before.before.before.before in
     let f = room (entry d) in
     let n = c.went_on-next.ensures in
     let a = ap (λ (r : Run). r.counts.taken) n in
@@ -125,12 +125,12 @@ overflow_sub-next c =
 
 pub report_at-block-requires : goal.report_at-block-requires
 report_at-block-requires c =
-    let d = fed c.before.before.before.before.before in
+    let d = fed c.before.before.before.before in
     omega (arith, (room (entry d)).1, long_left d)
 
 pub returns : goal.returns
 returns c =
-    let d = fed c.before.before.before.before.before.before in
+    let d = fed c.before.before.before.before.before in
     let n = d.finish.result.standing in
     let r = run_on (phase_after (meaning d).standing) (entry d).args.s.run (meaning d) in
     let es : (meaning d).standing ≡ some d.finish.result.standing =
@@ -139,6 +139,6 @@ returns c =
     (ap found
     (c.report_at-block.ensures ∙ ap (λ (h : List ℕ). report_at h (front c.went_on-next.result) n) (left d)
     ∙ report_is (meaning d).held (drop (length (meaning d).held) (entry d).args.hold.now) (front c.went_on-next.result) n (whole_some (meaning d).standing (meaning d).held n (whole d) es)
-    ∙ ap (λ (x : Run). reported (front x) n (meaning d).held) (run_is c.before.before.before.before.before.before))
+    ∙ ap (λ (x : Run). reported (front x) n (meaning d).held) (run_is c.before.before.before.before.before))
     ∙ sym (ap (λ (o : Option ℕ). finish_said o r (meaning d).held) es))
-    (state_is c.before.before.before.before.before) (left d)
+    (state_is c.before.before.before.before) (left d)

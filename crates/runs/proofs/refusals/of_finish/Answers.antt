@@ -41,8 +41,8 @@ second s v e f =
 
 pub returns-then-is_closed : goal.returns-then-is_closed
 returns-then-is_closed c =
-    second c.args.s v (fine c.before.before.before.before v e) (sym c.is_closed.ensures ∙ c.if-is_closed.true)
+    second c.args.s v (fine c.before.before.before v e) (sym c.is_closed.ensures ∙ c.if-is_closed.true)
 
 pub returns : goal.returns
 returns c =
-    second c.args.s v (fine c.before.before.before.before v e) (sym c.is_closed.ensures ∙ c.if-is_closed.false)
+    second c.args.s v (fine c.before.before.before v e) (sym c.is_closed.ensures ∙ c.if-is_closed.false)
