@@ -22,7 +22,7 @@ pub offset_bounds-t-k : goal.offset_bounds-t-k
 offset_bounds-t-k c = omega (arith, below c)
 
 pub bounds-t-k : goal.bounds-t-k
-bounds-t-k c = below c.before
+bounds-t-k c = below c.before.before
 
 pub returns : goal.returns
 returns c =

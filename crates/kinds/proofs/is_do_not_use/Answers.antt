@@ -6,23 +6,23 @@ use Rattle.kinds.proofs.is_do_not_use.Goals as goal
 
 pub returns-in-1 : goal.returns-in-1
 unfolding is_do_not_use
-returns-in-1 c = rw (c.in-1.keys1, c.all_ones.ensures)
+returns-in-1 c = rw (c.in-1.is, c.all_ones.ensures)
 
 pub returns-in-2 : goal.returns-in-2
 unfolding is_do_not_use
-returns-in-2 c = rw c.in-2.keys2
+returns-in-2 c = rw c.in-2.is
 
 pub returns-in-3 : goal.returns-in-3
 unfolding is_do_not_use
-returns-in-3 c = rw (c.in-3.keys3, c.minus_2e10.ensures)
+returns-in-3 c = rw (c.in-3.is, c.minus_2e10.ensures)
 
 pub returns-in-4 : goal.returns-in-4
 unfolding is_do_not_use
-returns-in-4 c = rw (c.in-4.keys4, c.least_bits.ensures)
+returns-in-4 c = rw (c.in-4.is, c.least_bits.ensures)
 
 pub returns-in-5 : goal.returns-in-5
 unfolding is_do_not_use
-returns-in-5 c = rw (c.in-5.keys5, c.seed_type.ensures)
+returns-in-5 c = rw (c.in-5.is, c.seed_type.ensures)
 
 pub returns-in_default : goal.returns-in_default
-returns-in_default c = let r = c.in_default.rest in marks_nothing _ _ _ r.0.0.0.0.1 r.0.0.0.1 r.0.0.1 r.0.1 r.1
+returns-in_default c = let r = c.in_default.in_default-own.rest in marks_nothing _ _ _ r.0.0.0.0.1 r.0.0.0.1 r.0.0.1 r.0.1 r.1

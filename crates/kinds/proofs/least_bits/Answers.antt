@@ -13,20 +13,20 @@ Is bits kind = bits ≡ half (size_of kind)
 
 pub returns-in-1 : goal.returns-in-1
 unfolding size_of
-returns-in-1 c = one_of (Is 0x80) of_one _ (refl, (refl, tt)) c.in-1.keys1
+returns-in-1 c = one_of (Is 0x80) of_one _ (refl, (refl, tt)) c.in-1.is
 
 pub returns-in-2 : goal.returns-in-2
 unfolding size_of
-returns-in-2 c = one_of (Is 0x8000) of_two _ (refl, (refl, tt)) c.in-2.keys2
+returns-in-2 c = one_of (Is 0x8000) of_two _ (refl, (refl, tt)) c.in-2.is
 
 pub returns-in-3 : goal.returns-in-3
 unfolding size_of
-returns-in-3 c = one_of (Is 0x80000000) of_four _ (refl, (refl, (refl, tt))) c.in-3.keys3
+returns-in-3 c = one_of (Is 0x80000000) of_four _ (refl, (refl, (refl, tt))) c.in-3.is
 
 pub returns-in-4 : goal.returns-in-4
 unfolding size_of
-returns-in-4 c = one_of (Is 0x8000000000000000) of_eight _ (refl, (refl, (refl, tt))) c.in-4.keys4
+returns-in-4 c = one_of (Is 0x8000000000000000) of_eight _ (refl, (refl, (refl, tt))) c.in-4.is
 
 pub returns-in_default : goal.returns-in_default
 unfolding size_of
-returns-in_default c = let r = c.in_default.rest in no_type (Is 1) (λ k h. ap half (size_over k h)) refl _ r.0.0.0.1 r.0.0.1 r.0.1 r.1
+returns-in_default c = let r = c.in_default.in_default-own.rest in no_type (Is 1) (λ k h. ap half (size_over k h)) refl _ r.0.0.0.1 r.0.0.1 r.0.1 r.1

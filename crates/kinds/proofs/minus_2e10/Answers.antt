@@ -14,8 +14,8 @@ Is bits kind = bits ≡ minus (size_of kind)
 
 pub returns-in-3 : goal.returns-in-3
 unfolding size_of
-returns-in-3 c = one_of (Is 0xd09502f9) of_four _ (refl, (refl, (refl, tt))) c.in-3.keys1
+returns-in-3 c = one_of (Is 0xd09502f9) of_four _ (refl, (refl, (refl, tt))) c.in-3.is
 
 pub returns-in_default : goal.returns-in_default
 unfolding size_of
-returns-in_default c = not_four (Is 0xc212a05f20000000) (λ k h. ap minus (size_over k h)) (refl, (refl, (refl, (refl, (refl, (refl, (refl, (refl, tt)))))))) _ c.in_default.rest.1
+returns-in_default c = not_four (Is 0xc212a05f20000000) (λ k h. ap minus (size_over k h)) (refl, (refl, (refl, (refl, (refl, (refl, (refl, (refl, tt)))))))) _ c.in_default.in_default-own.rest.1

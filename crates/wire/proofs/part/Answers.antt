@@ -24,4 +24,4 @@ pub returns : goal.returns
 returns c =
     let a = c.args in
     let e = same a.s.now a.at a.size c.requires in
-    ((e, ap length e ∙ long a.s.now a.at a.size c.requires), stands a.s.ref_ptr a.at)
+    record { result_value = (e, ap length e ∙ long a.s.now a.at a.size c.requires); ref_ptr_value = stands a.s.ref_ptr a.at }

@@ -5,10 +5,10 @@ use Rattle.words.proofs.Valuing.{minus_zero, minus_far, minus_near}
 use Rattle.words.proofs.below_zero.Goals as goal
 
 pub returns-then-n-eq0 : goal.returns-then-n-eq0
-returns-then-n-eq0 c = rw c.d-1.given.1 (minus_zero _ c.if-n-eq0.true)
+returns-then-n-eq0 c = rw c.in-Value.is (minus_zero _ c.if-n-eq0.true)
 
 pub returns-then-n-gt9223372036854775808 : goal.returns-then-n-gt9223372036854775808
-returns-then-n-gt9223372036854775808 c = rw c.d-1.given.1 (minus_far c.d-1.given.0.0 (omega arith))
+returns-then-n-gt9223372036854775808 c = rw c.in-Value.is (minus_far c.in-Value.n (omega arith))
 
 pub returns-else-n-gt9223372036854775808 : goal.returns-else-n-gt9223372036854775808
-returns-else-n-gt9223372036854775808 c = rw c.d-1.given.1 (minus_near c.d-1.given.0.0 c.if-n-eq0.false (omega arith))
+returns-else-n-gt9223372036854775808 c = rw c.in-Value.is (minus_near c.in-Value.n c.if-n-eq0.false (omega arith))

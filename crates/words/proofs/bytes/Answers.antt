@@ -7,12 +7,12 @@ use Rattle.words.proofs.bytes.Goals as goal
 
 pub returns-then-word-eq0 : goal.returns-then-word-eq0
 returns-then-word-eq0 c =
-    (sym (bytes_none c.args.word.now (omega arith)), omega arith)
+    record { given_after = sym (bytes_none c.args.word.now (omega arith)); count_bound = omega arith }
 
 pub returns-then-word-eq1 : goal.returns-then-word-eq1
 returns-then-word-eq1 c =
-    (sym (bytes_one c.args.word.now (omega arith)), omega arith)
+    record { given_after = sym (bytes_one c.args.word.now (omega arith)); count_bound = omega arith }
 
 pub returns : goal.returns
 returns c =
-    (c.hex_pairs.ensures.0 ∙ sym (bytes_hex c.args.word.now (omega arith)), omega (arith, c.hex_pairs.ensures.1))
+    record { given_after = c.hex_pairs.ensures.0 ∙ sym (bytes_hex c.args.word.now (omega arith)); count_bound = omega (arith, c.hex_pairs.ensures.1) }

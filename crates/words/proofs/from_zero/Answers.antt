@@ -5,7 +5,7 @@ use Rattle.words.proofs.Valuing.{plus_near, plus_far}
 use Rattle.words.proofs.from_zero.Goals as goal
 
 pub returns-then-n-lt9223372036854775808 : goal.returns-then-n-lt9223372036854775808
-returns-then-n-lt9223372036854775808 c = rw c.d-1.given.1 (plus_near c.d-1.given.0.0 (omega arith))
+returns-then-n-lt9223372036854775808 c = rw c.in-Value.is (plus_near c.in-Value.n (omega arith))
 
 pub returns-else-n-lt9223372036854775808 : goal.returns-else-n-lt9223372036854775808
-returns-else-n-lt9223372036854775808 c = rw c.d-1.given.1 (plus_far c.d-1.given.0.0 (omega arith))
+returns-else-n-lt9223372036854775808 c = rw c.in-Value.is (plus_far c.in-Value.n (omega arith))

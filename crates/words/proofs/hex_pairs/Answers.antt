@@ -17,7 +17,7 @@ returns-then-high-low c =
     let l = c.loop-count in
     let x = c.hex_digit-high in
     let y = c.hex_digit-low in
-    (pair_bad w l.given l.count x.result y.result x.ensures.0 y.ensures.0 (omega arith) c.if-high-low.true ∙ l.invariant.2, omega arith)
+    record { given_after = pair_bad w l.given l.count x.result y.result x.ensures.0 y.ensures.0 (omega arith) c.if-high-low.true ∙ l.invariant.2; count_in_bounds = omega arith }
 
 pub overflow_mul-given : goal.overflow_mul-given
 overflow_mul-given c = let d = digits c.hex_digit-high.result c.hex_digit-low.result c.if-high-low.false in omega arith
@@ -39,4 +39,4 @@ loop-count-preserved c =
 pub returns : goal.returns
 returns c =
     let l = c.loop-count in
-    (pairs_end c.args.word.now (take l.count l.given) l.count (omega arith) (omega arith) ∙ l.invariant.2, omega arith)
+    record { given_after = pairs_end c.args.word.now (take l.count l.given) l.count (omega arith) (omega arith) ∙ l.invariant.2; count_in_bounds = omega arith }

@@ -21,15 +21,15 @@ pub returns-in-NoNumber : goal.returns-in-NoNumber
 returns-in-NoNumber c =
     let l = c.loop-i in
     let w = c.args.word.now in
-    let e : add_digit l.v (get_or w l.i 0) ≡ none = sym c.add_digit-more.ensures ∙ ap number_says c.enum_told-1.given.1 in
+    let e : add_digit l.v (get_or w l.i 0) ≡ none = sym c.add_digit-more.ensures ∙ ap number_says c.in-NoNumber.is in
     sym (number_stop w l.i l.v (omega arith) e) ∙ l.invariant.1
 
 pub loop-i-preserved : goal.loop-i-preserved
 loop-i-preserved c =
     let l = c.loop-i in
     let w = c.args.word.now in
-    let n = c.more-1.given.0.0 in
-    let e : add_digit l.v (get_or w l.i 0) ≡ some n = sym c.add_digit-more.ensures ∙ ap number_says c.more-1.given.1 in
+    let n = c.in-Value.n in
+    let e : add_digit l.v (get_or w l.i 0) ≡ some n = sym c.add_digit-more.ensures ∙ ap number_says c.in-Value.is in
     (omega arith, sym (number_more w l.i l.v n (omega arith) e) ∙ l.invariant.1)
 
 pub returns : goal.returns

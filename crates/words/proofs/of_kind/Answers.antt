@@ -3,7 +3,7 @@
 use Rattle.words.proofs.of_kind.Goals as goal
 
 pub returns-in-NoNumber : goal.returns-in-NoNumber
-returns-in-NoNumber c = rw c.enum_told-1.given.1 c.no_value.ensures
+returns-in-NoNumber c = rw c.in-NoNumber.is c.no_value.ensures
 
 pub returns-in-Value : goal.returns-in-Value
-returns-in-Value c = rw c.d-1.given.1
+returns-in-Value c = rw c.in-Value.is

@@ -11,7 +11,7 @@ pub returns-then-text-i-eq32 : goal.returns-then-text-i-eq32
 returns-then-text-i-eq32 c =
     let s = c.args.text.now in
     let l = c.loop-i in
-    (omega (arith, up_here 32 s l.i (omega arith) c.if-text-i-eq32.true), (omega arith, sym (length-take-le l.i s (omega arith))))
+    record { value = omega (arith, up_here 32 s l.i (omega arith) c.if-text-i-eq32.true); prefix_len = (omega arith, sym (length-take-le l.i s (omega arith))) }
 
 pub loop-i-preserved : goal.loop-i-preserved
 loop-i-preserved c =
@@ -23,4 +23,4 @@ pub returns : goal.returns
 returns c =
     let s = c.args.text.now in
     let l = c.loop-i in
-    (omega (arith, up_end 32 s l.i (omega arith)), (omega arith, sym (length-take-le l.i s (omega arith))))
+    record { value = omega (arith, up_end 32 s l.i (omega arith)); prefix_len = (omega arith, sym (length-take-le l.i s (omega arith))) }
