@@ -99,7 +99,7 @@ abbrev begin : AfterJudge → AfterStartFrom
 begin j = (counted j).before
 
 abbrev place : AfterJudge → ℕ
-place j = (begin j).start_from-p.result
+place j = (begin j).start-from.result
 
 -- the run from the place on
 abbrev run : AfterJudge → List ℕ
@@ -149,11 +149,11 @@ pub slice_bounds-judge-end : goal.slice_bounds-judge-end
 slice_bounds-judge-end c = omega (arith, inside c.before)
 
 pub overflow_add-place : goal.overflow_add-place
-overflow_add-place c = omega (arith, end_fits c.before.before c.in-Frame.n (fits c.before.before c.in-Frame.is))
+overflow_add-place c = omega (arith, end_fits c.before.before.before.before c.v-1.given.0.0 (fits c.before.before.before.before c.v-1.given.1))
 
 pub returns-in-Frame : goal.returns-in-Frame
 returns-in-Frame c =
-    let a = (entry (begin c.before.before.before)).args in
+    let a = (entry (begin c.before.before.before.before.before)).args in
     let v = c.v-1 in
     ap (Block (past (counted c.before.before.before.before.before)) v.given.0.0) c.greater.ensures
     ∙ sym
@@ -162,17 +162,17 @@ returns-in-Frame c =
 
 pub returns-in-Undecided : goal.returns-in-Undecided
 returns-in-Undecided c =
-    let a = (entry (begin c.before.before)).args in
+    let a = (entry (begin c.before.before.before)).args in
     sym
-    (part-waits a.ceiling a.s.now a.rest.now (place c.before.before) (past (counted c.before.before)) (begin c.before.before).before.before.loop-k.m (inside c.before.before.before.before.before) (verdict c.before.before.before c.enum_told-1.given.1))
+    (part-waits a.ceiling a.s.now a.rest.now (place c.before.before.before) (past (counted c.before.before.before)) (begin c.before.before.before).before.before.loop.m (inside c.before.before.before.before.before) (verdict c.before.before.before c.enum_told-1.given.1))
     ∙ there (counted c.before.before.before)
 
 pub count-passed-requires : goal.count-passed-requires
-count-passed-requires c = place_fits c.before.before
+count-passed-requires c = place_fits c.before.before.before.before
 
 -- the place and its verdict, where one more is passed
 abbrev at : AfterCount → AfterJudge
-at q = q.before.before
+at q = q.before.before.before.before
 
 one_more : (q : AfterCount) → q.count-passed.result.skipped ≡ (entry (begin (at q))).args.before.skipped + (place (at q) + 1)
 one_more q =
@@ -183,12 +183,12 @@ one_more q =
 -- no frame stands at the place, for this reason
 reasoned : (w : AfterWhy) → judged (top (at w.before.before)) (run (at w.before.before)) ≡ NoFrame (CrcWrong w.why-1.given.0.0)
 reasoned w =
-    verdict (at w.before.before) (w.in-CrcWrong-1.is ∙ ap NoFrame w.why-1.given.1)
+    verdict (at w.before.before) (w.v-in-NoFrame-1.given.1 ∙ ap NoFrame w.why-1.given.1)
 
 pub overflow_add-place-in-CrcWrong : goal.overflow_add-place-in-CrcWrong
 overflow_add-place-in-CrcWrong c =
-    let j = at c.before.before in
-    let t : There c.in-CrcWrong.n (run j) = subst (Fits (run j)) (reasoned c.before.before) ((judging (top j)).fits (run j)) in
+    let j = at c.before.before.before.before in
+    let t : There c.why-1.given.0.0 (run j) = subst (Fits (run j)) (reasoned c.before.before) ((judging (top j)).fits (run j)) in
     omega (arith, end_fits j c.why-1.given.0.0 t)
 
 pub overflow_add-k : goal.overflow_add-k
@@ -219,13 +219,13 @@ overflow_add-k-in_default c = let j = at c.before.before in omega (arith, inside
 pub loop-k-smaller : goal.loop-k-smaller
 loop-k-smaller c =
     let j = at c.before.before in
-    omega (arith, inside j.before.before, (begin j).start_from-p.ensures.from)
+    omega (arith, inside j.before.before, (begin j).start-from.ensures.from)
 
 pub loop-k-preserved : goal.loop-k-preserved
 loop-k-preserved c =
     let j = at c.before.before in
     let a = (entry (begin j)).args in
-    let m = (begin j).before.before.loop-k.m in
+    let m = (begin j).before.before.loop.m in
     let v = c.v-in-NoFrame-1 in (
       omega (arith, inside j.before.before),
       one_more c.before.before,
