@@ -24,10 +24,10 @@ pub number-requires : goal.number-requires
 number-requires c = eight _ (whole c.before)
 
 pub fitted-requires : goal.fitted-requires
-fitted-requires c = let s = stands_at _ c.find.ensures c.row-1.given.1 in (whole c.before.before.before.before.before.before, s.inside, s.rules)
+fitted-requires c = let s = stands_at _ c.find.ensures c.in-At.is in (whole c.before.before.before.before.before.before.before, s.inside, s.rules)
 
 pub returns-in-At : goal.returns-in-At
-returns-in-At c = look_at _ _ _ (whole c.before.before.before.before.before.before.before) _ _ c.find.ensures c.number.ensures c.row-1.given.1 c.fitted.ensures
+returns-in-At c = look_at _ _ _ (whole c.before.before.before.before.before.before.before.before) _ _ c.find.ensures c.number.ensures c.in-At.is c.fitted.ensures
 
 pub returns-in-Nothing : goal.returns-in-Nothing
-returns-in-Nothing c = look_6 _ _ _ (whole c.before.before.before.before.before) _ _ c.find.ensures c.number.ensures c.enum_told-1.given.1
+returns-in-Nothing c = look_6 _ _ _ (whole c.before.before.before.before.before) _ _ c.find.ensures c.number.ensures c.in-Nothing.is

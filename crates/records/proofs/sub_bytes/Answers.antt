@@ -23,7 +23,7 @@ abbrev AfterEnumTold2 : Type 0
 AfterEnumTold2 = Lts.After-enum_told2 tie.the-claims Reads.Pre Reads.Post
 
 free : (e : AfterEnumTold2) → ask_refusal e.args.s e.args.in_force.now ≡ none
-free e = sym e.of_ask-c.ensures ∙ ap refusal_of e.enum_told-in-Passed-1.given.1
+free e = sym e.of_ask-c.ensures ∙ ap refusal_of e.in-Passed.is
 
 pub slice_bounds-sub_block-end : goal.slice_bounds-sub_block-end
 slice_bounds-sub_block-end c =
@@ -53,7 +53,7 @@ none_of b n = refl
 pub returns-in-Refused : goal.returns-in-Refused
 returns-in-Refused c =
     let a = c.args in
-    let refused = sym c.of_ask-c.ensures ∙ ap refusal_of c.enum_told-1.given.1 in
+    let refused = sym c.of_ask-c.ensures ∙ ap refusal_of c.in-Refused.is in
     (c.part.ensures.0.0 ∙ none_of a.block.now _ ∙ bytes_by a.s a.in_force.now a.block.now a.k refused, c.part.ensures.1 ∙ ap (λ (x : Span). offset_by a.block.ref_ptr x.at) (place_by_lem a.s a.in_force.now a.block.now a.k refused))
 
 pub returns-in-Passed : goal.returns-in-Passed

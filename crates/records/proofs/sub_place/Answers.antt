@@ -19,7 +19,7 @@ abbrev AfterEnumTold : Type 0
 AfterEnumTold = Lts.After-enum_told tie.the-claims Reads.Pre Reads.Post
 
 free : (e : AfterEnumTold) → ask_refusal e.args.s e.args.in_force.now ≡ none
-free e = sym e.of_ask-c.ensures ∙ ap refusal_of e.enum_told-1.given.1
+free e = sym e.of_ask-c.ensures ∙ ap refusal_of e.in-Passed.is
 
 pub slice_bounds-sub_place-end : goal.slice_bounds-sub_place-end
 slice_bounds-sub_place-end c =
@@ -36,7 +36,7 @@ unfolding sub_bytes_refusal sub_place_of
 returns-in-Refused c =
     let a = c.args in
     let tab = decode (table_in_force a.s a.in_force.now) in
-    let r = sym c.of_ask-c.ensures ∙ ap refusal_of c.c-1.given.1 in (
+    let r = sym c.of_ask-c.ensures ∙ ap refusal_of c.in-Refused.is in (
       sym (ap (λ (x : Option ℕ). first_of x (sub_block_refusal tab a.block.now a.k)) r),
       (sym (ap (λ (x : Option ℕ). place_unless x (sub_place tab a.block.now a.k)) r), omega arith),
     )
