@@ -22,6 +22,6 @@ returns c =
     let a = c.args in
     takes_one a.kinds.now a.bits.now a.p (omega arith) c.if-kind.false c.if-p-bits.x
     (elim c.if-p-bits.branch [
-        then-p-bits w ↦ w.x-is
+      | then-p-bits w ↦ w.x-is
       | else-p-bits w ↦ w.x-is ∙ sym (get_or-eq_default a.bits.now 0 (omega arith))
     ])
