@@ -47,17 +47,17 @@ overflow_sub-p c = c.start_from-p.ensures.from
 
 -- the held bytes
 abbrev bytes : AfterStartFrom → List ℕ
-bytes f = f.before.before.before.before.before.before.args.held.now
+bytes f = f.args.held.now
 
 abbrev top_at : AfterStartFrom → ℕ
-top_at f = f.before.before.before.before.before.before.args.ceiling
+top_at f = f.args.ceiling
 
 pub count_no_sync-passed-requires : goal.count_no_sync-passed-requires
 count_no_sync-passed-requires c = omega (arith, c.start_from-p.ensures.from, c.start_from-p.ensures.within)
 
 -- those passed with the places up to the next start
 abbrev past : AfterCountNoSync → Passed
-past n = n.count_no_sync.result
+past n = n.count_no_sync-passed.result
 
 placed : (n : AfterCountNoSync) → (past n).skipped ≡ n.start_from-p.result
 placed n =

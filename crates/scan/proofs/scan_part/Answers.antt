@@ -62,7 +62,7 @@ count_no_sync-passed-requires c =
 
 -- those passed with the places up to the next start
 abbrev past : AfterCountNoSync → Passed
-past n = n.count_no_sync.result
+past n = n.count_no_sync-passed.result
 
 placed : (n : AfterCountNoSync) → (past n).skipped ≡ (entry n.before).args.before.skipped + n.start_from-p.result
 placed n =
