@@ -23,12 +23,12 @@ free e = sym e.of_ask-c.ensures ∙ ap refusal_of e.in-Passed.is
 pub slice_bounds-range-end : goal.slice_bounds-range-end
 slice_bounds-range-end c =
     let a = c.args in
-    sym (length-take-le _ _ (asked a.s a.in_force.now (free c.before.before)).fits)
+    sym (length-take-le _ _ (asked a.s a.in_force.now (free c.before)).fits)
 
 pub range-requires : goal.range-requires
 range-requires c =
     let a = c.args in
-    (asked a.s a.in_force.now (free c.before.before)).ok
+    (asked a.s a.in_force.now (free c.before)).ok
 
 pub returns-in-Refused : goal.returns-in-Refused
 unfolding range_of
@@ -40,4 +40,4 @@ pub returns-in-Passed : goal.returns-in-Passed
 unfolding range_of
 returns-in-Passed c =
     let a = c.args in
-    unless_none (ask_refusal a.s a.in_force.now) (range_field (decode (table_in_force a.s a.in_force.now)) a.block.now a.k) (free c.before.before.before) c.range.ensures
+    unless_none (ask_refusal a.s a.in_force.now) (range_field (decode (table_in_force a.s a.in_force.now)) a.block.now a.k) (free c.before.before) c.range.ensures

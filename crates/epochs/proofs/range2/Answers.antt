@@ -23,12 +23,12 @@ free e = sym e.of_ask-c.ensures ∙ ap refusal_of e.in-Passed.is
 pub slice_bounds-range2-end : goal.slice_bounds-range2-end
 slice_bounds-range2-end c =
     let a = c.args in
-    sym (length-take-le _ _ (asked a.s a.in_force.now (free c.before.before)).fits)
+    sym (length-take-le _ _ (asked a.s a.in_force.now (free c.before)).fits)
 
 pub range2-requires : goal.range2-requires
 range2-requires c =
     let a = c.args in
-    (asked a.s a.in_force.now (free c.before.before)).ok
+    (asked a.s a.in_force.now (free c.before)).ok
 
 pub returns-in-Refused : goal.returns-in-Refused
 unfolding range2_of
@@ -40,4 +40,4 @@ pub returns-in-Passed : goal.returns-in-Passed
 unfolding range2_of
 returns-in-Passed c =
     let a = c.args in
-    unless_none (ask_refusal a.s a.in_force.now) (range2_field (decode (table_in_force a.s a.in_force.now)) a.block.now a.k a.m) (free c.before.before.before) c.range2.ensures
+    unless_none (ask_refusal a.s a.in_force.now) (range2_field (decode (table_in_force a.s a.in_force.now)) a.block.now a.k a.m) (free c.before.before) c.range2.ensures

@@ -28,12 +28,12 @@ free e = sym e.of_ask-c.ensures ∙ ap refusal_of e.in-Passed.is
 pub slice_bounds-sub_block-end : goal.slice_bounds-sub_block-end
 slice_bounds-sub_block-end c =
     let a = c.args in
-    sym (length-take-le _ _ (asked a.s a.in_force.now (free c.before.before)).fits)
+    sym (length-take-le _ _ (asked a.s a.in_force.now (free c.before)).fits)
 
 pub sub_block-requires : goal.sub_block-requires
 sub_block-requires c =
     let a = c.args in
-    (asked a.s a.in_force.now (free c.before.before)).ok
+    (asked a.s a.in_force.now (free c.before)).ok
 
 -- what is handed back, and where it stands, by what was asked before
 module _ (s : State) (force block : List ℕ) (k : ℕ) where
@@ -59,6 +59,6 @@ returns-in-Refused c =
 pub returns-in-Passed : goal.returns-in-Passed
 returns-in-Passed c =
     let a = c.args in (
-      c.sub_block.ensures.0 ∙ bytes_by a.s a.in_force.now a.block.now a.k (free c.before.before.before),
-      c.sub_block.ensures.1 ∙ ap (λ (x : Span). offset_by a.block.ref_ptr x.at) (place_by_lem a.s a.in_force.now a.block.now a.k (free c.before.before.before)),
+      c.sub_block.ensures.0 ∙ bytes_by a.s a.in_force.now a.block.now a.k (free c.before.before),
+      c.sub_block.ensures.1 ∙ ap (λ (x : Span). offset_by a.block.ref_ptr x.at) (place_by_lem a.s a.in_force.now a.block.now a.k (free c.before.before)),
     )

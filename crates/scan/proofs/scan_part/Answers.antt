@@ -1,6 +1,5 @@
 -- `scan::scan_part` meets its contract. The invariant: the places from k on, with those passed and the present mark, give what the whole part gives.
 -- Assumes nothing.
-use borrow.Enum.Refused.{opened}
 use mathlib.Core.Path.{◌≡◌, refl, sym, ap, ap₂, ◌∙◌, subst}
 use mathlib.Core.List.{List, ◌++◌}
 use Prim.Native.Nat.{ℕ, ◌≤◌, ◌<◌, ◌+◌, ◌-◌}
@@ -100,7 +99,7 @@ abbrev begin : AfterJudge → AfterStartFrom
 begin j = (counted j).before
 
 abbrev place : AfterJudge → ℕ
-place j = (begin j).start_from-p.result
+place j = (begin j).start-from.result
 
 -- the run from the place on
 abbrev run : AfterJudge → List ℕ
@@ -150,22 +149,22 @@ pub slice_bounds-judge-end : goal.slice_bounds-judge-end
 slice_bounds-judge-end c = omega (arith, inside c.before)
 
 pub overflow_add-place : goal.overflow_add-place
-overflow_add-place c = omega (arith, end_fits c.before.before c.in-Frame.n (fits c.before.before c.in-Frame.is))
+overflow_add-place c = omega (arith, end_fits c.before.before c.in-Frame.PAYLOAD (fits c.before.before c.in-Frame.is))
 
 pub returns-in-Frame : goal.returns-in-Frame
 returns-in-Frame c =
     let a = (entry (begin c.before.before.before)).args in
-    ap (Block (past (counted c.before.before.before)) c.in-Frame.n) c.greater.ensures
+    ap (Block (past (counted c.before.before.before)) c.in-Frame.PAYLOAD) c.greater.ensures
     ∙ sym
-    (part_frame a.ceiling a.s.now a.rest.now (place c.before.before.before) (past (counted c.before.before.before)) (begin c.before.before.before).before.before.loop.m c.in-Frame.PAYLOAD (inside c.before.before.before.before.before.before.before.before) (verdict c.before.before.before.before.before.before c.in-Frame.is))
-    ∙ there (counted c.before.before.before.before.before.before)
+    (part_frame a.ceiling a.s.now a.rest.now (place c.before.before.before) (past (counted c.before.before.before)) (begin c.before.before.before).before.before.loop.m c.in-Frame.PAYLOAD (inside c.before.before.before.before.before) (verdict c.before.before.before c.in-Frame.is))
+    ∙ there (counted c.before.before.before)
 
 pub returns-in-Undecided : goal.returns-in-Undecided
 returns-in-Undecided c =
     let a = (entry (begin c.before.before)).args in
     sym
-    (part-waits a.ceiling a.s.now a.rest.now (place c.before.before) (past (counted c.before.before)) (begin c.before.before).before.before.loop-k.m (inside c.before.before.before.before) (verdict c.before.before.before c.in-Undecided.is))
-    ∙ there (counted c.before.before.before)
+    (part-waits a.ceiling a.s.now a.rest.now (place c.before.before) (past (counted c.before.before)) (begin c.before.before).before.before.loop.m (inside c.before.before.before.before) (verdict c.before.before c.in-Undecided.is))
+    ∙ there (counted c.before.before)
 
 pub count-passed-requires : goal.count-passed-requires
 count-passed-requires c = place_fits c.before.before
@@ -187,29 +186,29 @@ reasoned w =
 
 pub overflow_add-place-in-CrcWrong : goal.overflow_add-place-in-CrcWrong
 overflow_add-place-in-CrcWrong c =
-    let j = at c.before.before in
-    let t : There c.in-CrcWrong.n (run j) = subst (Fits (run j)) (reasoned c.before.before.before) ((judging (top j)).fits (run j)) in
+    let j = at c.before.before.before in
+    let t : There c.in-CrcWrong.PAYLOAD (run j) = subst (Fits (run j)) (reasoned c.before) ((judging (top j)).fits (run j)) in
     omega (arith, end_fits j c.in-CrcWrong.PAYLOAD t)
 
 pub overflow_add-k : goal.overflow_add-k
-overflow_add-k c = let j = at c.before in omega (arith, inside j.before.before, bound (begin j))
+overflow_add-k c = let j = at c.before.before.before in omega (arith, inside j.before.before, bound (begin j))
 
 pub loop-k-smaller-in-CrcWrong : goal.loop-k-smaller-in-CrcWrong
 loop-k-smaller-in-CrcWrong c =
-    let j = at c.before in
+    let j = at c.before.before.before in
     omega (arith, inside j.before.before, (begin j).start-from.ensures.from)
 
 pub loop-k-preserved-in-CrcWrong : goal.loop-k-preserved-in-CrcWrong
 loop-k-preserved-in-CrcWrong c =
-    let j = at c.before in
+    let j = at c.before.before.before.before in
     let a = (entry (begin j)).args in
     let m = (begin j).before.before.loop.m in
     let e : 1 + place j ≡ place j + 1 = omega arith in (
       omega (arith, inside j.before.before),
-      omega (arith, one_more c.before.before.before.before.before.before.before),
+      omega (arith, one_more c.before.before.before.before),
       ap (λ (i : ℕ). from_here (begin j) i c.count-passed.result c.greater-m.result) e
           ∙ ap₂ (from_here (begin j) (place j + 1)) (c.count-passed.ensures ∙ ap (count (past (counted j))) c.in-CrcWrong.is) c.greater-m.ensures
-          ∙ sym (part_pass a.ceiling a.s.now a.rest.now (place j) (past (counted j)) m (CrcWrong c.in-CrcWrong.PAYLOAD) (inside j.before.before) (reasoned c.before.before.before.before))
+          ∙ sym (part_pass a.ceiling a.s.now a.rest.now (place j) (past (counted j)) m (CrcWrong c.in-CrcWrong.PAYLOAD) (inside j.before.before) (reasoned c.before.before))
           ∙ there (counted j),
     )
 
@@ -219,17 +218,17 @@ overflow_add-k-in_default c = let j = at c.before.before in omega (arith, inside
 pub loop-k-smaller : goal.loop-k-smaller
 loop-k-smaller c =
     let j = at c.before.before in
-    omega (arith, inside j.before.before, (begin j).start_from-p.ensures.from)
+    omega (arith, inside j.before.before, (begin j).start-from.ensures.from)
 
 pub loop-k-preserved : goal.loop-k-preserved
 loop-k-preserved c =
     let j = at c.before.before in
     let a = (entry (begin j)).args in
-    let m = (begin j).before.before.loop-k.m in (
+    let m = (begin j).before.before.loop.m in (
       omega (arith, inside j.before.before),
       one_more c.before.before,
-      ap₂ (from_here (begin j) (place j + 1)) c.count-passed.ensures (sym (no_mark c.in-NoFrame.why (opened c.in_default.in_default-own.keys2) (past (counted j)).skipped m))
-          ∙ sym (part_pass a.ceiling a.s.now a.rest.now (place j) (past (counted j)) m c.in-NoFrame.why (inside j.before.before) (verdict j c.in-NoFrame.is))
+      ap₂ (from_here (begin j) (place j + 1)) c.count-passed.ensures (sym (no_mark c.in-NoFrame.PAYLOAD c.in_default.keys2 (past (counted j)).skipped m))
+          ∙ sym (part_pass a.ceiling a.s.now a.rest.now (place j) (past (counted j)) m c.in-NoFrame.PAYLOAD (inside j.before.before) (verdict j c.in-NoFrame.is))
           ∙ there (counted j),
     )
 
