@@ -14,7 +14,7 @@ use Rattle.records.proofs.sub.Reads
 use Rattle.records.proofs.sub.Tie as tie
 
 abbrev AfterEnumTold : Type 0
-AfterEnumTold = Lts.After-enum_told tie.the-claims Reads.Pre Reads.Post
+AfterEnumTold = Lts.Past-After-enum_told tie.the-claims Reads.Pre Reads.Post
 
 free : (e : AfterEnumTold) → ask_refusal e.args.s e.args.in_force.now ≡ none
 free e = sym e.of_ask-c.ensures ∙ ap refusal_of e.in-Passed.is

@@ -20,7 +20,7 @@ use Rattle.records.proofs.sub_bytes.Reads
 use Rattle.records.proofs.sub_bytes.Tie as tie
 
 abbrev AfterEnumTold2 : Type 0
-AfterEnumTold2 = Lts.After-enum_told2 tie.the-claims Reads.Pre Reads.Post
+AfterEnumTold2 = Lts.Past-After-enum_told2 tie.the-claims Reads.Pre Reads.Post
 
 free : (e : AfterEnumTold2) → ask_refusal e.args.s e.args.in_force.now ≡ none
 free e = sym e.of_ask-c.ensures ∙ ap refusal_of e.in-Passed.is

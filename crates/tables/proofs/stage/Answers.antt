@@ -59,15 +59,14 @@ unfolding stage_of
 returns-in-Refused c =
     let a = (entry c.before.before).args in
     sym
-    (refused_by_lem a.s a.waiting.now (staging a.s a.waiting.now a.t.now) (stage_refusal a.s a.waiting.now a.t.now) (number_for c.in-Refused.why) refl
+    (refused_by_lem a.s a.waiting.now (staging a.s a.waiting.now a.t.now) (stage_refusal a.s a.waiting.now a.t.now) (number_for c.in-Refused.PAYLOAD) refl
     (sym c.of_stage-a.ensures ∙ ap said_staged c.in-Refused.is))
 
 pub returns-in-Version : goal.returns-in-Version
 returns-in-Version c =
     let a = (entry c.before.before.before.before.before.before.before).args in
-    let v = c.a-in-Version-1.given in
-    same_outcome (sym (ap said_staged v.1) ∙ c.of_stage-a.ensures ∙ ap (λ (x : Outcome). x.said) (done c.before.before.before.before.before.before.before v.1))
+    same_outcome (sym (ap said_staged c.in-Version.is) ∙ c.of_stage-a.ensures ∙ ap (λ (x : Outcome). x.said) (done c.before.before.before.before.before.before.before c.in-Version.is))
     refl
     (c.copy_in.ensures ∙ copied a.waiting.now a.t.now (length a.t.now) (omega arith)
     ∙ ap (λ (x : List ℕ). over x a.waiting.now) (take-length a.t.now))
-    ∙ sym (done c.before.before.before.before.before.before.before v.1)
+    ∙ sym (done c.before.before.before.before.before.before.before c.in-Version.is)
