@@ -297,7 +297,7 @@ fn tell_failure(rt: &HostRuntime, why: Error) {
 }
 
 // Reads until the buffer is full, the file ends or a read fails; answers how many bytes it put at the buffer's start.
-fn read_full(file: &mut File, buf: &mut [u8; 65536]) -> usize
+fn read_full(file: &mut File, buf: &mut [u8]) -> usize
     ensures { IsPrefixLen result buf.new }
 {
     let mut done: usize = 0;
