@@ -14,10 +14,10 @@ pub loop-i-init : goal.loop-i-init
 loop-i-init c = (search rules, rw (add-zero, sub-zero))
 
 pub returns-then-not-ends_by : goal.returns-then-not-ends_by
-returns-then-not-ends_by c = every_stop _ _ _ _ _ c.loop-i.invariant.1 _ c.field_at-f.ensures.0 (omega arith) (sym c.ends_by.ensures ∙ not-true _ c.if-not-ends_by.true)
+returns-then-not-ends_by c = every_stop _ _ _ _ _ c.loop-i.invariant.1 _ c.field_at-f.ensures.0 (omega arith) (sym c.ends_by.ensures ∙ c.if-not-ends_by.true)
 
 pub loop-i-preserved : goal.loop-i-preserved
-loop-i-preserved c = (omega arith, every_go _ _ _ _ _ c.loop-i.invariant.1 _ c.field_at-f.ensures.0 (omega arith) (sym c.ends_by.ensures ∙ not-false _ c.if-not-ends_by.false) _ _ (omega arith) (omega arith))
+loop-i-preserved c = (omega arith, every_go _ _ _ _ _ c.loop-i.invariant.1 _ c.field_at-f.ensures.0 (omega arith) (sym c.ends_by.ensures ∙ c.if-not-ends_by.false) _ _ (omega arith) (omega arith))
 
 pub returns : goal.returns
 returns c = every_done _ _ _ _ _ c.loop-i.invariant.1 (omega arith)

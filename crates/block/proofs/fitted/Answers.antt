@@ -46,7 +46,7 @@ pub body_fits-requires : goal.body_fits-requires
 body_fits-requires c = (eight _ c.requires.0, c.requires.1)
 
 pub returns-then-not-body_fits : goal.returns-then-not-body_fits
-returns-then-not-body_fits c = fit_7 _ _ _ _ (sym c.body_fits.ensures ∙ not-true _ c.if-not-body_fits.true)
+returns-then-not-body_fits c = fit_7 _ _ _ _ (sym c.body_fits.ensures ∙ c.if-not-body_fits.true)
 
 pub subs_fit-requires : goal.subs_fit-requires
 subs_fit-requires c = (sixteen_in c.before.before.before, c.requires.1)
@@ -63,7 +63,7 @@ returns-then-row-eq0 c =
 
 pub nest_fits-requires : goal.nest_fits-requires
 nest_fits-requires c =
-    ((eight _ c.requires.0, c.requires.1, c.requires.2, omega (arith, c.if-row-eq0.false)), (end_is _ _ _ _ _ c.nested_at.ensures.0 c.walk-w.ensures, any_is _ _ _ _ _ c.nested_at.ensures.0 c.walk-w.ensures))
+    record { in_bounds = (eight _ c.requires.0, c.requires.1, c.requires.2, omega (arith, c.if-row-eq0.false)); end_value = (end_is _ _ _ _ _ c.nested_at.ensures.0 c.walk-w.ensures, any_is _ _ _ _ _ c.nested_at.ensures.0 c.walk-w.ensures) }
 
 pub returns-then-not-nest_fits : goal.returns-then-not-nest_fits
 returns-then-not-nest_fits c =

@@ -27,7 +27,7 @@ slice_bounds-scan-end-2 c =
     sym (length-take-le c.lesser-t.result c.args.piece.now (omega arith))
 
 abbrev entry : AfterScan → Start
-entry s = s.before.before.before.before.before.before.before
+entry s = s.before.before.before.before.before
 
 front : (s : AfterScan) → (entry s).args.standing ≤ (entry s).args.held
 front s = (entry s).requires.1

@@ -22,7 +22,7 @@ abbrev Start : Type 0
 Start = Lts.Start tie.the-claims Reads.Pre Reads.Post
 
 abbrev entry : AfterLast → Start
-entry s = s.before.before.before.before
+entry s = s.before.before.before
 
 front : (s : AfterLast) → (entry s).args.standing ≤ (entry s).args.held
 front s = (entry s).requires.0

@@ -7,11 +7,11 @@ use Rattle.record.proofs.sub_place.Goals as goal
 pub returns-in-At : goal.returns-in-At
 returns-in-At c =
     let d = c.sub_row_of.ensures in
-    let h = c.nest-1.given.1 in
+    let h = c.in-At.is in
     (twin_given _ _ _ d h, (place_given _ _ _ d h, first_within _ _ _ d _ _ h))
 
 pub returns-in-Refused : goal.returns-in-Refused
 returns-in-Refused c =
     let d = c.sub_row_of.ensures in
-    let h = c.x-1.given.1 in
+    let h = c.in-Refused.is in
     (twin_refused _ _ _ d h, (place_refused _ _ _ d h, omega arith))
