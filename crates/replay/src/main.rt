@@ -248,13 +248,7 @@ fn play_line(
         desk, asked, line, n, given, kinds, bits, hold, force, waiting, block,
     );
     let turn = played.turn;
-    end_line(
-        rt,
-        s,
-        played,
-        crcs_after(turn, hold, force, waiting),
-        out,
-    )
+    end_line(rt, s, played, crcs_after(turn, hold, force, waiting), out)
 }
 
 // Plays line after line.

@@ -156,7 +156,10 @@ fn end_line(rt: &HostRuntime, outcome: Outcome, number: u64, block: &[u8; 65536]
         Outcome::Pass => Course::GoesOn,
         Outcome::Bad => {
             tell_number(rt, number);
-            console::tell(rt, b"is not of the form NUMBER REVISION TOW WNC VALUE .. / VALUE ..\n");
+            console::tell(
+                rt,
+                b"is not of the form NUMBER REVISION TOW WNC VALUE .. / VALUE ..\n",
+            );
             Course::GoesOn
         }
         Outcome::Answer(answer) => match answer {
