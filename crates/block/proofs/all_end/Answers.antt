@@ -1,13 +1,10 @@
 -- `block::all_end` meets its contract: what is left of the rows gives the whole.
 -- Assumes nothing.
 use mathlib.Core.Path.{sym, ◌∙◌}
-use Prim.Native.Nat.{◌-◌}
 use native.Mathlib.Nat.{add-zero, sub-zero}
 use native.Mathlib.Omega.{arith}
 use borrow.Author.Rules.{rules}
-use borrow.Author.Tests.{not-true, not-false}
 use Rattle.table.proofs.Lists.{every_done, every_stop, every_go}
-use Rattle.block.specs.Block.{ends_by}
 use Rattle.block.proofs.all_end.Goals as goal
 
 pub loop-i-init : goal.loop-i-init

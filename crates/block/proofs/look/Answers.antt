@@ -1,11 +1,9 @@
 -- `block::look` meets its contract: each return is one law of `seen`.
 -- Assumes nothing.
 use mathlib.Core.Path.{◌≡◌, sym, ◌∙◌}
-use borrow.Author.Tests.{not-true, not-false}
 use mathlib.Core.Bool.{true}
 use Rattle.frame.specs.Frame.{whole_frame}
 use Rattle.block.proofs.Blocks.{eight, look_10, look_6, look_at, stands_at}
-use borrow.Author.Rules.{rules}
 use Rattle.block.proofs.look.Goals as goal
 use Rattle.block.proofs.look.Lts
 use Rattle.block.proofs.look.Reads

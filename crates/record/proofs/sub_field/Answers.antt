@@ -14,7 +14,7 @@ returns-then-count-j c =
 
 pub overflow_add-start-in-At : goal.overflow_add-start-in-At
 overflow_add-start-in-At c =
-    omega (arith, (passed _ c.requires).file.most, sub_in c.args.table.now _ _ c.sub_row_of.ensures c.in-At.PAYLOAD _ c.in-At.is _ c.first_count-count.ensures c.if-count-j.false)
+    omega (arith, (passed _ c.requires).file.most, sub_in c.args.table.now _ _ c.sub_row_of.ensures c.in-At.row _ c.in-At.is _ c.first_count-count.ensures c.if-count-j.false)
 
 pub field_at-f-requires : goal.field_at-f-requires
 field_at-f-requires c =
@@ -31,12 +31,12 @@ part-requires c =
 pub field_said-requires : goal.field_said-requires
 field_said-requires c =
     sub_ends _ _ _ c.sub_row_of.ensures _ _ c.in-At.is _ c.first_count-count.ensures c.if-count-j.false
-    c.field_at-f.ensures.0 c.revision-revision.ensures c.part.ensures.0.1
+    c.field_at-f.ensures.0 c.revision-revision.ensures c.part.ensures.result_value.1
 
 pub returns-else-count-j : goal.returns-else-count-j
 returns-else-count-j c =
     sub_says _ _ _ c.sub_row_of.ensures _ _ c.in-At.is _ c.first_count-count.ensures c.if-count-j.false
-    c.field_at-f.ensures.0 c.revision-revision.ensures c.part.ensures.0.0 c.field_said.ensures
+    c.field_at-f.ensures.0 c.revision-revision.ensures c.part.ensures.result_value.0 c.field_said.ensures
 
 pub returns-in-Refused : goal.returns-in-Refused
 returns-in-Refused c = sub_refused _ _ _ c.sub_row_of.ensures _ c.in-Refused.is

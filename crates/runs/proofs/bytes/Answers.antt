@@ -20,7 +20,7 @@ use Rattle.runs.proofs.bytes.Reads
 use Rattle.runs.proofs.bytes.Tie as tie
 
 abbrev AfterEnumTold2 : Type 0
-AfterEnumTold2 = Lts.After-enum_told2 tie.the-claims Reads.Pre Reads.Post
+AfterEnumTold2 = Lts.After-enum_told2 tie.the-claims Reads.Pre Reads.Post tie.handed_clauses
 
 free : (e : AfterEnumTold2) → bytes_refusal e.args.s e.args.hold.now ≡ none
 free e = sym (e.of_bytes-c.ensures _ refl) ∙ ap refusal_of e.in-Passed.is
@@ -44,9 +44,9 @@ pub returns-in-Refused : goal.returns-in-Refused
 returns-in-Refused c =
     let a = c.args in
     let refused = sym (c.of_bytes-c.ensures _ refl) ∙ ap refusal_of c.in-Refused.is in
-    (c.part.ensures.0.0 ∙ bytes_by a.s a.hold.now refused, c.part.ensures.1 ∙ at_start a.hold.ref_ptr)
+    record { result_value = c.part.ensures.result_value.0 ∙ bytes_by a.s a.hold.now refused; ref_ptr_value = c.part.ensures.ref_ptr_value ∙ at_start a.hold.ref_ptr }
 
 pub returns-in-Passed : goal.returns-in-Passed
 returns-in-Passed c =
     let a = c.args in
-    (c.part-in-Passed.ensures.0.0 ∙ bytes_by a.s a.hold.now (free c.before.before), c.part-in-Passed.ensures.1 ∙ at_start a.hold.ref_ptr)
+    record { result_value = c.part-in-Passed.ensures.result_value.0 ∙ bytes_by a.s a.hold.now (free c.before.before); ref_ptr_value = c.part-in-Passed.ensures.ref_ptr_value ∙ at_start a.hold.ref_ptr }

@@ -15,7 +15,7 @@ pub returns-in-Refused : goal.returns-in-Refused
 unfolding feed_of
 returns-in-Refused c =
     let a = c.args in
-    is_refused a.s a.hold.now (feeding_by (feeding_of a.s a.hold.now a.piece.now) a.s a.hold.now) (feed_refusal a.s a.hold.now a.piece.now) (number_for c.in-Refused.PAYLOAD)
+    is_refused a.s a.hold.now (feeding_by (feeding_of a.s a.hold.now a.piece.now) a.s a.hold.now) (feed_refusal a.s a.hold.now a.piece.now) (number_for c.in-Refused.why)
     (sym (c.of_feed-c.ensures _ refl) ∙ ap refusal_of c.in-Refused.is)
 
 pub returns-in-Passed : goal.returns-in-Passed

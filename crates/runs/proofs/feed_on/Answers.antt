@@ -29,16 +29,16 @@ use Rattle.runs.proofs.feed_on.Reads
 use Rattle.runs.proofs.feed_on.Tie as tie
 
 abbrev Start : Type 0
-Start = Lts.Start tie.the-claims Reads.Pre Reads.Post
+Start = Lts.Start tie.the-claims Reads.Pre Reads.Post tie.handed_clauses
 
 abbrev AfterFeed : Type 0
-AfterFeed = Lts.After-feed tie.the-claims Reads.Pre Reads.Post
+AfterFeed = Lts.After-feed tie.the-claims Reads.Pre Reads.Post tie.handed_clauses
 
 abbrev AfterWentOn : Type 0
-AfterWentOn = Lts.After-went_on tie.the-claims Reads.Pre Reads.Post
+AfterWentOn = Lts.After-went_on tie.the-claims Reads.Pre Reads.Post tie.handed_clauses
 
 abbrev AfterWithRun : Type 0
-AfterWithRun = Lts.After-with_run tie.the-claims Reads.Pre Reads.Post
+AfterWithRun = Lts.After-with_run tie.the-claims Reads.Pre Reads.Post tie.handed_clauses
 
 room : (c : Start) → Facts c.args.s × (65536 ≤ length c.args.hold.now)
 unfolding feed_refusal
@@ -53,7 +53,7 @@ meaning d = feeding_of (entry d).args.s (entry d).args.hold.now (entry d).args.p
 
 numbers : (d : AfterFeed) → d.feed-f.result ≡ numbers_of (meaning d)
 unfolding feeding_of
-numbers d = d.feed-f.ensures.0
+numbers d = d.feed-f.ensures.value
 
 left : (d : AfterFeed) → d.feed-f.new.1.0 ≡ hold_of (meaning d) (entry d).args.hold.now
 unfolding feeding_of
@@ -64,7 +64,7 @@ unfolding feeding_of
 whole d = fed_whole _ _ _ _
 
 good : (d : AfterFeed) → GoodNumbers d.feed-f.result (min (limit - (entry d).args.s.run.counts.taken) (length (entry d).args.piece.now))
-good d = d.feed-f.ensures.1.1
+good d = d.feed-f.ensures.hold_after.1
 
 long_left : (d : AfterFeed) → length (entry d).args.hold.now ≤ length d.feed-f.new.1.0
 long_left d =
@@ -116,8 +116,8 @@ returns-then-len-eq0 c =
 
 pub overflow_sub-next : goal.overflow_sub-next
 overflow_sub-next c =
-    let f = room (entry c.before.before.before.before.before.before.before.before) in
-    let k = fewer c.before.before.before.before.before.before.before.before in
+    let f = room (entry c.before.before.before.before.before.before.before) in
+    let k = fewer c.before.before.before.before.before.before.before in
     let n = c.went_on-next.ensures in
     let a = ap (λ (r : Run). r.counts.taken) n in
     let b = ap (λ (r : Run). r.held) n in
@@ -125,16 +125,16 @@ overflow_sub-next c =
 
 pub report_at-block-requires : goal.report_at-block-requires
 report_at-block-requires c =
-    omega (arith, (room (entry c.before.before.before.before.before.before.before.before)).1, long_left c.before.before.before.before.before.before.before.before)
+    omega (arith, (room (entry c.before.before.before.before.before.before.before)).1, long_left c.before.before.before.before.before.before.before.before)
 
 pub returns : goal.returns
 returns c =
-    let F = meaning c.before.before.before.before.before.before.before.before.before in
+    let F = meaning c.before.before.before.before.before.before.before.before in
     let n = c.feed-f.result.standing in
-    let es : (meaning c.before.before.before.before.before.before.before.before.before).standing ≡ some c.feed-f.result.standing =
-    some_if (meaning c.before.before.before.before.before.before.before.before.before).standing c.feed-f.result.standing (sym (ap (λ (x : HoldNumbers). x.standing) (numbers c.before.before.before.before.before.before.before.before.before))) c.if-len-eq0.false in
+    let es : (meaning c.before.before.before.before.before.before.before.before).standing ≡ some c.feed-f.result.standing =
+    some_if (meaning c.before.before.before.before.before.before.before.before).standing c.feed-f.result.standing (sym (ap (λ (x : HoldNumbers). x.standing) (numbers c.before.before.before.before.before.before.before.before))) c.if-len-eq0.false in
     same_outcome
-    (ap₂ (λ (t : ℕ) (o : Option Report). took t o) (ap (λ (x : HoldNumbers). x.taken) (numbers c.before.before.before.before.before.before.before.before.before))
+    (ap₂ (λ (t : ℕ) (o : Option Report). took t o) (ap (λ (x : HoldNumbers). x.taken) (numbers c.before.before.before.before.before.before.before.before))
     (ap some
     (c.report_at-block.ensures ∙ ap (λ (h : List ℕ). report_at h (front c.went_on-next.result) n) (left c.before.before.before.before.before.before.before.before.before)
     ∙ report_is (meaning c.before.before.before.before.before.before.before.before.before).held (drop (length (meaning c.before.before.before.before.before.before.before.before.before).held) (entry c.before.before.before.before.before.before.before.before.before).args.hold.now) (front c.went_on-next.result) n (whole_some (meaning c.before.before.before.before.before.before.before.before.before).standing (meaning c.before.before.before.before.before.before.before.before.before).held n (whole c.before.before.before.before.before.before.before.before.before) es)

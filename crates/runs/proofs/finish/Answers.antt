@@ -15,7 +15,7 @@ pub returns-in-Refused : goal.returns-in-Refused
 unfolding finish_of
 returns-in-Refused c =
     let a = c.args in
-    is_refused a.s a.hold.now (finishing_by (finishing_of a.s a.hold.now) a.s a.hold.now) (finish_refusal a.s a.hold.now) (number_for c.in-Refused.PAYLOAD)
+    is_refused a.s a.hold.now (finishing_by (finishing_of a.s a.hold.now) a.s a.hold.now) (finish_refusal a.s a.hold.now) (number_for c.in-Refused.why)
     (sym (c.of_finish-c.ensures _ refl) ∙ ap refusal_of c.in-Refused.is)
 
 pub returns-in-Passed : goal.returns-in-Passed

@@ -29,16 +29,16 @@ use Rattle.runs.proofs.finish_on.Reads
 use Rattle.runs.proofs.finish_on.Tie as tie
 
 abbrev Start : Type 0
-Start = Lts.Start tie.the-claims Reads.Pre Reads.Post
+Start = Lts.Start tie.the-claims Reads.Pre Reads.Post tie.handed_clauses
 
 abbrev AfterFinish : Type 0
-AfterFinish = Lts.After-finish tie.the-claims Reads.Pre Reads.Post
+AfterFinish = Lts.After-finish tie.the-claims Reads.Pre Reads.Post tie.handed_clauses
 
 abbrev AfterWentOn : Type 0
-AfterWentOn = Lts.After-went_on tie.the-claims Reads.Pre Reads.Post
+AfterWentOn = Lts.After-went_on tie.the-claims Reads.Pre Reads.Post tie.handed_clauses
 
 abbrev AfterWithRun : Type 0
-AfterWithRun = Lts.After-with_run tie.the-claims Reads.Pre Reads.Post
+AfterWithRun = Lts.After-with_run tie.the-claims Reads.Pre Reads.Post tie.handed_clauses
 
 room : (c : Start) → Facts c.args.s × (65536 ≤ length c.args.hold.now)
 unfolding finish_refusal
@@ -53,7 +53,7 @@ meaning d = finishing_of (entry d).args.s (entry d).args.hold.now
 
 numbers : (d : AfterFinish) → d.finish-f.result ≡ numbers_of (meaning d)
 unfolding finishing_of
-numbers d = d.finish-f.ensures.0
+numbers d = d.finish-f.ensures.value
 
 left : (d : AfterFinish) → d.finish-f.new.1.0 ≡ hold_of (meaning d) (entry d).args.hold.now
 unfolding finishing_of
@@ -79,7 +79,7 @@ fewer d =
 pub went_on-next-requires : goal.went_on-next-requires
 went_on-next-requires c =
     let f = room (entry c.before.before.before.before) in
-    let g = c.finish-f.ensures.1.1.taken in
+    let g = c.finish-f.ensures.hold_after.1.taken in
     (omega (arith, g, f.0.taken), omega (arith, f.0.blocks, f.0.taken), omega (arith, (fewer c.before.before.before.before).skipped, f.0.skipped, f.0.taken, f.0.held, g))
 
 abbrev fed : AfterWentOn → AfterFinish
@@ -116,7 +116,7 @@ returns-then-len-eq0 c =
 
 pub overflow_sub-next : goal.overflow_sub-next
 overflow_sub-next c =
-    let d = fed c.before.before.before.before in
+    let d = fed c.before.before.before in
     let f = room (entry d) in
     let n = c.went_on-next.ensures in
     let a = ap (λ (r : Run). r.counts.taken) n in
@@ -125,16 +125,16 @@ overflow_sub-next c =
 
 pub report_at-block-requires : goal.report_at-block-requires
 report_at-block-requires c =
-    let d = fed c.before.before.before.before in
+    let d = fed c.before.before.before in
     omega (arith, (room (entry d)).1, long_left d)
 
 pub returns : goal.returns
 returns c =
-    let d = fed c.before.before.before.before.before in
-    let n = d.finish.result.standing in
+    let d = fed c.before.before.before.before in
+    let n = d.finish-f.result.standing in
     let r = run_on (phase_after (meaning d).standing) (entry d).args.s.run (meaning d) in
-    let es : (meaning d).standing ≡ some d.finish.result.standing =
-    some_if (meaning d).standing d.finish.result.standing (sym (ap (λ (x : HoldNumbers). x.standing) (numbers d))) c.if-len-eq0.false in
+    let es : (meaning d).standing ≡ some d.finish-f.result.standing =
+    some_if (meaning d).standing d.finish-f.result.standing (sym (ap (λ (x : HoldNumbers). x.standing) (numbers d))) c.if-len-eq0.false in
     same_outcome
     (ap found
     (c.report_at-block.ensures ∙ ap (λ (h : List ℕ). report_at h (front c.went_on-next.result) n) (left d)

@@ -84,7 +84,7 @@ abbrev run : AfterJudgeLast → List ℕ
 run j = bytes (begin j).before
 
 abbrev place : AfterJudgeLast → ℕ
-place j = (begin j).before.start-from.result
+place j = (begin j).before.start_from-p.result
 
 abbrev top : AfterJudgeLast → ℕ
 top j = top_at (begin j).before
@@ -114,8 +114,8 @@ slice_bounds-judge_last-end c = omega (arith, inside c.before)
 pub returns-in-Frame : goal.returns-in-Frame
 returns-in-Frame c =
     c.last_found-in-Frame.ensures
-    ∙ sym (end_frame (top c.before.before.before.before) (run c.before.before.before.before) (place c.before.before.before.before) (past (begin c.before.before.before.before)) c.in-Frame.PAYLOAD (inside c.before.before.before.before.before.before) (verdict c.before.before.before.before c.in-Frame.is))
-    ∙ there (begin c.before.before.before.before)
+    ∙ sym (end_frame (top c.before.before.before) (run c.before.before.before) (place c.before.before.before) (past (begin c.before.before.before)) c.in-Frame.n (inside c.before.before.before.before.before) (verdict c.before.before.before c.in-Frame.is))
+    ∙ there (begin c.before.before.before)
 
 pub count-passed-requires : goal.count-passed-requires
 count-passed-requires c = omega (arith, placed (begin c.before.before), inside c.before.before.before.before)
@@ -129,14 +129,14 @@ one_more c =
 
 pub loop-passed-smaller : goal.loop-passed-smaller
 loop-passed-smaller c =
-    omega (arith, one_more c.before, inside c.before.before.before.before.before, (begin c.before.before.before).before.start-from.ensures.from)
+    omega (arith, one_more c.before, inside c.before.before.before.before.before, (begin c.before.before.before).before.start_from-p.ensures.from)
 
 pub loop-passed-preserved : goal.loop-passed-preserved
 loop-passed-preserved c = (
   omega (arith, one_more c.before, inside c.before.before.before.before.before),
   ap (λ (i : ℕ). from_end (top c.before.before.before) (run c.before.before.before) i c.count-passed.result) (one_more c.before)
       ∙ ap (from_end (top c.before.before.before) (run c.before.before.before) (place c.before.before.before + 1)) c.count-passed.ensures
-      ∙ sym (end_pass (top c.before.before.before) (run c.before.before.before) (place c.before.before.before) (past (begin c.before.before.before)) c.in-NoFrame.PAYLOAD (inside c.before.before.before.before.before) (verdict c.before.before.before c.in-NoFrame.is))
+      ∙ sym (end_pass (top c.before.before.before) (run c.before.before.before) (place c.before.before.before) (past (begin c.before.before.before)) c.in-NoFrame.why (inside c.before.before.before.before.before) (verdict c.before.before.before c.in-NoFrame.is))
       ∙ there (begin c.before.before.before),
 )
 

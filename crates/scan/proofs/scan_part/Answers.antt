@@ -1,5 +1,6 @@
 -- `scan::scan_part` meets its contract. The invariant: the places from k on, with those passed and the present mark, give what the whole part gives.
 -- Assumes nothing.
+use borrow.Enum.Refused.{opened}
 use mathlib.Core.Path.{◌≡◌, refl, sym, ap, ap₂, ◌∙◌, subst}
 use mathlib.Core.List.{List, ◌++◌}
 use Prim.Native.Nat.{ℕ, ◌≤◌, ◌<◌, ◌+◌, ◌-◌}
@@ -42,7 +43,7 @@ abbrev AfterCount : Type 0
 AfterCount = Lts.After-count tie.the-claims Reads.Pre Reads.Post goal.the-invariant-loop-k goal.the-decreases-loop-k
 
 abbrev AfterWhy : Type 0
-AfterWhy = Lts.After-why tie.the-claims Reads.Pre Reads.Post goal.the-invariant-loop-k goal.the-decreases-loop-k
+AfterWhy = Lts.Past-After-known_told3 tie.the-claims Reads.Pre Reads.Post goal.the-invariant-loop-k goal.the-decreases-loop-k
 
 pub loop-k-init : goal.loop-k-init
 loop-k-init c = (omega arith, omega arith, refl)
@@ -99,7 +100,7 @@ abbrev begin : AfterJudge → AfterStartFrom
 begin j = (counted j).before
 
 abbrev place : AfterJudge → ℕ
-place j = (begin j).start-from.result
+place j = (begin j).start_from-p.result
 
 -- the run from the place on
 abbrev run : AfterJudge → List ℕ
@@ -149,21 +150,21 @@ pub slice_bounds-judge-end : goal.slice_bounds-judge-end
 slice_bounds-judge-end c = omega (arith, inside c.before)
 
 pub overflow_add-place : goal.overflow_add-place
-overflow_add-place c = omega (arith, end_fits c.before.before c.in-Frame.PAYLOAD (fits c.before.before c.in-Frame.is))
+overflow_add-place c = omega (arith, end_fits c.before.before c.in-Frame.n (fits c.before.before c.in-Frame.is))
 
 pub returns-in-Frame : goal.returns-in-Frame
 returns-in-Frame c =
     let a = (entry (begin c.before.before.before)).args in
-    ap (Block (past (counted c.before.before.before)) c.in-Frame.PAYLOAD) c.greater.ensures
+    ap (Block (past (counted c.before.before.before)) c.in-Frame.n) c.greater.ensures
     ∙ sym
-    (part_frame a.ceiling a.s.now a.rest.now (place c.before.before.before) (past (counted c.before.before.before)) (begin c.before.before.before).before.before.loop.m c.in-Frame.PAYLOAD (inside c.before.before.before.before.before) (verdict c.before.before.before c.in-Frame.is))
+    (part_frame a.ceiling a.s.now a.rest.now (place c.before.before.before) (past (counted c.before.before.before)) (begin c.before.before.before).before.before.loop-k.m c.in-Frame.n (inside c.before.before.before.before.before) (verdict c.before.before.before c.in-Frame.is))
     ∙ there (counted c.before.before.before)
 
 pub returns-in-Undecided : goal.returns-in-Undecided
 returns-in-Undecided c =
     let a = (entry (begin c.before.before)).args in
     sym
-    (part-waits a.ceiling a.s.now a.rest.now (place c.before.before) (past (counted c.before.before)) (begin c.before.before).before.before.loop.m (inside c.before.before.before.before) (verdict c.before.before c.in-Undecided.is))
+    (part-waits a.ceiling a.s.now a.rest.now (place c.before.before) (past (counted c.before.before)) (begin c.before.before).before.before.loop-k.m (inside c.before.before.before.before) (verdict c.before.before c.in-Undecided.is))
     ∙ there (counted c.before.before)
 
 pub count-passed-requires : goal.count-passed-requires
@@ -180,15 +181,15 @@ one_more q =
     omega (arith, e, placed n)
 
 -- no frame stands at the place, for this reason
-reasoned : (w : AfterWhy) → judged (top (at w.before.before)) (run (at w.before.before)) ≡ NoFrame (CrcWrong w.in-CrcWrong.PAYLOAD)
+reasoned : (w : AfterWhy) → judged (top (at w.before)) (run (at w.before)) ≡ NoFrame (CrcWrong w.in-CrcWrong.n)
 reasoned w =
-    verdict (at w.before.before) (w.in-NoFrame.is ∙ ap NoFrame w.in-CrcWrong.is)
+    verdict (at w.before) (w.in-NoFrame.is ∙ ap NoFrame w.in-CrcWrong.is)
 
 pub overflow_add-place-in-CrcWrong : goal.overflow_add-place-in-CrcWrong
 overflow_add-place-in-CrcWrong c =
-    let j = at c.before.before.before in
-    let t : There c.in-CrcWrong.PAYLOAD (run j) = subst (Fits (run j)) (reasoned c.before) ((judging (top j)).fits (run j)) in
-    omega (arith, end_fits j c.in-CrcWrong.PAYLOAD t)
+    let j = at c.before.before in
+    let t : There c.in-CrcWrong.n (run j) = subst (Fits (run j)) (reasoned c.before) ((judging (top j)).fits (run j)) in
+    omega (arith, end_fits j c.in-CrcWrong.n t)
 
 pub overflow_add-k : goal.overflow_add-k
 overflow_add-k c = let j = at c.before.before.before in omega (arith, inside j.before.before, bound (begin j))
@@ -196,19 +197,19 @@ overflow_add-k c = let j = at c.before.before.before in omega (arith, inside j.b
 pub loop-k-smaller-in-CrcWrong : goal.loop-k-smaller-in-CrcWrong
 loop-k-smaller-in-CrcWrong c =
     let j = at c.before.before.before in
-    omega (arith, inside j.before.before, (begin j).start-from.ensures.from)
+    omega (arith, inside j.before.before, (begin j).start_from-p.ensures.from)
 
 pub loop-k-preserved-in-CrcWrong : goal.loop-k-preserved-in-CrcWrong
 loop-k-preserved-in-CrcWrong c =
-    let j = at c.before.before.before.before in
+    let j = at c.before.before.before in
     let a = (entry (begin j)).args in
-    let m = (begin j).before.before.loop.m in
+    let m = (begin j).before.before.loop-k.m in
     let e : 1 + place j ≡ place j + 1 = omega arith in (
       omega (arith, inside j.before.before),
-      omega (arith, one_more c.before.before.before.before),
+      omega (arith, one_more c.before.before.before),
       ap (λ (i : ℕ). from_here (begin j) i c.count-passed.result c.greater-m.result) e
           ∙ ap₂ (from_here (begin j) (place j + 1)) (c.count-passed.ensures ∙ ap (count (past (counted j))) c.in-CrcWrong.is) c.greater-m.ensures
-          ∙ sym (part_pass a.ceiling a.s.now a.rest.now (place j) (past (counted j)) m (CrcWrong c.in-CrcWrong.PAYLOAD) (inside j.before.before) (reasoned c.before.before))
+          ∙ sym (part_pass a.ceiling a.s.now a.rest.now (place j) (past (counted j)) m (CrcWrong c.in-CrcWrong.n) (inside j.before.before) (reasoned c.before.before))
           ∙ there (counted j),
     )
 
@@ -218,17 +219,17 @@ overflow_add-k-in_default c = let j = at c.before.before in omega (arith, inside
 pub loop-k-smaller : goal.loop-k-smaller
 loop-k-smaller c =
     let j = at c.before.before in
-    omega (arith, inside j.before.before, (begin j).start-from.ensures.from)
+    omega (arith, inside j.before.before, (begin j).start_from-p.ensures.from)
 
 pub loop-k-preserved : goal.loop-k-preserved
 loop-k-preserved c =
     let j = at c.before.before in
     let a = (entry (begin j)).args in
-    let m = (begin j).before.before.loop.m in (
+    let m = (begin j).before.before.loop-k.m in (
       omega (arith, inside j.before.before),
       one_more c.before.before,
-      ap₂ (from_here (begin j) (place j + 1)) c.count-passed.ensures (sym (no_mark c.in-NoFrame.PAYLOAD c.in_default.keys2 (past (counted j)).skipped m))
-          ∙ sym (part_pass a.ceiling a.s.now a.rest.now (place j) (past (counted j)) m c.in-NoFrame.PAYLOAD (inside j.before.before) (verdict j c.in-NoFrame.is))
+      ap₂ (from_here (begin j) (place j + 1)) c.count-passed.ensures (sym (no_mark c.in-NoFrame.why (opened c.in_default.in_default-own.keys2) (past (counted j)).skipped m))
+          ∙ sym (part_pass a.ceiling a.s.now a.rest.now (place j) (past (counted j)) m c.in-NoFrame.why (inside j.before.before) (verdict j c.in-NoFrame.is))
           ∙ there (counted j),
     )
 

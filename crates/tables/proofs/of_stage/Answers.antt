@@ -21,12 +21,12 @@ one : (c : AfterIsSound) {b : Bool} → (c.is_sound.result && long_store c.args.
 one c e = ap (λ (x : Bool). x && long_store c.args.waiting.now) (sym c.is_sound.ensures) ∙ e
 
 pub returns-then-not-is_sound-waiting : goal.returns-then-not-is_sound-waiting
-returns-then-not-is_sound-waiting c = sym (stage_one _ _ _ (one c.before.before (not-true _ c.if-not-is_sound-waiting.true)))
+returns-then-not-is_sound-waiting c = sym (stage_one _ _ _ (one c.before.before (c.if-not-is_sound-waiting.true)))
 
 pub returns-in-Version : goal.returns-in-Version
 returns-in-Version c =
-    sym (stage-table _ _ _ (one c.before.before.before.before (not-false _ c.if-not-is_sound-waiting.false)) ∙ check_version_lem _ c.check-c.ensures c.in-Version.is)
+    sym (stage-table _ _ _ (one c.before.before.before.before (c.if-not-is_sound-waiting.false)) ∙ check_version_lem _ c.check-c.ensures c.in-Version.is)
 
 pub returns-in-Broken : goal.returns-in-Broken
 returns-in-Broken c =
-    sym (stage-table _ _ _ (one c.before.before.before.before (not-false _ c.if-not-is_sound-waiting.false)) ∙ check_broken _ c.check-c.ensures c.in-Broken.is)
+    sym (stage-table _ _ _ (one c.before.before.before.before (c.if-not-is_sound-waiting.false)) ∙ check_broken _ c.check-c.ensures c.in-Broken.is)

@@ -70,7 +70,7 @@ unfolding open_of
 returns-in-Refused c =
     let a = (entry c.before.before).args in
     sym
-    (refused_by_lem a.s a.in_force.now (opening a.s a.settings a.in_force.now a.waiting.now) (open_refusal a.s a.settings a.in_force.now a.waiting.now) (number_for c.in-Refused.PAYLOAD) refl
+    (refused_by_lem a.s a.in_force.now (opening a.s a.settings a.in_force.now a.waiting.now) (open_refusal a.s a.settings a.in_force.now a.waiting.now) (number_for c.in-Refused.why) refl
     (sym c.of_open-a.ensures ∙ ap saidOpened c.in-Refused.is))
 
 pub returns-else-w-gt0 : goal.returns-else-w-gt0

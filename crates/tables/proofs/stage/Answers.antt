@@ -59,7 +59,7 @@ unfolding stage_of
 returns-in-Refused c =
     let a = (entry c.before.before).args in
     sym
-    (refused_by_lem a.s a.waiting.now (staging a.s a.waiting.now a.t.now) (stage_refusal a.s a.waiting.now a.t.now) (number_for c.in-Refused.PAYLOAD) refl
+    (refused_by_lem a.s a.waiting.now (staging a.s a.waiting.now a.t.now) (stage_refusal a.s a.waiting.now a.t.now) (number_for c.in-Refused.why) refl
     (sym c.of_stage-a.ensures ∙ ap said_staged c.in-Refused.is))
 
 pub returns-in-Version : goal.returns-in-Version

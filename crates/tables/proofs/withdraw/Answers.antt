@@ -11,7 +11,7 @@ use Rattle.tables.proofs.withdraw.Goals as goal
 pub returns-in-Refused : goal.returns-in-Refused
 unfolding withdraw_of withdraw_refusal
 returns-in-Refused c =
-    is_refused c.args.s [] (withdrawing c.args.s) (withdraw_refusal c.args.s) (number_for c.in-Refused.PAYLOAD)
+    is_refused c.args.s [] (withdrawing c.args.s) (withdraw_refusal c.args.s) (number_for c.in-Refused.why)
     (sym c.of_state-c.ensures ∙ ap refusal_of c.in-Refused.is)
 
 pub returns-in-Passed : goal.returns-in-Passed

@@ -29,10 +29,10 @@ abbrev Else2 : Type 0
 Else2 = Lts.Else2 tie.the-claims Reads.Pre Reads.Post
 
 long : (c : Else1) → (sound c.args.s && long_hold c.args.hold.now) ≡ true
-long c = sym c.may_call.ensures ∙ not-false _ c.if-not-may_call.false
+long c = sym c.may_call.ensures ∙ c.if-not-may_call.false
 
 fed : (c : Else2) → is_feeding c.args.s.run.phase ≡ true
-fed c = sym c.is_feeding.ensures ∙ not-false _ c.if-not-is_feeding.false
+fed c = sym c.is_feeding.ensures ∙ c.if-not-is_feeding.false
 
 -- where a run may take more, or no more is given, the held bytes are not looked at
 open_or : (a b x : Bool) → (a || b) ≡ true → (a || (b || x)) ≡ true
@@ -76,13 +76,13 @@ pub returns-then-not-may_call : goal.returns-then-not-may_call
 unfolding feed_refusal
 returns-then-not-may_call c =
     let a = c.args in
-    at_1 (safe a.s a.hold.now) _ (sym c.may_call.ensures ∙ not-true _ c.if-not-may_call.true)
+    at_1 (safe a.s a.hold.now) _ (sym c.may_call.ensures ∙ c.if-not-may_call.true)
 
 pub returns-then-not-is_feeding : goal.returns-then-not-is_feeding
 unfolding feed_refusal
 returns-then-not-is_feeding c =
     let a = c.args in
-    at_2 (safe a.s a.hold.now) (is_feeding a.s.run.phase) _ (long c.before.before.before.before) (sym c.is_feeding.ensures ∙ not-true _ c.if-not-is_feeding.true)
+    at_2 (safe a.s a.hold.now) (is_feeding a.s.run.phase) _ (long c.before.before.before.before) (sym c.is_feeding.ensures ∙ c.if-not-is_feeding.true)
 
 pub returns-then-run-piece : goal.returns-then-run-piece
 unfolding feed_refusal

@@ -28,10 +28,10 @@ pub returns-then-not-may_call : goal.returns-then-not-may_call
 unfolding finish_refusal
 returns-then-not-may_call c =
     let s = c.args.s in
-    sym (ap (λ (x : Bool). need x 1 (need (not (is_closed s.run.phase)) 2 none)) (ap (asked s) e ∙ sym c.may_call.ensures ∙ not-true _ c.if-not-may_call.true))
+    sym (ap (λ (x : Bool). need x 1 (need (not (is_closed s.run.phase)) 2 none)) (ap (asked s) e ∙ sym c.may_call.ensures ∙ c.if-not-may_call.true))
 
 fine : (c : Else1) (v : List ℕ) → length v ≡ c.args.hold → (sound c.args.s && long_hold v) ≡ true
-fine c v e = ap (asked c.args.s) e ∙ sym c.may_call.ensures ∙ not-false _ c.if-not-may_call.false
+fine c v e = ap (asked c.args.s) e ∙ sym c.may_call.ensures ∙ c.if-not-may_call.false
 
 -- the phase is asked where the hold is long enough
 second : (s : State) (v : List ℕ) {b : Bool} → (sound s && long_hold v) ≡ true → is_closed s.run.phase ≡ b → need (not b) 2 none ≡ finish_refusal s v
