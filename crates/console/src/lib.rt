@@ -1,13 +1,19 @@
 // The three standard streams, as both programs use them: input in pieces, output from a buffer, and errors told.
+#![tactic(auto)]
+
 ghost use Rattle.std.specs.Prelude.{◌+◌, ◌≤◌, ◌<◌, length};
-ghost use Rattle.io.specs.Counts.{IsPrefixLen};
+ghost use Rattle.std.specs.Counts.{IsPrefixLen};
 
 pub mod lines; // lines.rt: the next line of standard input
 
-use libc::{SEEK_CUR, STDERR_FILENO, STDIN_FILENO, STDOUT_FILENO};
+use std::io::{Read, Seek};
+use std::{fs, io};
+
+// Standard input by its name.
+const INPUT: &str = "/dev/stdin";
 
 // Why a program stops reading: `Stopped` is its own choice.
-#[derive(Drop)]
+#[derive(Clone, Copy)]
 pub enum Course {
     GoesOn,
     InputEnded,
@@ -35,63 +41,73 @@ pub fn left(turns: u64, more: bool) -> u64
 }
 
 // How many bytes were read, and whether to go on.
-#[derive(Drop)]
+#[derive(Clone, Copy)]
 pub struct Piece {
     pub count: usize,
     pub course: Course,
 }
 
 // Reads once from standard input.
-pub fn read(buf: &mut [u8; 65536]) -> Piece
+pub fn read(rt: &HostRuntime, buf: &mut [u8; 65536]) -> Piece
     ensures { IsPrefixLen result.count buf.new × (result.count ≤ 65536) }
 {
-    let got = libc::read(STDIN_FILENO, buf);
-    let count = io::count(got, buf);
-    if got < 0 {
-        return Piece {
-            count,
-            course: Course::ReadFailed,
-        };
-    }
-    if got == 0 {
-        return Piece {
-            count,
+    match rt.stdin().read(buf) {
+        Ok(0) => Piece {
+            count: 0,
             course: Course::InputEnded,
-        };
-    }
-    Piece {
-        count,
-        course: Course::GoesOn,
+        },
+        Ok(count) => Piece {
+            count,
+            course: Course::GoesOn,
+        },
+        Err(_) => Piece {
+            count: 0,
+            course: Course::ReadFailed,
+        },
     }
 }
 
-// Whether a read of standard input can wait for bytes that are yet to come: not where the input has a place in a file, and a
-// pipe, a socket and a serial line have none. That place is asked for, and stays.
-pub fn live() -> bool {
-    libc::lseek(STDIN_FILENO, 0, SEEK_CUR) < 0
+// Whether standard input has a place in a file, and a pipe, a socket and a serial line have none. A file is opened once more to
+// ask for a place, so that its own stays; nothing else is, since an opening may wait.
+fn has_place(rt: &HostRuntime) -> io::Result<bool> {
+    if !fs::metadata(rt, INPUT)?.is_file() {
+        return Ok(false);
+    }
+    let mut file = fs::open(rt, INPUT)?;
+    Ok(file.stream_position().is_ok())
+}
+
+// Whether a read of standard input can wait for bytes that are yet to come: not where the input has a place in a file.
+pub fn live(rt: &HostRuntime) -> bool {
+    !has_place(rt).unwrap_or(false)
 }
 
 // Tells words on standard error.
-pub fn tell(words: &[u8]) {
-    io::write_all(STDERR_FILENO, words);
+pub fn tell(rt: &HostRuntime, words: &[u8]) {
+    let _ = rt.stderr().write_all(words);
+}
+
+// Tells a number, in decimal, on standard error.
+pub fn tell_number(rt: &HostRuntime, n: u64) {
+    let _ = rt.eprint(n);
 }
 
 // Writes the first n bytes to standard output.
-fn write(out: &[u8], n: usize) -> bool
+fn write(rt: &HostRuntime, out: &[u8], n: usize) -> bool
     requires { n ≤ length out.now }
 {
-    io::write_all(STDOUT_FILENO, &out[..n])
+    rt.stdout().write_all(&out[..n]).is_ok()
 }
 
 // How many bytes wait to be written, and whether writing went well.
-#[derive(Drop)]
+#[derive(Clone, Copy)]
 pub struct Room {
     pub filled: usize,
     pub written: bool,
 }
 
 // Makes room for a line: writes out what waits where less than that is left.
-pub fn make_room(out: &[u8; 8192], filled: usize, line: usize) -> Room
+pub fn make_room(rt: &HostRuntime, out: &[u8; 8192], filled: usize, line: usize) -> Room
     requires { (filled ≤ 8192) × (line ≤ 8192) }
     ensures { (result.filled ≤ filled) × (result.filled + line ≤ 8192) }
 {
@@ -103,29 +119,29 @@ pub fn make_room(out: &[u8; 8192], filled: usize, line: usize) -> Room
     }
     Room {
         filled: 0,
-        written: write(out, filled),
+        written: write(rt, out, filled),
     }
 }
 
-fn tell_unwritten(name: &[u8]) {
-    tell(name);
-    tell(b": cannot write to standard output\n");
+fn tell_unwritten(rt: &HostRuntime, name: &[u8]) {
+    tell(rt, name);
+    tell(rt, b": cannot write to standard output\n");
 }
 
 // A program's end: writes out what waits, and tells by the program's name what went wrong.
-pub fn write_out(name: &[u8], course: Course, out: &[u8; 8192], filled: usize)
+pub fn write_out(rt: &HostRuntime, name: &[u8], course: Course, out: &[u8; 8192], filled: usize)
     requires { filled ≤ 8192 }
 {
-    let written = write(out, filled);
+    let written = write(rt, out, filled);
     match course {
         Course::ReadFailed => {
-            tell(name);
-            tell(b": cannot read standard input\n");
+            tell(rt, name);
+            tell(rt, b": cannot read standard input\n");
         }
-        Course::WriteFailed => tell_unwritten(name),
+        Course::WriteFailed => tell_unwritten(rt, name),
         _ => {}
     }
     if !written {
-        tell_unwritten(name);
+        tell_unwritten(rt, name);
     }
 }

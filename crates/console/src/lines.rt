@@ -10,7 +10,7 @@ pub const LONGEST: usize = 270000;
 const TOO_LONG: usize = 270001;
 
 // How long the line is so far, TOO_LONG standing for any longer one; where the piece is read on; whether the line ended.
-#[derive(Drop)]
+#[derive(Clone, Copy)]
 struct Gathered {
     pub length: usize,
     pub next: usize,
@@ -50,7 +50,7 @@ fn gather(line: &mut [u8; 270000], so_far: usize, piece: &[u8], from: usize) -> 
 
 // A place in the piece that was read, and how many bytes the piece has; how long the line is so far, and whether it was found;
 // whether reading goes on.
-#[derive(Drop)]
+#[derive(Clone, Copy)]
 pub struct LineReading {
     pub at: usize,
     pub count: usize,
@@ -99,14 +99,19 @@ fn read_line(r: LineReading, buf: &[u8; 65536], line: &mut [u8; 270000]) -> Line
 }
 
 // Reads the next piece where this one is read.
-fn read_on(r: LineReading, buf: &mut [u8; 65536], line: &mut [u8; 270000]) -> LineReading
+fn read_on(
+    rt: &HostRuntime,
+    r: LineReading,
+    buf: &mut [u8; 65536],
+    line: &mut [u8; 270000],
+) -> LineReading
     requires { (r.at ≤ r.count) × (r.count ≤ 65536) × (r.length ≤ 270001) }
     ensures { (result.at ≤ result.count) × (result.count ≤ 65536) × (result.length ≤ 270001) }
 {
     if r.at < r.count {
         return read_line(r, buf, line);
     }
-    let piece = crate::read(buf);
+    let piece = crate::read(rt, buf);
     let course = piece.course;
     LineReading {
         at: 0,
@@ -126,7 +131,12 @@ fn goes_on(r: LineReading) -> bool {
 }
 
 // A line begins where the last one ended.
-pub fn next_line(r: LineReading, buf: &mut [u8; 65536], line: &mut [u8; 270000]) -> LineReading
+pub fn next_line(
+    rt: &HostRuntime,
+    r: LineReading,
+    buf: &mut [u8; 65536],
+    line: &mut [u8; 270000],
+) -> LineReading
     requires { (r.at ≤ r.count) × (r.count ≤ 65536) }
     ensures { (result.at ≤ result.count) × (result.count ≤ 65536) × (result.length ≤ 270001) }
 {
@@ -140,7 +150,7 @@ pub fn next_line(r: LineReading, buf: &mut [u8; 65536], line: &mut [u8; 270000])
     };
     let mut turns: u64 = crate::left(crate::TURNS, goes_on(now));
     while turns > 0 {
-        now = read_on(now, buf, line);
+        now = read_on(rt, now, buf, line);
         turns = crate::left(turns, goes_on(now));
     }
     now

@@ -1,8 +1,10 @@
 // Prints the CRC of standard input: four hexadecimal digits and a line end. Input that cannot be read to its end has none.
-use libc::{STDERR_FILENO, STDIN_FILENO, STDOUT_FILENO};
+#![tactic(auto)]
+
+use std::io::Read;
 
 // The register, whether there may be more to read, and whether reading went well so far.
-#[derive(Drop)]
+#[derive(Clone, Copy)]
 pub struct Turned {
     pub crc: u16,
     pub more: bool,
@@ -10,26 +12,29 @@ pub struct Turned {
 }
 
 // Reads once, and takes what came into the register.
-fn turn(crc: u16) -> Turned {
-    let mut buf = io::large_buffer();
-    let got = libc::read(STDIN_FILENO, &mut buf);
-    if got <= 0 {
-        return Turned {
+fn turn(rt: &HostRuntime, crc: u16) -> Turned {
+    let mut buf = [0u8; 65536];
+    match rt.stdin().read(&mut buf) {
+        Ok(0) => Turned {
             crc,
             more: false,
-            read: got == 0,
-        };
-    }
-    let n = io::count(got, &buf);
-    Turned {
-        crc: crc::update(crc, &buf[..n], b""),
-        more: true,
-        read: true,
+            read: true,
+        },
+        Ok(n) => Turned {
+            crc: crc::update(crc, &buf[..n], b""),
+            more: true,
+            read: true,
+        },
+        Err(_) => Turned {
+            crc,
+            more: false,
+            read: false,
+        },
     }
 }
 
 // A proved loop has to end, and nothing says that the input does: it counts its turns down.
-fn all() -> Turned {
+fn all(rt: &HostRuntime) -> Turned {
     let mut now = Turned {
         crc: 0,
         more: true,
@@ -37,7 +42,7 @@ fn all() -> Turned {
     };
     let mut turns: u64 = 0xffff_ffff_ffff_ffff;
     while turns > 0 {
-        now = turn(now.crc);
+        now = turn(rt, now.crc);
         if !now.more {
             return now;
         }
@@ -46,19 +51,17 @@ fn all() -> Turned {
     now
 }
 
-fn print(crc: u16) {
-    let digits = io::print_hex(STDOUT_FILENO, crc as u64, 4);
-    let end = io::write_all(STDOUT_FILENO, b"\n");
-    if !(digits && end) {
-        io::write_all(STDERR_FILENO, b"crcsum: cannot write to standard output\n");
+fn print(rt: &HostRuntime, crc: u16) {
+    if println!(rt; "{crc:04x}").is_err() {
+        let _ = eprintln!(rt; "crcsum: cannot write to standard output");
     }
 }
 
-fn main() {
-    let last = all();
+fn main(rt: HostRuntime) {
+    let last = all(&rt);
     if last.read {
-        print(last.crc);
+        print(&rt, last.crc);
     } else {
-        io::write_all(STDERR_FILENO, b"crcsum: cannot read standard input\n");
+        let _ = eprintln!(rt; "crcsum: cannot read standard input");
     }
 }

@@ -1,4 +1,6 @@
 // Lists the blocks of standard input, read as one run: a line for each, and last the run's counts (rule S11).
+#![tactic(auto)]
+
 ghost use Rattle.std.specs.Prelude.{◌+◌, ◌≤◌, length, ◌≡◌};
 
 use console::{Course, Piece};
@@ -122,10 +124,10 @@ fn put_line(out: &mut [u8; 8192], at: usize, line: Line) -> usize
 
 // How much room a spent piece asks for in the output buffer: all of it where the next read can wait, so that what waits is
 // written out and a live stream's blocks are seen as they come; else as much as a line does.
-fn room_of_spent() -> usize
+fn room_of_spent(rt: &HostRuntime) -> usize
     ensures { (90 ≤ result) × (result ≤ 8192) }
 {
-    if console::live() {
+    if console::live(rt) {
         return 8192;
     }
     phrases::LIST_LINE
@@ -141,12 +143,18 @@ fn room_of(lists: bool, spent: usize) -> usize
 
 // Lists the line of a call; one without a line comes where the piece is spent or the run is full. Nothing is read on where
 // writing failed.
-fn list_line(called: Called, out: &mut [u8; 8192], filled: usize, spent: usize) -> Listing
+fn list_line(
+    rt: &HostRuntime,
+    called: Called,
+    out: &mut [u8; 8192],
+    filled: usize,
+    spent: usize,
+) -> Listing
     requires { (filled ≤ 8192) × (90 ≤ spent) × (spent ≤ 8192) }
     ensures { (result.filled ≤ filled + 90) × (result.filled ≤ 8192) }
 {
     let state = called.state;
-    let room = console::make_room(out, filled, room_of(called.lists, spent));
+    let room = console::make_room(rt, out, filled, room_of(called.lists, spent));
     if !room.written {
         return Listing {
             state,
@@ -167,6 +175,7 @@ fn list_line(called: Called, out: &mut [u8; 8192], filled: usize, spent: usize) 
 
 // Offers what was read until it has no more to give. Nothing is offered where reading does not go on.
 fn drain(
+    rt: &HostRuntime,
     l: Listing,
     got: Piece,
     spent: usize,
@@ -192,7 +201,7 @@ fn drain(
     while turns > 0 {
         let called = offer(now.state, hold, &all[at..n]);
         at = at + called.taken;
-        now = list_line(called, out, now.filled, spent);
+        now = list_line(rt, called, out, now.filled, spent);
         turns = console::left(turns, now.more);
     }
     now
@@ -200,6 +209,7 @@ fn drain(
 
 // Reads and feeds, to the end of the input or of the run.
 fn read_all(
+    rt: &HostRuntime,
     state: State,
     buf: &mut [u8; 65536],
     hold: &mut [u8; 65536],
@@ -213,11 +223,11 @@ fn read_all(
         course: Course::GoesOn,
         more: true,
     };
-    let spent = room_of_spent();
+    let spent = room_of_spent(rt);
     let mut turns: u64 = console::TURNS;
     while turns > 0 {
-        let got = console::read(buf);
-        now = drain(now, got, spent, hold, buf, out);
+        let got = console::read(rt, buf);
+        now = drain(rt, now, got, spent, hold, buf, out);
         let course = now.course;
         turns = console::left(turns, console::goes_on(course));
     }
@@ -225,12 +235,12 @@ fn read_all(
 }
 
 // How many calls of Finish the run may have: none where reading or writing failed. That a run is full is told here.
-fn closings(course: Course) -> u64 {
+fn closings(rt: &HostRuntime, course: Course) -> u64 {
     match course {
         Course::ReadFailed | Course::WriteFailed => 0,
         Course::Stopped => {
             // the run is full
-            console::tell(b"lister: the run is full at 4294967295 bytes\n");
+            console::tell(rt, b"lister: the run is full at 4294967295 bytes\n");
             console::TURNS
         }
         _ => console::TURNS,
@@ -238,7 +248,13 @@ fn closings(course: Course) -> u64 {
 }
 
 // Finishes the run: the blocks that were held back, then the end.
-fn close_all(l: Listing, closings: u64, hold: &mut [u8; 65536], out: &mut [u8; 8192]) -> Listing
+fn close_all(
+    rt: &HostRuntime,
+    l: Listing,
+    closings: u64,
+    hold: &mut [u8; 65536],
+    out: &mut [u8; 8192],
+) -> Listing
     requires { l.filled ≤ 8192 }
     ensures { result.filled ≤ 8192 }
 {
@@ -246,23 +262,23 @@ fn close_all(l: Listing, closings: u64, hold: &mut [u8; 65536], out: &mut [u8; 8
     let mut turns = closings;
     while turns > 0 {
         let called = close(now.state, hold);
-        now = list_line(called, out, now.filled, phrases::LIST_LINE);
+        now = list_line(rt, called, out, now.filled, phrases::LIST_LINE);
         turns = console::left(turns, now.more);
     }
     now
 }
 
 // Reads the run and lists it, and writes out what waits. Without its end, where reading or writing fails.
-fn list(state: State) {
+fn list(rt: &HostRuntime, state: State) {
     let mut buf = [0u8; 65536];
     let mut hold = [0u8; 65536];
     let mut out = [0u8; 8192];
-    let read = read_all(state, &mut buf, &mut hold, &mut out);
+    let read = read_all(rt, state, &mut buf, &mut hold, &mut out);
     let course = read.course;
-    let turns = closings(course);
-    let last = close_all(read, turns, &mut hold, &mut out);
+    let turns = closings(rt, course);
+    let last = close_all(rt, read, turns, &mut hold, &mut out);
     let end = last.course;
-    console::write_out(b"lister", end, &out, last.filled);
+    console::write_out(rt, b"lister", end, &out, last.filled);
 }
 
 // Stages the rows shipped and opens with them. A refused table would wait nowhere, and then Open is refused too.
@@ -279,11 +295,11 @@ fn open() -> OpenAnswer {
     )
 }
 
-fn main() {
+fn main(rt: HostRuntime) {
     let opened = open();
     let answer = opened.answer;
     match answer {
-        Opened::Version(_) => list(opened.state),
-        Opened::Refused(_) => console::tell(b"lister: the rows shipped are refused\n"),
+        Opened::Version(_) => list(&rt, opened.state),
+        Opened::Refused(_) => console::tell(&rt, b"lister: the rows shipped are refused\n"),
     }
 }

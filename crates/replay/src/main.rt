@@ -1,4 +1,6 @@
 // Plays a script of calls from standard input, and prints one line a call.
+#![tactic(auto)]
+
 ghost use Rattle.std.specs.Prelude.{◌≡◌, ◌+◌, ◌≤◌, T, ◌++◌, take};
 ghost use Rattle.play.specs.Turns.{plain};
 ghost use Rattle.replay.specs.Printed.{printed};
@@ -6,7 +8,6 @@ ghost use Rattle.replay.specs.Printed.{printed};
 use console::lines::LineReading;
 use console::{Course, lines};
 use desk::{Crcs, Desk};
-use libc::STDERR_FILENO;
 use lists::LineRead;
 use play::{Played, Turn};
 use script::{Asked, LineCall};
@@ -39,7 +40,7 @@ fn so_far(desk: Desk, ended: u64, filled: usize, course: Course) -> Script
 }
 
 // A line has ended, or the input has: makes room for what the line prints. Nothing is played on where writing failed.
-fn begin_line(s: Script, line: LineReading, out: &[u8; 8192]) -> Script
+fn begin_line(rt: &HostRuntime, s: Script, line: LineReading, out: &[u8; 8192]) -> Script
     requires { s.filled ≤ 8192 }
     ensures { (result.filled ≤ 8192) × (result.at + 340 ≤ 8192) }
 {
@@ -48,7 +49,7 @@ fn begin_line(s: Script, line: LineReading, out: &[u8; 8192]) -> Script
         let stop = line.course;
         return so_far(desk, s.ended, s.filled, stop);
     }
-    let room = console::make_room(out, s.filled, show::CALL_LINE);
+    let room = console::make_room(rt, out, s.filled, show::CALL_LINE);
     if !room.written {
         return so_far(desk, s.ended, 0, Course::WriteFailed);
     }
@@ -188,25 +189,25 @@ fn print(p: Played, c: Crcs, out: &mut [u8; 8192], at: usize) -> usize
     }
 }
 
-fn tell_bad(turn: Turn, number: u64) {
+fn tell_bad(rt: &HostRuntime, turn: Turn, number: u64) {
     match turn {
         Turn::Bad => {
-            console::tell(b"bad line ");
-            io::print_decimal(STDERR_FILENO, number);
-            console::tell(b"\n");
+            console::tell(rt, b"bad line ");
+            console::tell_number(rt, number);
+            console::tell(rt, b"\n");
         }
         _ => {}
     }
 }
 
 // A line has been played: it is printed, or told as a bad one.
-fn end_line(s: Script, p: Played, c: Crcs, out: &mut [u8; 8192]) -> Script
+fn end_line(rt: &HostRuntime, s: Script, p: Played, c: Crcs, out: &mut [u8; 8192]) -> Script
     requires t { T (plain p.turn) }
     requires filled_bound { (s.filled ≤ 8192) × (s.at + 340 ≤ 8192) }
     ensures { result.filled ≤ 8192 }
 {
     let turn = p.turn;
-    tell_bad(turn, s.ended);
+    tell_bad(rt, turn, s.ended);
     let printed = print(p, c, out, s.at);
     if !s.playing {
         return s;
@@ -225,6 +226,7 @@ fn end_line(s: Script, p: Played, c: Crcs, out: &mut [u8; 8192]) -> Script
 
 // Reads a line of n bytes as a call, plays it and prints what it came to.
 fn play_line(
+    rt: &HostRuntime,
     s: Script,
     n: usize,
     line: &[u8; 270000],
@@ -246,11 +248,12 @@ fn play_line(
         desk, asked, line, n, given, kinds, bits, hold, force, waiting, block,
     );
     let turn = played.turn;
-    end_line(s, played, crcs_after(turn, hold, force, waiting), out)
+    end_line(rt, s, played, crcs_after(turn, hold, force, waiting), out)
 }
 
 // Plays line after line.
 fn play_all(
+    rt: &HostRuntime,
     buf: &mut [u8; 65536],
     line: &mut [u8; 270000],
     given: &mut [u8; 135000],
@@ -268,9 +271,10 @@ fn play_all(
     let mut reading = lines::start();
     let mut turns: u64 = console::TURNS;
     while turns > 0 {
-        reading = lines::next_line(reading, buf, line);
-        now = begin_line(now, reading, out);
+        reading = lines::next_line(rt, reading, buf, line);
+        now = begin_line(rt, now, reading, out);
         now = play_line(
+            rt,
             now,
             reading.length,
             line,
@@ -289,7 +293,7 @@ fn play_all(
 }
 
 // The buffers begin with bytes of their own, so that a byte that a call has not written shows.
-fn main() {
+fn main(rt: HostRuntime) {
     let mut buf = [0u8; 65536];
     let mut line = [0u8; 270000];
     let mut given = [0u8; 135000];
@@ -301,6 +305,7 @@ fn main() {
     let mut block = [0xc3u8; 65536];
     let mut out = [0u8; 8192];
     let last = play_all(
+        &rt,
         &mut buf,
         &mut line,
         &mut given,
@@ -313,5 +318,5 @@ fn main() {
         &mut out,
     );
     let course = last.course;
-    console::write_out(b"replay", course, &out, last.filled);
+    console::write_out(&rt, b"replay", course, &out, last.filled);
 }

@@ -1,4 +1,6 @@
 // Words and numbers put into a buffer for standard output, each behind what stands there.
+#![tactic(auto)]
+
 ghost use Rattle.std.specs.Prelude.{◌+◌, ◌≤◌, length, take, nat_abs, ◌≡◌, ◌++◌};
 ghost use Rattle.text.specs.Numbers.{decimal, spaced, integer_text, crc_text};
 

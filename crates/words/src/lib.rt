@@ -4,7 +4,7 @@
 
 ghost use Rattle.std.specs.Prelude.{◌+◌, ◌≤◌, ◌≡◌, length, take};
 ghost use Rattle.std.proofs.Math.Option.{none};
-ghost use Rattle.io.specs.Counts.{IsPrefixLen};
+ghost use Rattle.std.specs.Counts.{IsPrefixLen};
 ghost use Rattle.words.specs.Words.{up_to, key_of, number_says, add_digit, decimal_in, hex_digit, bytes_say, bytes_from, bytes_in};
 ghost use Rattle.words.specs.Values.{from_zero, below_zero, signed_number_in, valued_says, of_kind, letter_is, lone_is, value_in, is_dash, stamp_in};
 ghost use Rattle.words.specs.Keys.{KeysHold};
