@@ -2,7 +2,7 @@
 -- Assumes nothing.
 use mathlib.Core.Path.{◌≡◌, refl, subst}
 use mathlib.Core.List.{List}
-use mathlib.Core.Bool.{Bool, true, false, not, ◌&&◌, ◌||◌, cond}
+use mathlib.Core.Bool.{Bool, true, false, ◌&&◌, ◌||◌, cond}
 use mathlib.Core.Option.{Option, none, some}
 use Prim.Native.Nat.{ℕ, ◌≤◌}
 use native.Mathlib.Omega.{arith}
@@ -16,7 +16,7 @@ use Rattle.table.specs.Rows.{BlockRow, Table, first_rows, nested_row}
 use Rattle.table.specs.Lookup.{find_row}
 use Rattle.walk.specs.Walk.{walk_end}
 use Rattle.walk.proofs.Laid.{laid}
-use Rattle.block.specs.Block.{number_in, revision_in, count_in, sub_length_in, ends_by, body_fits, offset_of, walk_of, nest_fits, subs_fit, Seen, refused_by, row, seen_row, seen}
+use Rattle.block.specs.Block.{number_in, revision_in, count_in, sub_length_in, ends_by, body_fits, offset_of, walk_of, nest_fits, subs_fit, refused_by, row, seen_row, seen}
 use Rattle.answers.specs.TwoLevels.{TwoLevelsLaid}
 
 -- a refusal is no row

@@ -1,28 +1,23 @@
 -- What Sub2 answers, by the row or the refusal that the block came to; and the numbers in fields.
 -- Assumes nothing.
-use mathlib.Core.Bool.{Bool, true, false}
+use mathlib.Core.Bool.{true}
 use mathlib.Core.List.{List}
-use mathlib.Core.Option.{Option, none, some}
-use mathlib.Core.Path.{◌≡◌, refl, sym, ap, ◌∙◌, subst}
+use mathlib.Core.Path.{◌≡◌, sym, ap, ◌∙◌}
 use Prim.Native.Nat.{ℕ, ◌+◌, ◌-◌, ◌<◌, ◌≤◌}
 use native.Mathlib.Omega.{arith}
-use lib.ListN.{length}
-use borrow.Author.Tests.{eq-eqb, ne_eqb}
 use Rattle.refusal.specs.declared.Refusal.{Refusal}
 use Rattle.refusal.specs.declared.Refusal.TheVariants.{NoSuchField}
 use Rattle.rows.specs.declared.FieldRow.{FieldRow}
 use Rattle.rows.specs.declared.Row.{Row}
-use Rattle.rows.specs.Places.{field_count, field_at}
-use Rattle.table.specs.Lists.{tabulate, every, pick}
-use Rattle.table.specs.Rows.{second_rows}
+use Rattle.rows.specs.Places.{field_at}
+use Rattle.table.specs.Lists.{tabulate, pick}
 use Rattle.table.specs.Decode.{block_of, decode}
 use Rattle.table.proofs.Lists.{every_at_lem, pick_in, pick_out}
 use Rattle.walk.specs.declared.Nest.{Nest}
-use Rattle.walk.specs.declared.Span.{Span}
 use Rattle.walk.specs.Walk.{second_at, seconds}
 use Rattle.block.specs.declared.SubMatched.{SubMatched}
 use Rattle.block.specs.declared.SubMatched.TheVariants as sub
-use Rattle.block.specs.Block.{revision_in, ends_by, nest_of, sub_matched_says, SubMatching}
+use Rattle.block.specs.Block.{revision_in, ends_by, sub_matched_says, SubMatching}
 use Rattle.record.specs.declared.Answer.{Answer}
 use Rattle.record.specs.declared.Answer.TheVariants as answer
 use Rattle.record.specs.Answer.{Answers}

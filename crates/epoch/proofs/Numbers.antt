@@ -2,7 +2,7 @@
 -- Assumes nothing.
 use mathlib.Core.Bool.{Bool, true, false, cond}
 use mathlib.Core.List.{List}
-use mathlib.Core.Option.{Option, none, some}
+use mathlib.Core.Option.{none, some}
 use mathlib.Core.Path.{◌≡◌, refl, sym, ap, ◌∙◌, subst}
 use Prim.Native.Nat.{ℕ, zero, suc, ◌+◌, ◌<◌, ◌≤◌, ◌^◌}
 use native.Mathlib.Omega.{arith}
@@ -22,9 +22,8 @@ use Rattle.value.specs.Bits.{read_as, value_of, field_value}
 use Rattle.record.specs.declared.Answer.{Answer}
 use Rattle.record.specs.Answer.{Answers, answerSays}
 use Rattle.record.specs.Calls.{field_said}
-use Rattle.pseudorange.specs.declared.Pair.{Pair}
 use Rattle.pseudorange.specs.declared.Pair.TheVariants as pair
-use Rattle.pseudorange.specs.Code.{pair_says, PairBelow}
+use Rattle.pseudorange.specs.Code.{pair_says}
 use Rattle.epoch.specs.declared.Number.{Number}
 use Rattle.epoch.specs.declared.Number.TheVariants.{Is, Not}
 use Rattle.epoch.specs.Ranges.{unsigned_of, unsigned_at, both_of, pair_at}

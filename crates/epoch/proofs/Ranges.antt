@@ -3,7 +3,7 @@
 use mathlib.Core.Bool.{Bool, true, false, not, ◌&&◌, ◌||◌}
 use mathlib.Core.List.{List}
 use mathlib.Core.Option.{Option, none, some}
-use mathlib.Core.Path.{◌≡◌, refl, sym, ap, ◌∙◌, subst}
+use mathlib.Core.Path.{◌≡◌, refl, sym, ap, ◌∙◌}
 use Prim.Native.Nat.{ℕ, ◌+◌, ◌-◌, ◌<◌, ◌≤◌}
 use borrow.Author.Tests.{leb-true}
 use native.Mathlib.Omega.{arith}
@@ -11,17 +11,17 @@ use lib.Dec.{eqb, leb}
 use Rattle.refusal.specs.declared.Refusal.{Refusal}
 use Rattle.refusal.specs.declared.Refusal.TheVariants.{NoSuchField}
 use Rattle.rows.specs.declared.Row.{Row}
-use Rattle.table.specs.Lists.{tabulate, pick}
+use Rattle.table.specs.Lists.{tabulate}
 use Rattle.rows.specs.Places.{field_at}
 use Rattle.table.specs.Decode.{block_of, decode, first_count}
 use Rattle.walk.specs.declared.Span.{Span}
 use Rattle.walk.specs.declared.Nest.{Nest}
-use Rattle.walk.specs.Walk.{second_at, seconds}
+use Rattle.walk.specs.Walk.{second_at}
 use Rattle.block.specs.declared.SubMatched.{SubMatched}
 use Rattle.block.specs.declared.SubMatched.TheVariants as sub
 use Rattle.block.specs.Block.{number_in, revision_in, nest_of, sub_matched_says, SubFine, SubMatching}
 use Rattle.record.specs.Calls.{sub_slice}
-use Rattle.value.specs.Said.{FieldSaid, field_refused}
+use Rattle.value.specs.Said.{field_refused}
 use Rattle.record.specs.declared.Answer.{Answer}
 use Rattle.record.specs.declared.Answer.TheVariants as answer
 use Rattle.record.specs.Answer.{Answers}

@@ -7,7 +7,7 @@ use native.Mathlib.Omega.{arith}
 use lib.ListN.{length, get_or}
 use Rattle.entry.specs.Wanted.{begins}
 use Rattle.entry.proofs.Places.{values_end, values_stop, subs_go}
-use Rattle.draft.specs.Code.{ListLeft, subs_from}
+use Rattle.draft.specs.Code.{subs_from}
 use Rattle.lay.specs.Code.{Ending}
 
 -- up to i no sub-block has begun since p

@@ -1,6 +1,6 @@
 -- A field's bytes, and fields one after the other: how long they are, and a loop that stores them, where what is left gives the whole.
 -- Assumes nothing.
-use mathlib.Core.Bool.{Bool, true, ◌&&◌, cond}
+use mathlib.Core.Bool.{Bool, true, ◌&&◌}
 use mathlib.Core.Option.{none}
 use mathlib.Core.List.{List, [], ◌∷◌, ◌++◌, append_assoc}
 use mathlib.Core.Path.{◌≡◌, refl, sym, ap, ◌∙◌}

@@ -1,10 +1,8 @@
 -- `draft::list_ok` meets its contract: what is left of the rows and of the list gives the whole.
 -- Assumes nothing.
 use mathlib.Core.Path.{refl, sym, ◌∙◌}
-use Prim.Native.Nat.{◌-◌}
 use native.Mathlib.Nat.{add-zero, sub-zero}
 use native.Mathlib.Omega.{arith}
-use borrow.Author.Tests.{not-true, not-false}
 use Rattle.draft.proofs.Walks.{list_done, list_stop, list_go, lists_not, lists_rest}
 use Rattle.draft.proofs.list_ok.Goals as goal
 
@@ -19,7 +17,7 @@ returns-then-not-wanted_ok c =
     let l = c.loop-i in
     lists_not _ _ _ _ _ _
     (list_stop _ _ _ _ _ _ l.next _ l.invariant.4 _ c.field_at-f.ensures.0 (omega arith) c.take-t.result c.take-t.ensures
-    (sym c.wanted_ok.ensures ∙ not-true _ c.if-not-wanted_ok.true))
+    (sym c.wanted_ok.ensures ∙ c.if-not-wanted_ok.true))
 
 pub loop-i-preserved : goal.loop-i-preserved
 loop-i-preserved c =
@@ -30,7 +28,7 @@ loop-i-preserved c =
       t.within,
       t.subs ∙ l.invariant.3,
       list_go _ _ _ _ _ _ l.next _ l.invariant.4 _ c.field_at-f.ensures.0 (omega arith) c.take-t.result t
-          (sym c.wanted_ok.ensures ∙ not-false _ c.if-not-wanted_ok.false) _ _ (omega arith) (omega arith),
+          (sym c.wanted_ok.ensures ∙ c.if-not-wanted_ok.false) _ _ (omega arith) (omega arith),
     )
 
 pub returns : goal.returns

@@ -1,7 +1,6 @@
 -- `draft::rest_ok` meets its contract: what is left of the list gives the whole.
 -- Assumes nothing.
 use mathlib.Core.Path.{refl}
-use Prim.Native.Nat.{◌-◌}
 use native.Mathlib.Omega.{arith}
 use Rattle.draft.proofs.Values.{rest_ends, rest_found, rest_goes}
 use Rattle.draft.proofs.rest_ok.Goals as goal

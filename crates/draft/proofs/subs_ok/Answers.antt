@@ -1,6 +1,5 @@
 -- `draft::subs_ok` meets its contract: what is left of the sub-blocks gives the whole.
 -- Assumes nothing.
-use Prim.Native.Nat.{◌-◌}
 use native.Mathlib.Omega.{arith}
 use Rattle.draft.proofs.Walks.{begun, subs_done, subs_refused, goes_on, subs_more}
 use Rattle.draft.proofs.subs_ok.Goals as goal

@@ -13,10 +13,10 @@ pub pair_at-requires : goal.pair_at-requires
 pair_at-requires c =
     let f = c.requires.1 in
     let g = c.first_count-count.ensures in
-    (first_rows_in _ _ _ _ _ f g, first_rows_end _ _ _ _ _ f g c.revision-revision.ensures c.part.ensures.0.1, omega arith)
+    (first_rows_in _ _ _ _ _ f g, first_rows_end _ _ _ _ _ f g c.revision-revision.ensures c.part.ensures.result_value.1, omega arith)
 
 pub returns : goal.returns
 unfolding size_of
 returns c =
     let f = c.requires.1 in
-    (first_pair_is _ _ _ _ _ f c.first_count-count.ensures c.revision-revision.ensures c.part.ensures.0.0 c.pair_at.ensures.0, c.pair_at.ensures.1)
+    record { result_value = first_pair_is _ _ _ _ _ f c.first_count-count.ensures c.revision-revision.ensures c.part.ensures.result_value.0 c.pair_at.ensures.result_value; pair_below = c.pair_at.ensures.pair_below }

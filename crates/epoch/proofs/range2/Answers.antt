@@ -19,7 +19,7 @@ pub second_pair-second-requires : goal.second_pair-second-requires
 second_pair-second-requires c = (c.requires, sub_fine _ _ _ c.sub_row_of.ensures c.in-At.is, leb-false _ _ (neither c.is_epoch.result _ c.if-is_epoch-nest.false).1)
 
 pub returns-else-is_epoch-nest : goal.returns-else-is_epoch-nest
-returns-else-is_epoch-nest c = let l = neither c.is_epoch.result _ c.if-is_epoch-nest.false in range2_says _ _ _ c.sub_row_of.ensures _ _ c.in-At.is c.is_epoch.ensures _ l.0 (leb-false _ _ l.1) c.first_pair-first.ensures.0 c.second_pair-second.ensures.0 c.range2.ensures
+returns-else-is_epoch-nest c = let l = neither c.is_epoch.result _ c.if-is_epoch-nest.false in range2_says _ _ _ c.sub_row_of.ensures _ _ c.in-At.is c.is_epoch.ensures _ l.0 (leb-false _ _ l.1) c.first_pair-first.ensures.result_value c.second_pair-second.ensures.result_value c.range2.ensures
 
 pub returns-in-Refused : goal.returns-in-Refused
 returns-in-Refused c = range2_refused _ _ _ c.sub_row_of.ensures _ c.in-Refused.is

@@ -21,22 +21,22 @@ returns-then-count-j c = second_9 _ _ _ c.sub_row_of.ensures _ _ _ _ c.in-At.is 
 
 pub overflow_add-start : goal.overflow_add-start
 overflow_add-start c =
-    let i = rows_in c.args.table.now _ _ c.in-At.PAYLOAD _ (sub_fine _ _ _ c.sub_row_of.ensures c.in-At.is) (omega (arith, c.if-nest-m.false)) in
+    let i = rows_in c.args.table.now _ _ c.in-At.row _ (sub_fine _ _ _ c.sub_row_of.ensures c.in-At.is) (omega (arith, c.if-nest-m.false)) in
     omega (arith, (passed _ c.requires).file.most, i.1)
 
 pub overflow_add-start-in-At : goal.overflow_add-start-in-At
 overflow_add-start-in-At c =
-    let i = rows_in c.args.table.now _ _ c.in-At.PAYLOAD _ (sub_fine _ _ _ c.sub_row_of.ensures c.in-At.is) (omega (arith, c.if-nest-m.false)) in
+    let i = rows_in c.args.table.now _ _ c.in-At.row _ (sub_fine _ _ _ c.sub_row_of.ensures c.in-At.is) (omega (arith, c.if-nest-m.false)) in
     omega (arith, (passed _ c.requires).file.most, i.1)
 
 pub overflow_add-start-in-At-2 : goal.overflow_add-start-in-At-2
 overflow_add-start-in-At-2 c =
-    let i = rows_in c.args.table.now _ _ c.in-At.PAYLOAD _ (sub_fine _ _ _ c.sub_row_of.ensures c.in-At.is) (omega (arith, c.if-nest-m.false)) in
+    let i = rows_in c.args.table.now _ _ c.in-At.row _ (sub_fine _ _ _ c.sub_row_of.ensures c.in-At.is) (omega (arith, c.if-nest-m.false)) in
     omega (arith, (passed _ c.requires).file.most, i.1, c.if-count-j.false)
 
 pub field_at-f-requires : goal.field_at-f-requires
 field_at-f-requires c =
-    let i = rows_in c.args.table.now _ _ c.in-At.PAYLOAD _ (sub_fine _ _ _ c.sub_row_of.ensures c.in-At.is) (omega (arith, c.if-nest-m.false)) in
+    let i = rows_in c.args.table.now _ _ c.in-At.row _ (sub_fine _ _ _ c.sub_row_of.ensures c.in-At.is) (omega (arith, c.if-nest-m.false)) in
     omega (arith, i.1, c.if-count-j.false)
 
 pub revision-revision-requires : goal.revision-revision-requires
@@ -51,10 +51,10 @@ pub part-requires : goal.part-requires
 part-requires c = let f = sub_fine _ _ _ c.sub_row_of.ensures c.in-At.is in rw c.second_span-span.ensures (second_by_lem _ _ _ _ _ f _ c.if-nest-m.false)
 
 pub field_said-requires : goal.field_said-requires
-field_said-requires c = second_end _ _ _ c.sub_row_of.ensures _ _ _ _ c.in-At.is c.if-nest-m.false c.if-count-j.false c.field_at-f.ensures.0 c.revision-revision.ensures (c.part.ensures.0.1 ∙ ap (λ (z : Span). z.size) c.second_span-span.ensures)
+field_said-requires c = second_end _ _ _ c.sub_row_of.ensures _ _ _ _ c.in-At.is c.if-nest-m.false c.if-count-j.false c.field_at-f.ensures.0 c.revision-revision.ensures (c.part.ensures.result_value.1 ∙ ap (λ (z : Span). z.size) c.second_span-span.ensures)
 
 pub returns-else-count-j : goal.returns-else-count-j
-returns-else-count-j c = second_says _ _ _ c.sub_row_of.ensures _ _ _ _ c.in-At.is c.if-nest-m.false c.if-count-j.false c.field_at-f.ensures.0 c.revision-revision.ensures (c.part.ensures.0.0 ∙ ap (sub_slice _) c.second_span-span.ensures) c.field_said.ensures
+returns-else-count-j c = second_says _ _ _ c.sub_row_of.ensures _ _ _ _ c.in-At.is c.if-nest-m.false c.if-count-j.false c.field_at-f.ensures.0 c.revision-revision.ensures (c.part.ensures.result_value.0 ∙ ap (sub_slice _) c.second_span-span.ensures) c.field_said.ensures
 
 pub returns-in-Refused : goal.returns-in-Refused
 returns-in-Refused c = second_refused _ _ _ c.sub_row_of.ensures _ _ c.in-Refused.is

@@ -20,9 +20,9 @@ part-requires c = rw c.second_span-span.ensures (second_by_lem _ _ _ _ _ c.requi
 
 pub pair_at-requires : goal.pair_at-requires
 pair_at-requires c =
-    ((rows_in _ _ _ _ _ c.requires.1 (omega (arith, c.requires.2))).1, second_rows_end _ _ _ _ _ c.requires.1 (omega (arith, c.requires.2)) c.revision-revision.ensures (c.part.ensures.0.1 ∙ ap (λ (z : Span). z.size) c.second_span-span.ensures), omega arith)
+    ((rows_in _ _ _ _ _ c.requires.1 (omega (arith, c.requires.2))).1, second_rows_end _ _ _ _ _ c.requires.1 (omega (arith, c.requires.2)) c.revision-revision.ensures (c.part.ensures.result_value.1 ∙ ap (λ (z : Span). z.size) c.second_span-span.ensures), omega arith)
 
 pub returns : goal.returns
 unfolding size_of
 returns c =
-    (second_pair_is _ _ _ _ _ c.requires.1 _ c.requires.2 c.revision-revision.ensures c.second_span-span.ensures c.part.ensures.0.0 c.pair_at.ensures.0, c.pair_at.ensures.1)
+    record { result_value = second_pair_is _ _ _ _ _ c.requires.1 _ c.requires.2 c.revision-revision.ensures c.second_span-span.ensures c.part.ensures.result_value.0 c.pair_at.ensures.result_value; pair_below = c.pair_at.ensures.pair_below }

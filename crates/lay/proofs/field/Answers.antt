@@ -7,8 +7,8 @@ use Rattle.lay.proofs.field.Goals as goal
 
 pub returns : goal.returns
 returns c =
-    let a = c.args in (
-      ap (λ n. a.f.offset + n) c.size-size.ensures.0,
-      field_stored a.out.now a.base a.from a.f _ c.requires.0 _ c.given-x.ensures c.size-size.ensures.0 c.zeros.ensures
-          c.little.ensures,
-    )
+    let a = c.args in record {
+      value = ap (λ n. a.f.offset + n) c.size-size.ensures.0;
+      out_after = field_stored a.out.now a.base a.from a.f _ c.requires.0 _ c.given-x.ensures c.size-size.ensures.0 c.zeros.ensures
+          c.little.ensures;
+    }

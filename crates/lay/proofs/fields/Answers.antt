@@ -1,13 +1,12 @@
 -- `lay::fields` meets its contract. The invariant: what is left of rows and values gives the whole.
 -- Assumes nothing.
-use mathlib.Core.Logic.{⊎_elim}
 use mathlib.Core.Path.{refl, ◌∙◌}
-use Prim.Native.Nat.{◌-◌}
 use native.Mathlib.Nat.{add-zero, sub-zero}
 use native.Mathlib.Omega.{arith}
 use lib.Seq.{length-sets}
 use Rattle.lay.proofs.Laying.{laying_all, laying_end, laying_skip, laying_put, put_from, put_to, put_allowed, rows_left, no_rows_left}
 use Rattle.lay.proofs.fields.Goals as goal
+use Rattle.lay.proofs.fields.Goals.{then-f-revision, else-f-revision}
 
 pub loop-i-init : goal.loop-i-init
 loop-i-init c =
@@ -16,7 +15,7 @@ loop-i-init c =
       omega arith,
       omega arith,
       refl,
-      rw (add-zero, sub-zero) (laying_all _ a.base _ _ _ _ c.requires.1.0.0 c.requires.1.0.1),
+      rw (add-zero, sub-zero) (laying_all _ a.base _ _ _ _ c.requires.count_value.0 c.requires.count_value.1),
     )
 
 pub field-end-requires : goal.field-end-requires
@@ -38,8 +37,10 @@ loop-i-preserved c =
       omega arith,
       t.within,
       t.subs ∙ l.invariant.3,
-      ⊎_elim (λ w. laying_put l.invariant.4 e t.rest w.0.taken t.is (w.5 ∙ w.2.ensures.1) (w.6 ∙ w.2.ensures.0))
-          (λ w. laying_skip l.invariant.4 e t.rest (omega arith) w.1 w.2) c.if-f-revision.branch,
+      elim c.if-f-revision.branch [
+        | then-f-revision w ↦ laying_put l.invariant.4 e t.rest w.if-f-revision.true t.is (w.out-is ∙ w.field-end.ensures.out_after) (w.end-is ∙ w.field-end.ensures.value)
+        | else-f-revision w ↦ laying_skip l.invariant.4 e t.rest (omega arith) w.out-is w.end-is
+      ],
     )
 
 pub shape_of-out : goal.shape_of-out
@@ -51,4 +52,4 @@ returns c =
     let l = c.loop-i in
     let end = laying_end l.invariant.4 (no_rows_left a.table.now a.at a.count l.i (omega arith)) in
     let q = c.list_end.ensures a.bits.now in
-    (record { onward = omega arith; within = q.within; stops = q.stops; subs = q.subs ∙ l.invariant.3 }, (end.0, end.1))
+    record { list_left = record { onward = omega arith; within = q.within; stops = q.stops; subs = q.subs ∙ l.invariant.3 }; end_value = end.0; out_after = end.1 }

@@ -1,6 +1,5 @@
 -- `lay::list_end` meets its contract. The invariant: no sub-block has begun since p.
 -- Assumes nothing.
-use Prim.Native.Nat.{◌-◌}
 use native.Mathlib.Omega.{arith}
 use Rattle.lay.proofs.Ending.{passing_none, passing_more, ends_begun, ends_all}
 use Rattle.lay.proofs.list_end.Goals as goal

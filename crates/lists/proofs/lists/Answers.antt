@@ -1,7 +1,7 @@
 -- `lists::lists` meets its contract. The invariant: what is found, with what is left behind it, gives the whole; and a place has two bytes
 -- and more for each value before it.
 -- Assumes nothing.
-use Prim.Native.Nat.{ℕ, ◌+◌, ◌-◌}
+use Prim.Native.Nat.{ℕ, ◌+◌}
 use mathlib.Core.Path.{◌≡◌, sym, ap, ◌∙◌}
 use native.Mathlib.Omega.{arith}
 use mathlib.Core.Bool.{Bool}
@@ -26,7 +26,7 @@ returns-then-not-v c =
     let t = c.args.text.now in
     let e : value_in (word_at t l.next) ≡ none =
     sym (ap value_in w.ensures.0) ∙ sym v.ensures ∙ ap (λ (b : Bool). kind_says b v.result.kind v.result.bits) (not-true v.result.is_value c.if-not-v.true) in
-    (lists_stop t l.next l.kinds l.bits l.count (omega arith) e ∙ l.invariant.5, omega arith)
+    record { bits_after = lists_stop t l.next l.kinds l.bits l.count (omega arith) e ∙ l.invariant.5; count_in_bounds = omega arith }
 
 pub overflow_add-next : goal.overflow_add-next
 overflow_add-next c = omega (arith, c.word_at-word.ensures.1)
@@ -57,4 +57,4 @@ pub returns : goal.returns
 returns c =
     let l = c.loop-next in
     let t = c.args.text.now in
-    (lists_end t l.next (take l.count l.kinds) (take l.count l.bits) (omega arith) ∙ l.invariant.5, omega arith)
+    record { bits_after = lists_end t l.next (take l.count l.kinds) (take l.count l.bits) (omega arith) ∙ l.invariant.5; count_in_bounds = omega arith }

@@ -10,8 +10,8 @@ pub returns : goal.returns
 returns c =
     let l = c.lists-l in
     let s = c.args.text.now in
-    let e = c.head_of-h.ensures ∙ same_head c.number.ensures c.number-2.ensures c.stamp.ensures c.stamp-2.ensures in (
-      line_read
+    let e = c.head_of-h.ensures ∙ same_head c.number.ensures c.number-2.ensures c.stamp.ensures c.stamp-2.ensures in record {
+      bits_after = line_read
           s
           c.word_at-number.result.now
           c.word_at-revision.result.now
@@ -24,9 +24,9 @@ returns c =
           c.head_of-h.result.good
           l.result.good
           c.head_of-h.result.head
-          (take l.result.count l.new.1.1.0)
-          (take l.result.count l.new.1.1.1.0)
+          (take l.result.count l.new.kinds)
+          (take l.result.count l.new.bits)
           e
-          l.ensures.0,
-      omega (arith, l.ensures.1, c.lists-arg-1.given),
-    )
+          l.ensures.bits_after;
+      count_bound = omega (arith, l.ensures.count_in_bounds, c.lists-arg-1.given);
+    }
