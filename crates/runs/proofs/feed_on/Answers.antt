@@ -136,8 +136,8 @@ returns c =
     same_outcome
     (ap₂ (λ (t : ℕ) (o : Option Report). took t o) (ap (λ (x : HoldNumbers). x.taken) (numbers c.before.before.before.before.before.before.before.before))
     (ap some
-    (c.report_at-block.ensures ∙ ap (λ (h : List ℕ). report_at h (front c.went_on-next.result) n) (left c.before.before.before.before.before.before.before.before.before)
-    ∙ report_is (meaning c.before.before.before.before.before.before.before.before.before).held (drop (length (meaning c.before.before.before.before.before.before.before.before.before).held) (entry c.before.before.before.before.before.before.before.before.before).args.hold.now) (front c.went_on-next.result) n (whole_some (meaning c.before.before.before.before.before.before.before.before.before).standing (meaning c.before.before.before.before.before.before.before.before.before).held n (whole c.before.before.before.before.before.before.before.before.before) es)
-    ∙ ap (λ (r : Run). reported (front r) n (meaning c.before.before.before.before.before.before.before.before.before).held) (run_is c.before.before.before.before.before.before))
-    ∙ sym (ap (λ (o : Option ℕ). report_if o (front (run_on phase.Feeding (entry c.before.before.before.before.before.before.before.before.before).args.s.run (meaning c.before.before.before.before.before.before.before.before.before))) (meaning c.before.before.before.before.before.before.before.before.before).held) es)))
-    (state_is c.before.before.before.before.before) (left c.before.before.before.before.before.before.before.before.before)
+    (c.report_at-block.ensures ∙ ap (λ (h : List ℕ). report_at h (front c.went_on-next.result) n) (left c.before.before.before.before.before.before.before.before)
+    ∙ report_is (meaning c.before.before.before.before.before.before.before.before).held (drop (length (meaning c.before.before.before.before.before.before.before.before).held) (entry c.before.before.before.before.before.before.before.before).args.hold.now) (front c.went_on-next.result) n (whole_some (meaning c.before.before.before.before.before.before.before.before).standing (meaning c.before.before.before.before.before.before.before.before).held n (whole c.before.before.before.before.before.before.before.before) es)
+    ∙ ap (λ (r : Run). reported (front r) n (meaning c.before.before.before.before.before.before.before.before).held) (run_is c.before.before.before.before.before))
+    ∙ sym (ap (λ (o : Option ℕ). report_if o (front (run_on phase.Feeding (entry c.before.before.before.before.before.before.before.before).args.s.run (meaning c.before.before.before.before.before.before.before.before))) (meaning c.before.before.before.before.before.before.before.before).held) es)))
+    (state_is c.before.before.before.before) (left c.before.before.before.before.before.before.before.before)
