@@ -1,4 +1,6 @@
 // Theorems about the answers of record calls, and samples of them (rules S4, S8 to S10). No code.
+#![tactic(auto)]
+
 ghost use Rattle.answers.specs.OneLevel.{OneLevelAsBefore};
 ghost use Rattle.answers.specs.TwoLevels.{TwoLevelsLaid};
 ghost use Rattle.answers.specs.Samples.{RecordSamplesHold};

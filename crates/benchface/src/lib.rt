@@ -1,5 +1,7 @@
 // What the benchmarks in C call: feed and the writer with plain numbers, and nothing else. `benchface_c` exports it. The C caller meets the
 // `requires`.
+#![tactic(auto)]
+
 ghost use Rattle.std.specs.Prelude.{◌≡◌, ◌≤◌, length, true};
 ghost use Rattle.frame.specs.Judge.{judged_last};
 ghost use Rattle.scan.specs.Settle.{settle};

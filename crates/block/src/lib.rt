@@ -1,4 +1,6 @@
 // A block against a table: its row, or why it is refused, and where its sub-blocks stand.
+#![tactic(auto)]
+
 ghost use Rattle.std.specs.Prelude.{◌≡◌, true, ◌+◌, ◌≤◌, ◌<◌, length};
 ghost use Rattle.table.specs.Lists.{tabulate, every};
 ghost use Rattle.rows.specs.Places.{field_count, field_at};
@@ -16,14 +18,14 @@ use table::RowFound;
 use walk::{Nest, Span, Walked};
 
 // The row that a block is read by, or why it is refused.
-#[derive(Drop)]
+#[derive(Clone, Copy)]
 pub enum Matched {
     At(Row),
     Refused(Refusal),
 }
 
 // The row that a sub-block is read by and where it stands, with those nested in it; or why it is refused.
-#[derive(Drop)]
+#[derive(Clone, Copy)]
 pub enum SubMatched {
     At(Row, Nest),
     Refused(Refusal),

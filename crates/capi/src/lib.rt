@@ -1,4 +1,6 @@
 // The calls for C, over the structs of `cform`: the functions that include/alderflute.h declares, and that `capi_c` exports.
+#![tactic(auto)]
+
 ghost use Rattle.std.specs.Prelude.{◌≡◌};
 ghost use Rattle.reader.specs.State.{default_settings, new_state};
 ghost use Rattle.cform.specs.State.{settings_c, state_c};

@@ -1,5 +1,7 @@
 // C's plain structs by value, numbers for cases, and how the reader's states and answers read as them. include/alderflute.h
 // declares the structs.
+#![tactic(auto)]
+
 ghost use Rattle.cform.specs.Theorems.{NothingLost};
 
 pub mod states; // states.rt: states and settings as C has them
@@ -11,7 +13,7 @@ pub mod drafts; // drafts.rt: what Write is given and answers, as C has it
 
 // The counts of a run: in C the members of its state from `taken` to `skipped`, and at the end an alderflute_end.
 #[repr(C)]
-#[derive(Drop)]
+#[derive(Clone, Copy)]
 pub struct CCounts {
     pub taken: usize,
     pub blocks: usize,
@@ -20,14 +22,14 @@ pub struct CCounts {
 
 // What Open is given, and a run goes by: the ceiling, which may be wrong, and is refused then.
 #[repr(C)]
-#[derive(Drop)]
+#[derive(Clone, Copy)]
 pub struct CSettings {
     pub ceiling: usize,
 }
 
 // The state: the phase by its number (0 closed, 1 feeding, 2 after the first Finish), the reader's numbers, and the settings.
 #[repr(C)]
-#[derive(Drop)]
+#[derive(Clone, Copy)]
 pub struct CState {
     pub phase: usize,
     pub held: usize,
@@ -40,7 +42,7 @@ pub struct CState {
 
 // What is reported of a block.
 #[repr(C)]
-#[derive(Drop)]
+#[derive(Clone, Copy)]
 pub struct CBlock {
     pub place: usize,
     pub length: usize,
@@ -51,7 +53,7 @@ pub struct CBlock {
 // What a call that goes on with the state answers: the refusal's number or 0, a kind, and the values of that kind; the
 // others are 0.
 #[repr(C)]
-#[derive(Drop)]
+#[derive(Clone, Copy)]
 pub struct CAnswer {
     pub refusal: u32,
     pub kind: u32,
@@ -63,7 +65,7 @@ pub struct CAnswer {
 }
 
 #[repr(C)]
-#[derive(Drop)]
+#[derive(Clone, Copy)]
 pub struct CReply {
     pub state: CState,
     pub answer: CAnswer,
@@ -71,7 +73,7 @@ pub struct CReply {
 
 // What a field answers: the refusal's number or 0, a kind, and the one value of that kind; the others are 0.
 #[repr(C)]
-#[derive(Drop)]
+#[derive(Clone, Copy)]
 pub struct CField {
     pub refusal: u32,
     pub kind: u32,
@@ -82,7 +84,7 @@ pub struct CField {
 
 // A part of a buffer that the caller gave.
 #[repr(C)]
-#[derive(Drop)]
+#[derive(Clone, Copy)]
 pub struct CPart {
     pub refusal: u32,
     pub offset: usize,
@@ -91,7 +93,7 @@ pub struct CPart {
 
 // W2: a value that Write is given: its kind and 64 bits.
 #[repr(C)]
-#[derive(Drop)]
+#[derive(Clone, Copy)]
 pub struct CValue {
     pub kind: u8,
     pub bits: u64,
@@ -99,7 +101,7 @@ pub struct CValue {
 
 // What Write answers: the refusal's number or 0, and the block's length, 0 where it is refused.
 #[repr(C)]
-#[derive(Drop)]
+#[derive(Clone, Copy)]
 pub struct CWritten {
     pub refusal: u32,
     pub length: usize,

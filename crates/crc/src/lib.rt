@@ -1,4 +1,6 @@
 // The CRC (rule F7), a byte at a time by a table (F10).
+#![tactic(auto)]
+
 ghost use Rattle.std.specs.Prelude.{◌≡◌, ◌++◌};
 ghost use Rattle.crc.specs.Crc.{crc_byte, crc_from, crc_of, Remainders};
 ghost use Rattle.crc.specs.Samples.{CrcSamplesHold};

@@ -1,4 +1,6 @@
 // What was demanded, as theorems over the definitions that the reader's contracts cite.
+#![tactic(auto)]
+
 ghost use Rattle.demands.specs.Demand1.{Demand1};
 ghost use Rattle.demands.specs.Demand2.{Demand2};
 ghost use Rattle.demands.specs.Demand3.{Demand3};

@@ -1,5 +1,7 @@
 // What lies on the desk between two calls: the reader's state, and how much of each buffer the next call is lent; and what a call
 // replies, as values.
+#![tactic(auto)]
+
 ghost use Rattle.std.specs.Prelude.{◌≡◌, min, length};
 ghost use Rattle.io.specs.Counts.{IsPrefixLen};
 
@@ -11,7 +13,7 @@ use script::{Buffer, StateNumber};
 // More than any buffer has: all of it is lent.
 const WHOLE: usize = 0xffff_ffff_ffff_ffff;
 
-#[derive(Drop)]
+#[derive(Clone, Copy)]
 pub struct Desk {
     pub state: State,
     pub hold: usize,
@@ -22,7 +24,7 @@ pub struct Desk {
 
 // What a call replies that may write: Open, Stage and Withdraw, Feed without a block and with one, Finish with a block and at the
 // end, or a refusal, whichever call it was.
-#[derive(Drop)]
+#[derive(Clone, Copy)]
 pub enum RunReply {
     Opened(u16),
     Staged(u16),
@@ -35,14 +37,14 @@ pub enum RunReply {
 }
 
 // Bytes that were handed back: how many, and their CRC. Of a block that was written: its length, and the CRC of the whole buffer.
-#[derive(Drop)]
+#[derive(Clone, Copy)]
 pub struct PartCrc {
     pub count: usize,
     pub crc: u16,
 }
 
 // What a call replies that is lent none of the reader's buffers to write.
-#[derive(Drop)]
+#[derive(Clone, Copy)]
 pub enum AskReply {
     Field(Answer),
     Bytes(PartCrc),
@@ -51,7 +53,7 @@ pub enum AskReply {
 }
 
 // The CRCs of the three whole buffers.
-#[derive(Drop)]
+#[derive(Clone, Copy)]
 pub struct Crcs {
     pub hold: u16,
     pub in_force: u16,

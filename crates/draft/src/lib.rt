@@ -1,4 +1,6 @@
 // A draft of a block against its row (rule R11), and how long the block is (W7, W9).
+#![tactic(auto)]
+
 ghost use Rattle.std.specs.Prelude.{◌≡◌, [], ◌+◌, ◌≤◌, length};
 ghost use Rattle.rows.specs.Places.{field_count, field_at};
 ghost use Rattle.table.specs.Lists.{tabulate};
@@ -12,7 +14,7 @@ use entry::Entry;
 use rows::{FieldRow, Row};
 
 // W1: what a block begins with.
-#[derive(Drop)]
+#[derive(Clone, Copy)]
 pub struct Head {
     pub number: u64,
     pub revision: u64,
@@ -21,21 +23,21 @@ pub struct Head {
 }
 
 // Whether the values of a list are allowed, and where the list ended.
-#[derive(Drop)]
+#[derive(Clone, Copy)]
 pub struct Walked {
     pub ok: bool,
     pub next: usize,
 }
 
 // Whether a draft is allowed, and how many sub-blocks it has.
-#[derive(Drop)]
+#[derive(Clone, Copy)]
 pub struct Accepted {
     pub ok: bool,
     pub subs: usize,
 }
 
 // W7, W9: SBLength, where the last field or sub-block ends, and L.
-#[derive(Drop)]
+#[derive(Clone, Copy)]
 pub struct Measured {
     pub sub: usize,
     pub end: usize,

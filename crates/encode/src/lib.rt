@@ -1,4 +1,6 @@
 // From a table's meaning to its bytes: theorems about tables there and back, and the rules at their limits. No code.
+#![tactic(auto)]
+
 ghost use Rattle.encode.specs.Theorems.{Decodes, Encodes, PassingFits};
 ghost use Rattle.encode.specs.Limits.{LimitsHold, MarksHold};
 

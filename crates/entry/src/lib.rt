@@ -1,4 +1,6 @@
 // What is wanted of a field, as a caller gives it (rules W2, W3), and the bits that the field is written with (W5, W6).
+#![tactic(auto)]
+
 ghost use Rattle.std.specs.Prelude.{◌≡◌, ◌&&◌, ◌+◌, ◌^◌, ◌≤◌, ◌<◌, ltb, length};
 ghost use Rattle.kinds.specs.Types.{size_of, is_unsigned, half};
 ghost use Rattle.value.specs.Bits.{with_sign};
@@ -9,14 +11,14 @@ ghost use Rattle.entry.specs.Code.{fit_if, fit_of, signed_fit, wanted_bits, Taki
 use rows::FieldRow;
 
 // W2: a kind, 0 to 4, and 64 bits.
-#[derive(Drop)]
+#[derive(Clone, Copy)]
 pub struct Entry {
     pub kind: u8,
     pub bits: u64,
 }
 
 // The bits that a field is written with, or 0 where what is wanted is not allowed.
-#[derive(Drop)]
+#[derive(Clone, Copy)]
 pub struct Fit {
     pub ok: bool,
     pub bits: u64,
@@ -103,7 +105,7 @@ pub fn bits_of(f: FieldRow, e: Entry) -> Fit
 }
 
 // A value of a list, and where the next one stands.
-#[derive(Drop)]
+#[derive(Clone, Copy)]
 pub struct Taken {
     pub entry: Entry,
     pub next: usize,

@@ -1,4 +1,6 @@
 // What a block of two levels answers beyond a block of one: the fields of its second level, and a MeasEpoch's pseudoranges.
+#![tactic(auto)]
+
 ghost use Rattle.std.specs.Prelude.{◌≡◌, true, not, ◌&&◌, eqb, ◌+◌, ◌≤◌, ◌<◌, ◌^◌, length};
 ghost use Rattle.rows.specs.Places.{field_count, field_at};
 ghost use Rattle.kinds.specs.Types.{size_of};
@@ -23,7 +25,7 @@ use value::Value;
 use walk::{Nest, Span};
 
 // An unsigned number that a field answers, or that it answers none.
-#[derive(Drop)]
+#[derive(Clone, Copy)]
 pub enum Number {
     Is(u64),
     Not,

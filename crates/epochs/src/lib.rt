@@ -1,4 +1,6 @@
 // Record calls on blocks of two levels (rule C16), by the table in force: a second-level field, and pseudoranges.
+#![tactic(auto)]
+
 ghost use Rattle.record.specs.Answer.{Answers};
 ghost use Rattle.epochs.specs.Calls.{sub2_of, range_of, range2_of};
 

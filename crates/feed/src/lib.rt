@@ -1,5 +1,7 @@
 // A run fed piece by piece, and read with a ceiling (rules C4, C6, C8, F16): what is taken and not decided, and a reported block, are
 // kept at the front of the hold.
+#![tactic(auto)]
+
 ghost use Rattle.std.specs.Prelude.{◌≡◌, ◌++◌, min, ◌+◌, ◌-◌, ◌≤◌, length, take, drop};
 ghost use Rattle.std.proofs.Math.Seq.{paste};
 ghost use Rattle.frame.specs.Judge.{judged_last};
@@ -10,7 +12,7 @@ ghost use Rattle.feed.specs.Hold.{rest_of, numbers_of, hold_of, GoodNumbers, Lef
 use scan::Passed;
 
 // What a call leaves.
-#[derive(Drop)]
+#[derive(Clone, Copy)]
 pub struct HoldNumbers {
     // How many bytes of the piece were taken.
     pub taken: usize,

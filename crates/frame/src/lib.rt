@@ -1,5 +1,7 @@
 // What stands at a place of a run (rules F2 to F8, F12, F13), read with a ceiling (F16). The run lies in two slices, the held bytes and
 // then the piece; at its end in one.
+#![tactic(auto)]
+
 ghost use Rattle.std.specs.Prelude.{◌≡◌, ◌++◌, min, ◌+◌, ◌≤◌, ◌<◌, length, get_or, take, drop};
 ghost use Rattle.crc.specs.Crc.{crc_of};
 ghost use Rattle.wire.specs.Little.{little_at};
@@ -7,7 +9,7 @@ ghost use Rattle.frame.specs.Frame.{allowed, ceiling_ok, whole_frame};
 ghost use Rattle.frame.specs.Judge.{judged, judged_last};
 
 // Why no frame stands at a place.
-#[derive(Drop)]
+#[derive(Clone, Copy)]
 pub enum Reason {
     // No sync pair.
     NoSync,
@@ -21,7 +23,7 @@ pub enum Reason {
 }
 
 // What stands at a place, as far as the bytes that are there show.
-#[derive(Drop)]
+#[derive(Clone, Copy)]
 pub enum Verdict {
     NoFrame(Reason),
     // A frame of so many bytes.

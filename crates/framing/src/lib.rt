@@ -1,4 +1,6 @@
 // What holds of the rules of framing under every ceiling c, by proof: each theorem is a function with no code.
+#![tactic(auto)]
+
 ghost use Rattle.std.specs.Prelude.{ℕ};
 ghost use Rattle.framing.specs.Before.{GreatestAsBefore};
 ghost use Rattle.framing.specs.Theorems.{JudgedRight, DecidedExactly, DecidedStays, LastRight, ReadByTheRule, MoreDecidesAll, BlockDecidesNoMore};

@@ -1,5 +1,7 @@
 // The types of fields with their sizes (rule V1), and the marks: which types may bear each, which bits are its Do-Not-Use (V3, V4, V10),
 // and what an unset field is written with (W6).
+#![tactic(auto)]
+
 ghost use Rattle.std.specs.Prelude.{◌≡◌, ◌≤◌};
 ghost use Rattle.std.proofs.Math.Option.{some};
 ghost use Rattle.kinds.specs.Types.{size_of, half};
@@ -99,7 +101,7 @@ pub fn is_do_not_use(mark: u8, kind: u8, x: u64) -> bool
 }
 
 // What an unset field is written with, where it can be unset.
-#[derive(Drop)]
+#[derive(Clone, Copy)]
 pub struct UnsetAs {
     pub can: bool,
     pub bits: u64,

@@ -1,4 +1,6 @@
 // The carried fields of a list, and of each sub-block, laid into a buffer one after the other (rules W3, W6, W8).
+#![tactic(auto)]
+
 ghost use Rattle.std.specs.Prelude.{◌≡◌, true, ◌+◌, ◌-◌, ◌*◌, ◌≤◌, length};
 ghost use mathlib.Core.List.{◌++◌, flat_map};
 ghost use Rattle.std.proofs.lemmas.List.Edits.{sets};
@@ -18,7 +20,7 @@ use entry::Entry;
 use rows::FieldRow;
 
 // Where a list ended, and where its last field ends.
-#[derive(Drop)]
+#[derive(Clone, Copy)]
 pub struct Laid {
     pub next: usize,
     pub end: usize,

@@ -1,4 +1,6 @@
 // A line of `write` behind its first word, read as what Write is given: a head, and the lists of kinds and bits (rules W1, W3).
+#![tactic(auto)]
+
 ghost use Rattle.std.specs.Prelude.{◌*◌, ◌≤◌, ◌≡◌, false, length, take};
 ghost use Rattle.std.proofs.Math.Option.{none};
 ghost use Rattle.words.specs.Words.{number_says};
@@ -11,7 +13,7 @@ use entry::Entry;
 use words::{Decimal, Valued};
 
 // Whether a line is one, its head, and how many kinds and bits it has.
-#[derive(Drop)]
+#[derive(Clone, Copy)]
 pub struct LineRead {
     pub good: bool,
     pub head: Head,
@@ -31,13 +33,13 @@ pub fn no_line() -> LineRead
     }
 }
 
-#[derive(Drop)]
+#[derive(Clone, Copy)]
 struct HeadRead {
     good: bool,
     head: Head,
 }
 
-#[derive(Drop)]
+#[derive(Clone, Copy)]
 struct ListsRead {
     good: bool,
     count: usize,

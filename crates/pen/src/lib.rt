@@ -1,4 +1,6 @@
 // Numbers, zeros and a block's header written into a buffer (rules F1 to F3, F6, W8).
+#![tactic(auto)]
+
 ghost use Rattle.std.specs.Prelude.{◌≡◌, ◌+◌, ◌≤◌, length, replicate};
 ghost use Rattle.std.proofs.lemmas.List.Edits.{sets};
 ghost use Rattle.pen.specs.Bytes.{little_bytes};

@@ -1,5 +1,7 @@
 // What is said of a refusal, a block, a run's counts and end, and a state: the lister's lines (rule S11), and what all of
 // replay's lines have.
+#![tactic(auto)]
+
 ghost use Rattle.std.specs.Prelude.{◌+◌, ◌≤◌, take, ◌≡◌, ◌++◌};
 ghost use Rattle.refusal.specs.Numbers.{number_for};
 ghost use Rattle.reader.specs.Said.{report_of};

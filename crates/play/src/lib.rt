@@ -1,4 +1,6 @@
 // One call, played with the reader's own, or with Write, on the buffers of the desk.
+#![tactic(auto)]
+
 ghost use Rattle.std.specs.Prelude.{◌≤◌, ◌≡◌, T, length};
 ghost use Rattle.crc.specs.Crc.{crc_of};
 ghost use Rattle.desk.specs.Plain.{plainly};
@@ -18,7 +20,7 @@ use script::{Ask, Buffer, CeilingWord, LineCall, RunCall};
 use tables::OpenAnswer;
 
 // What a line came to: nothing to print, a bad line, or what its call replied.
-#[derive(Drop)]
+#[derive(Clone, Copy)]
 pub enum Turn {
     Quiet,
     Bad,
@@ -27,7 +29,7 @@ pub enum Turn {
 }
 
 // The desk after a line, and what the line came to.
-#[derive(Drop)]
+#[derive(Clone, Copy)]
 pub struct Played {
     pub desk: Desk,
     pub turn: Turn,

@@ -1,4 +1,6 @@
 // Pseudoranges of a MeasEpoch, in whole millimetres (rules V11, V12), from the numbers in its fields.
+#![tactic(auto)]
+
 ghost use Rattle.std.specs.Prelude.{◌≡◌, ◌≤◌, ◌<◌};
 ghost use Rattle.record.specs.Answer.{Answers};
 ghost use Rattle.pseudorange.specs.Range.{first_range, no_first, second_range, no_offset, range_said, range2_said};
@@ -10,7 +12,7 @@ use refusal::Refusal;
 use value::Value;
 
 // The numbers in two fields: bits that lead, and the low part. Or one of them is no number.
-#[derive(Drop)]
+#[derive(Clone, Copy)]
 pub enum Pair {
     Both(u64, u64),
     Not,

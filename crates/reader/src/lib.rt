@@ -1,5 +1,7 @@
 // A reader's state, what is reported of a block, what refusal 1 asks of the state and of a hold (rule R1), and whether a call is
 // refused. The calls are those of `tables`, `runs` and `records`.
+#![tactic(auto)]
+
 ghost use Rattle.std.specs.Prelude.{◌≡◌, ◌&&◌, leb};
 ghost use Rattle.std.proofs.Math.Option.{none};
 ghost use Rattle.reader.specs.State.{phase_number, no_counts, default_settings, new_state, sound};
@@ -11,7 +13,7 @@ pub mod after; // after.rt: after a call, the run, its counts and what is report
 
 use refusal::Refusal;
 
-#[derive(Drop)]
+#[derive(Clone, Copy)]
 pub enum Phase {
     Closed,
     Feeding,
@@ -19,7 +21,7 @@ pub enum Phase {
 }
 
 // What a run counts: the bytes taken, the blocks reported, the bytes skipped.
-#[derive(Drop)]
+#[derive(Clone, Copy)]
 pub struct Counts {
     pub taken: usize,
     pub blocks: usize,
@@ -27,7 +29,7 @@ pub struct Counts {
 }
 
 // What is reported of a block.
-#[derive(Drop)]
+#[derive(Clone, Copy)]
 pub struct Block {
     pub place: usize,
     pub number: u16,
@@ -36,7 +38,7 @@ pub struct Block {
 }
 
 // C17: what Open is given, and a run goes by.
-#[derive(Drop)]
+#[derive(Clone, Copy)]
 pub struct Settings {
     // The greatest length that a block may have (F16); it may be wrong, and is refused then.
     pub ceiling: usize,
@@ -44,7 +46,7 @@ pub struct Settings {
 
 // A run, open or closed: its phase, how many bytes of the hold count, how many of these are the standing block, its counts, and
 // its settings.
-#[derive(Drop)]
+#[derive(Clone, Copy)]
 pub struct Run {
     pub phase: Phase,
     pub held: usize,
@@ -54,7 +56,7 @@ pub struct Run {
 }
 
 // A length of 0 means that no table is in force, or that none waits.
-#[derive(Drop)]
+#[derive(Clone, Copy)]
 pub struct State {
     pub run: Run,
     pub in_force: usize,
@@ -62,7 +64,7 @@ pub struct State {
 }
 
 // Whether a call is refused.
-#[derive(Drop)]
+#[derive(Clone, Copy)]
 pub enum Check {
     Passed,
     Refused(Refusal),

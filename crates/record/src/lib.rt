@@ -1,4 +1,6 @@
 // What a block's fields answer, by a table that passes its check.
+#![tactic(auto)]
+
 ghost use Rattle.std.specs.Prelude.{◌≡◌, true, ◌+◌, ◌≤◌, length};
 ghost use Rattle.wire.specs.Parts.{offset_by};
 ghost use Rattle.table.specs.Rows.{ends};
@@ -14,21 +16,21 @@ use rows::FieldRow;
 use value::Value;
 use walk::Span;
 
-#[derive(Drop)]
+#[derive(Clone, Copy)]
 pub enum Answer {
     Field(Value),
     Refused(Refusal),
 }
 
 // Whether a part is handed back.
-#[derive(Drop)]
+#[derive(Clone, Copy)]
 pub enum Handed {
     Refused(Refusal),
     Given,
 }
 
 // The same, and where the part stands in its block: an empty one at the start where it is refused.
-#[derive(Drop)]
+#[derive(Clone, Copy)]
 pub struct Placed {
     pub handed: Handed,
     pub span: Span,

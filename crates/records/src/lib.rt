@@ -1,4 +1,6 @@
 // Record calls (rule C13): a body field, a sub-block's field, a sub-block's bytes by the table in force; TOW and WNc by no table.
+#![tactic(auto)]
+
 ghost use Rattle.std.specs.Prelude.{◌≡◌, ◌+◌, ◌≤◌, length};
 ghost use Rattle.wire.specs.Parts.{offset_by};
 ghost use Rattle.record.specs.Answer.{Answers, handed_says};

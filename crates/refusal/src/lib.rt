@@ -1,8 +1,10 @@
 // Why a call is refused, and the number of each refusal (rules R1 to R13).
+#![tactic(auto)]
+
 ghost use Rattle.std.specs.Prelude.{◌≡◌};
 ghost use Rattle.refusal.specs.Numbers.{number_for, NumbersApart};
 
-#[derive(Drop)]
+#[derive(Clone, Copy)]
 pub enum Refusal {
     BadBuffer,
     OutOfTurn,

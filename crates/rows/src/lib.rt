@@ -1,10 +1,12 @@
 // A table's trailer and rows by value (rules T1, T2, T7, T11): with the table's rules on its trailer, the code that knows where
 // in a table's bytes a thing stands.
+#![tactic(auto)]
+
 ghost use Rattle.std.specs.Prelude.{◌≡◌, ◌+◌, ◌*◌, ◌≤◌, ◌<◌, length};
 ghost use Rattle.rows.specs.Places.{version_of, block_count, blocks_at, field_count, field_at, row_at};
 
 // T11: `kind` is the type, `first` the first revision.
-#[derive(Drop)]
+#[derive(Clone, Copy)]
 pub struct FieldRow {
     pub offset: usize,
     pub kind: u8,
@@ -14,7 +16,7 @@ pub struct FieldRow {
 
 // T7, a block row as it stands: `bodies` and `subs` are its counts of body rows and of sub-field rows, `start` is the index of
 // its first field row, `firsts` the count of first-level rows among the sub-field rows (T17).
-#[derive(Drop)]
+#[derive(Clone, Copy)]
 pub struct Row {
     pub number: u16,
     pub highest: u8,

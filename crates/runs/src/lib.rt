@@ -1,4 +1,6 @@
 // A run that is open: Feed (rules C6, C7), Finish (C8), and the bytes of the standing block (C9).
+#![tactic(auto)]
+
 ghost use Rattle.std.specs.Prelude.{◌≡◌};
 ghost use Rattle.std.proofs.Math.Option.{none};
 ghost use Rattle.reader.specs.Said.{refusal_of};
@@ -13,7 +15,7 @@ use reader::{Block, Check, Counts, Phase, State, after};
 use refusal::Refusal;
 
 // How many bytes were taken, with a block or with none.
-#[derive(Drop)]
+#[derive(Clone, Copy)]
 pub enum Fed {
     Block(usize, Block),
     More(usize),
@@ -21,20 +23,20 @@ pub enum Fed {
 }
 
 // A block, or the run's end with its counts.
-#[derive(Drop)]
+#[derive(Clone, Copy)]
 pub enum Finished {
     Block(Block),
     End(Counts),
     Refused(Refusal),
 }
 
-#[derive(Drop)]
+#[derive(Clone, Copy)]
 pub struct FeedAnswer {
     pub answer: Fed,
     pub state: State,
 }
 
-#[derive(Drop)]
+#[derive(Clone, Copy)]
 pub struct FinishAnswer {
     pub answer: Finished,
     pub state: State,

@@ -1,4 +1,6 @@
 // The samples of the rules and the story that started this, computed by the definitions that the reader's contracts cite.
+#![tactic(auto)]
+
 ghost use Rattle.samples.specs.Flight.{FlightLine};
 ghost use Rattle.samples.specs.Samples.{SamplesHold};
 ghost use Rattle.samples.specs.PppInfo.{PppInfoHolds};

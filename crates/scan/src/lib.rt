@@ -1,5 +1,7 @@
 // Reading a run with a ceiling from place to place, up to the first block (rules F11 to F16, C6). The run lies in two slices: the held bytes,
 // then the piece.
+#![tactic(auto)]
+
 ghost use Rattle.std.specs.Prelude.{◌≡◌, false, max, ◌+◌, ◌≤◌, ◌<◌, length, replicate};
 ghost use Rattle.frame.specs.Judge.{judged, judged_last};
 ghost use Rattle.scan.specs.Settle.{settle};
@@ -11,13 +13,13 @@ ghost use Rattle.scan.specs.Scan.{NoDollar, NoStart, with_rest, stretch_of};
 use frame::{Reason, Verdict};
 
 // What is known of the places passed over.
-#[derive(Drop)]
+#[derive(Clone, Copy)]
 pub struct Passed {
     pub skipped: usize,
 }
 
 // What a scan comes to.
-#[derive(Drop)]
+#[derive(Clone, Copy)]
 pub struct Scanned {
     // How many bytes of the piece had to be taken.
     pub taken: usize,
@@ -27,7 +29,7 @@ pub struct Scanned {
 }
 
 // What the places of a part come to.
-#[derive(Drop)]
+#[derive(Clone, Copy)]
 pub enum Stretch {
     // A block of so many bytes behind those passed, and how many bytes of the run had to be taken.
     Block(Passed, usize, usize),

@@ -1,10 +1,12 @@
 // A script's lines: each is read as a call. Its first word says which, and the words behind it are read as that call asks. Words are
 // matched by their keys (`words::keys_hold`).
+#![tactic(auto)]
+
 ghost use Rattle.std.specs.Prelude.{◌≤◌, ◌≡◌, length};
 
 use words::{Decimal, Decoded};
 
-#[derive(Drop)]
+#[derive(Clone, Copy)]
 pub enum Buffer {
     Hold,
     InForce,
@@ -14,7 +16,7 @@ pub enum Buffer {
 }
 
 // A number of the state, as `poke` names it.
-#[derive(Drop)]
+#[derive(Clone, Copy)]
 pub enum StateNumber {
     Phase,
     InForce,
@@ -29,14 +31,14 @@ pub enum StateNumber {
 }
 
 // The word behind `open`: a line may have none.
-#[derive(Drop)]
+#[derive(Clone, Copy)]
 pub enum CeilingWord {
     Absent,
     Given(u64),
 }
 
 // The calls after which the CRCs of the buffers are printed.
-#[derive(Drop)]
+#[derive(Clone, Copy)]
 pub enum RunCall {
     Open(CeilingWord),
     Feed,
@@ -46,7 +48,7 @@ pub enum RunCall {
 }
 
 // The calls that are lent nothing to write.
-#[derive(Drop)]
+#[derive(Clone, Copy)]
 pub enum Ask {
     Bytes,
     Body(u64),
@@ -61,7 +63,7 @@ pub enum Ask {
 
 // What a line asks for. `Pass` is an empty line or a comment, `Bad` no call at all. What `Write` is given is read by itself (crate
 // `lists`), and where that cannot be read the line is bad.
-#[derive(Drop)]
+#[derive(Clone, Copy)]
 pub enum LineCall {
     Pass,
     Bad,
@@ -74,7 +76,7 @@ pub enum LineCall {
 }
 
 // A call, how many bytes it is given, and where the text behind its first word begins.
-#[derive(Drop)]
+#[derive(Clone, Copy)]
 pub struct Asked {
     pub call: LineCall,
     pub count: usize,
@@ -83,7 +85,7 @@ pub struct Asked {
 
 // A word of a line: its key, its value as a number, and where the text behind its space begins. `leads` says that it is a number with
 // more behind it, `ends` that it is one and the line ends with it.
-#[derive(Drop)]
+#[derive(Clone, Copy)]
 struct Word {
     key: u64,
     number: u64,
@@ -94,7 +96,7 @@ struct Word {
 }
 
 // Whether a word is a number, and which.
-#[derive(Drop)]
+#[derive(Clone, Copy)]
 struct Number(bool, u64);
 
 fn as_number(d: Decimal) -> Number {
@@ -182,7 +184,7 @@ fn can_poke(part: StateNumber, v: u64) -> bool {
 }
 
 // A call as far as it is read without its bytes: behind how many words they begin, 0 where it is given none.
-#[derive(Drop)]
+#[derive(Clone, Copy)]
 struct Head {
     call: LineCall,
     words: u8,

@@ -1,4 +1,6 @@
 // The rows shipped, version 1 (rules T30 to T37), as a table to be staged.
+#![tactic(auto)]
+
 ghost use Rattle.std.specs.Prelude.{◌≡◌};
 ghost use Rattle.encode.specs.Encode.{encode};
 ghost use Rattle.shipped.specs.Rows.{shipped};

@@ -1,4 +1,6 @@
 // The lines of the calls that may write: what the call replied, the state's nine numbers, the CRCs of the three buffers.
+#![tactic(auto)]
+
 ghost use Rattle.std.specs.Prelude.{◌+◌, ◌≤◌, ◌≡◌, ◌++◌, take};
 ghost use Rattle.std.proofs.Math.Option.{none, some};
 ghost use Rattle.reader.specs.Said.{report_of, took};

@@ -1,4 +1,6 @@
 // The block table: its check (rules T1 to T20), and the row of a block's number.
+#![tactic(auto)]
+
 ghost use Rattle.std.specs.Prelude.{◌≡◌, true};
 ghost use Rattle.table.specs.Decode.{first_count};
 ghost use Rattle.table.specs.Rules.{table_ok};
@@ -13,13 +15,13 @@ mod fields; // fields.rt: the rules on field rows
 mod trailer; // trailer.rt: the rules on file and trailer
 
 // What the check says: the version, or that a rule is broken.
-#[derive(Drop)]
+#[derive(Clone, Copy)]
 pub enum Checked {
     Version(u16),
     Broken,
 }
 
-#[derive(Drop)]
+#[derive(Clone, Copy)]
 pub enum RowFound {
     At(Row),
     Nothing,

@@ -1,5 +1,7 @@
 // The tables of a reader: Stage and Withdraw (rules C10 to C12), which are lent nothing that an open run reads by, and Open (C5),
 // which puts a table in force, and takes the settings of the run (C17).
+#![tactic(auto)]
+
 ghost use Rattle.std.specs.Prelude.{◌≡◌, []};
 ghost use Rattle.reader.specs.Outcome.{outcome};
 ghost use Rattle.tables.specs.Said.{saidOpened, said_staged, said_withdrawn};
@@ -11,38 +13,38 @@ use reader::{Check, Settings, State};
 use refusal::Refusal;
 use table::Checked;
 
-#[derive(Drop)]
+#[derive(Clone, Copy)]
 pub enum Opened {
     Version(u16),
     Refused(Refusal),
 }
 
-#[derive(Drop)]
+#[derive(Clone, Copy)]
 pub enum Staged {
     Version(u16),
     Refused(Refusal),
 }
 
 // Whether a table waited.
-#[derive(Drop)]
+#[derive(Clone, Copy)]
 pub enum Withdrawn {
     Waited(bool),
     Refused(Refusal),
 }
 
-#[derive(Drop)]
+#[derive(Clone, Copy)]
 pub struct OpenAnswer {
     pub answer: Opened,
     pub state: State,
 }
 
-#[derive(Drop)]
+#[derive(Clone, Copy)]
 pub struct StageAnswer {
     pub answer: Staged,
     pub state: State,
 }
 
-#[derive(Drop)]
+#[derive(Clone, Copy)]
 pub struct WithdrawAnswer {
     pub answer: Withdrawn,
     pub state: State,

@@ -1,4 +1,6 @@
 // What the bits of a field mean, by its type and mark: the value of a field row in the bytes it is read from.
+#![tactic(auto)]
+
 ghost use Rattle.std.specs.Prelude.{◌≡◌, not, ◌+◌, ◌^◌, ◌≤◌, ◌<◌, T, length};
 ghost use Rattle.std.specs.Float.{binary32, binary64};
 ghost use Rattle.std.specs.Float.Ieee.{is_nan, to_bits};
@@ -10,7 +12,7 @@ ghost use Rattle.value.specs.Bits.{with_sign, read_as, field_value};
 use rows::FieldRow;
 
 // What a field answers. A NaN is carried as its bits: no float can be made of them.
-#[derive(Drop)]
+#[derive(Clone, Copy)]
 pub enum Value {
     Unsigned(u64),
     Signed(i64),

@@ -1,17 +1,19 @@
 // Sub-blocks of two levels (rule T21): the walk over a block's first-level sub-blocks and those nested in each.
+#![tactic(auto)]
+
 ghost use Rattle.std.specs.Prelude.{◌≡◌, cond, ◌+◌, ◌≤◌, ◌<◌, get_or};
 ghost use Rattle.walk.specs.Walk.{nest_at, nest_end, walked_of};
 ghost use Rattle.walk.specs.Theorems.{WalkLaid};
 
 // Where a part of a block stands: it starts at `at` and has `size` bytes.
-#[derive(Drop)]
+#[derive(Clone, Copy)]
 pub struct Span {
     pub at: usize,
     pub size: usize,
 }
 
 // A first-level sub-block, and those nested in it: `count` of them stand right behind it, each `size` bytes long.
-#[derive(Drop)]
+#[derive(Clone, Copy)]
 pub struct Nest {
     pub first: Span,
     pub count: usize,
@@ -19,7 +21,7 @@ pub struct Nest {
 }
 
 // A whole walk: where it ends, whether any first-level sub-block has nested ones, and the first-level sub-block that was asked for.
-#[derive(Drop)]
+#[derive(Clone, Copy)]
 pub struct Walked {
     pub end: usize,
     pub any: bool,

@@ -1,4 +1,6 @@
 // Numbers in a slice of bytes (rule F1), parts of a slice, and what a block's ID is made of (F9).
+#![tactic(auto)]
+
 ghost use Rattle.std.specs.Prelude.{◌≡◌, ◌+◌, ◌*◌, ◌≤◌, ◌<◌, ◌/◌, ◌%◌, length, take, drop};
 ghost use Rattle.wire.specs.Little.{little_at};
 ghost use Rattle.wire.specs.Range.{InRange};

@@ -1,5 +1,7 @@
 // The lines of the calls that are lent none of the reader's buffers to write: what a field answers, how many bytes were handed back,
 // or how long a block was written.
+#![tactic(auto)]
+
 ghost use Rattle.std.specs.Prelude.{◌+◌, ◌≤◌, ◌≡◌, ◌++◌, T, length, take};
 ghost use Rattle.record.specs.Answer.{value_says};
 ghost use Rattle.value.specs.Said.{no_nan};

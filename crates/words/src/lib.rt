@@ -1,5 +1,7 @@
 // The words of a line: where one ends, its key, decimal numbers, the values of a `write`, bytes in hex; and the keys of a script's
 // words.
+#![tactic(auto)]
+
 ghost use Rattle.std.specs.Prelude.{◌+◌, ◌≤◌, ◌≡◌, length, take};
 ghost use Rattle.std.proofs.Math.Option.{none};
 ghost use Rattle.io.specs.Counts.{IsPrefixLen};
@@ -53,7 +55,7 @@ pub fn keys_hold()
     ensures { KeysHold }
 {}
 
-#[derive(Drop)]
+#[derive(Clone, Copy)]
 pub enum Decimal {
     Value(u64),
     NoNumber,
@@ -140,7 +142,7 @@ fn signed_number(word: &[u8]) -> Decimal
 }
 
 // What a word of a `write` is read as: a kind and its bits (rules W2, W3), or that it is no value.
-#[derive(Drop)]
+#[derive(Clone, Copy)]
 pub struct Valued {
     pub is_value: bool,
     pub kind: u8,
@@ -244,7 +246,7 @@ fn hex_digit(c: u8) -> u8
 }
 
 // How many bytes a word in hex has, or that it is none.
-#[derive(Drop)]
+#[derive(Clone, Copy)]
 pub struct Decoded {
     pub is_hex: bool,
     pub count: usize,

@@ -1,4 +1,6 @@
 // A block written through a table that passes its check, and under a ceiling (rules W1, W6 to W9, C17).
+#![tactic(auto)]
+
 ghost use Rattle.std.specs.Prelude.{◌≡◌, true, [], ◌+◌, ◌≤◌, length};
 ghost use Rattle.std.proofs.Math.Option.{some};
 ghost use Rattle.std.proofs.lemmas.List.Edits.{sets};
@@ -17,7 +19,7 @@ use rows::{FieldRow, Row};
 use table::RowFound;
 
 // The length of the block that was written, or why none was.
-#[derive(Drop)]
+#[derive(Clone, Copy)]
 pub enum Written {
     Length(usize),
     Refused(Refusal),

@@ -1,4 +1,6 @@
 // Write (rule W1): a block made through the table in force, under the state's ceiling (C17).
+#![tactic(auto)]
+
 ghost use Rattle.std.specs.Prelude.{◌≡◌};
 ghost use Rattle.draft.specs.Draft.{draft_of};
 ghost use Rattle.writer.specs.Write.{write_outcome, written_says};

@@ -1,5 +1,7 @@
 // What holds of every block that Write made (rules W20 to W24), and of what it is given (W2, W3), as theorems over the definitions that
 // the contracts cite; and cases of both, computed.
+#![tactic(auto)]
+
 ghost use Rattle.writing.specs.Giving.{CanBeGiven, GivingHolds};
 ghost use Rattle.writing.specs.InForce.{AllReadBackInForce};
 ghost use Rattle.writing.specs.Samples.{BlocksHold, CeilingsHold};
