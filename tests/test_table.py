@@ -329,7 +329,7 @@ def compiles(header, numbers, size, folder):
         f.writelines('_Static_assert(%s == %d, "%s");\n' % (name, n, name) for name, n in numbers.items())
         f.write('_Static_assert(sizeof alderflute_table == %d, "the size");\n' % size)
         f.write("int last(void);\nint last(void) { return alderflute_table[%d]; }\n" % (size - 1))
-    clang = os.path.join(kit()["RATTLE_HOME"], "on", os.uname().machine, "toolchain", "bin", "clang")
+    clang = os.path.join(kit()["RATTLE_HOME"], "toolchain", "bin", "clang")
     said = ""
     for language, standard in (("c", "c11"), ("c++", "c++11")):
         run = subprocess.run([clang, "--target=x86_64-unknown-linux-gnu", "-x", language, "-std=" + standard, "-fsyntax-only", "-Wall",
