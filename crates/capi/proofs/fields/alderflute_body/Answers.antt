@@ -1,0 +1,22 @@
+-- `capi::fields::alderflute_body` meets its contract: the reader's answer, or refusal 1.
+-- Assumes nothing.
+use mathlib.Core.Path.{◌≡◌}
+use mathlib.Core.Bool.{false}
+use Rattle.reader.specs.State.{sound}
+use Rattle.reader.specs.declared.State.{State}
+use Rattle.records.specs.Calls.{body_of}
+use Rattle.cform.specs.State.{state_of}
+use Rattle.record.proofs.Fields.{answers_no_nan}
+use Rattle.capi.specs.Calls.{body_c}
+use Rattle.capi.proofs.Refusing.{body-one}
+use Rattle.capi.proofs.Telling.{tells_it}
+use Rattle.capi.proofs.fields.alderflute_body.Goals as goal
+
+pub field_c-requires : goal.field_c-requires
+field_c-requires c = answers_no_nan c.body.ensures
+
+pub returns : goal.returns
+unfolding body_c
+returns c =
+    let a = c.args in
+    tells_it (λ (t : State). body_of t a.in_force.now a.block.now a.i) (λ (t : State) (e : sound t ≡ false). body-one t e a.in_force.now a.block.now a.i) (state_of a.s) c.state_of-t.ensures c.body.ensures c.field_c.ensures

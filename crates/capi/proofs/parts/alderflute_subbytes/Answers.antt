@@ -1,0 +1,45 @@
+-- `capi::parts::alderflute_subbytes` meets its contract: the sub-block, or an empty part.
+-- Assumes nothing.
+use mathlib.Core.Path.{◌≡◌, sym, ap, ◌∙◌}
+use mathlib.Core.Bool.{false}
+use mathlib.Core.Option.{none}
+use Rattle.walk.specs.declared.Span.{Span}
+use Rattle.reader.specs.State.{sound}
+use Rattle.reader.specs.declared.State.{State}
+use Rattle.records.specs.Calls.{sub_bytes_of, sub_place_of, sub_bytes_refusal}
+use Rattle.record.specs.Answer.{handed_says}
+use Rattle.refusal.specs.Numbers.{number_for}
+use Rattle.cform.specs.State.{state_of}
+use Rattle.cform.specs.Answer.{part_c}
+use Rattle.capi.specs.Calls.{sub_bytes_c}
+use Rattle.capi.proofs.Refusing.{sub_bytes_one}
+use Rattle.records.proofs.Asking.{sub_bytes_empty}
+use Rattle.capi.proofs.Handing as handing
+use Rattle.capi.proofs.parts.alderflute_subbytes.Goals as goal
+
+pub returns-in-Refused : goal.returns-in-Refused
+unfolding sub_bytes_c
+returns-in-Refused c =
+    let a = c.args in
+    let force = a.in_force.now in
+    let block = a.block.now in
+    let t = c.state_of-t.result in
+    let r = sym c.sub_place-p.ensures.0 ∙ ap handed_says c.h-1.given.1 in
+    handing.hands_none (λ (t : State). sub_bytes_refusal t force block a.k) (λ (t : State). (sub_place_of t force block a.k).at) (λ (t : State). sub_bytes_of t force block a.k) block
+    (λ (t : State) (e : sound t ≡ false). sub_bytes_one t e force block a.k) (state_of a.s) t (number_for c.h-1.given.0.0) c.state_of-t.ensures r
+    (sub_bytes_empty t force block a.k _ r) c.no_part.ensures
+
+pub returns-in-Given : goal.returns-in-Given
+unfolding sub_bytes_c
+returns-in-Given c =
+    let a = c.args in
+    let force = a.in_force.now in
+    let block = a.block.now in
+    let t = c.state_of-t.result in
+    let r = sym c.sub_place-p.ensures.0 ∙ ap handed_says c.enum_told-1.given.1 in
+    let p = c.sub_place-p.ensures.1 in
+    handing.hands_it (λ (t : State). sub_bytes_refusal t force block a.k) (λ (t : State). (sub_place_of t force block a.k).at) (λ (t : State). sub_bytes_of t force block a.k) block
+    (λ (t : State) (e : sound t ≡ false). sub_bytes_one t e force block a.k) (state_of a.s) t (sub_place_of t force block a.k).size c.state_of-t.ensures r
+    (ap (λ (x : Span). part_c none x.at x.size) p.0)
+    (handing.sub-length t force block a.k p.0 p.1)
+    (handing.sub_cut t force block a.k)

@@ -1,0 +1,18 @@
+-- `cform::fields::field_c` meets its contract: case by case.
+-- Assumes nothing.
+use mathlib.Core.Path.{sym, ap, ◌∙◌, subst}
+use Prim.Native.Nat.{ℕ}
+use lib.Dec.{T}
+use lib.IntN.{pos}
+use Rattle.record.specs.Answer.{answerSays, no_nan_in}
+use Rattle.record.specs.declared.Answer.{Answer}
+use Rattle.cform.specs.Answer.{tell, field_c}
+use Rattle.cform.proofs.fields.field_c.Goals as goal
+
+pub value_c-requires : goal.value_c-requires
+value_c-requires c = subst (λ (x : Answer). T (no_nan_in x)) c.a-1.given.1 c.requires
+
+pub returns-in-Refused : goal.returns-in-Refused
+returns-in-Refused c =
+    c.tell_c.ensures ∙ ap (λ (n : ℕ). tell n 0 0 (pos 0) 0) c.number.ensures
+    ∙ sym (ap (λ (x : Answer). field_c (answerSays x)) c.a-in-Refused-1.given.1)

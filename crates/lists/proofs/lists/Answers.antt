@@ -1,0 +1,60 @@
+-- `lists::lists` meets its contract. The invariant: what is found, with what is left behind it, gives the whole; and a place has two bytes
+-- and more for each value before it.
+-- Assumes nothing.
+use Prim.Native.Nat.{ℕ, ◌+◌, ◌-◌}
+use mathlib.Core.Path.{◌≡◌, sym, ap, ◌∙◌}
+use native.Mathlib.Omega.{arith}
+use mathlib.Core.Bool.{Bool}
+use mathlib.Core.Option.{none, some}
+use lib.ListN.{length, take, set, length-set}
+use Rattle.words.specs.Values.{value_in, kind_says}
+use borrow.Author.Tests.{not-true, not-false}
+use Rattle.lists.specs.Line.{lists_in}
+use Rattle.lists.specs.Code.{word_at, words_from}
+use Rattle.lists.proofs.Laws.{behind_lists, lists_start, lists_stop, lists_go, lists_end, value_long}
+use borrow.Author.Rules.{rules}
+use Rattle.lists.proofs.lists.Goals as goal
+
+pub loop-next-init : goal.loop-next-init
+loop-next-init c = (omega arith, omega arith, omega arith, search rules, search rules, lists_start _)
+
+pub returns-then-not-v : goal.returns-then-not-v
+returns-then-not-v c =
+    let l = c.loop-next in
+    let w = c.word_at-word in
+    let v = c.value-v in
+    let t = c.args.text.now in
+    let e : value_in (word_at t l.next) ≡ none =
+    sym (ap value_in w.ensures.0) ∙ sym v.ensures ∙ ap (λ (b : Bool). kind_says b v.result.kind v.result.bits) (not-true v.result.is_value c.if-not-v.true) in
+    (lists_stop t l.next l.kinds l.bits l.count (omega arith) e ∙ l.invariant.5, omega arith)
+
+pub overflow_add-next : goal.overflow_add-next
+overflow_add-next c = omega (arith, c.word_at-word.ensures.1)
+
+pub overflow_add-next-in-loop-next : goal.overflow_add-next-in-loop-next
+overflow_add-next-in-loop-next c = omega (arith, c.word_at-word.ensures.1)
+
+pub loop-next-preserved : goal.loop-next-preserved
+loop-next-preserved c =
+    let l = c.loop-next in
+    let w = c.word_at-word in
+    let v = c.value-v in
+    let t = c.args.text.now in
+    let e : value_in (word_at t l.next) ≡ some (v.result.kind, v.result.bits) =
+    sym (ap value_in w.ensures.0) ∙ sym v.ensures ∙ ap (λ (b : Bool). kind_says b v.result.kind v.result.bits) (not-false v.result.is_value c.if-not-v.false) in
+    let d : length w.result.now ≡ length (word_at t l.next) = ap length w.ensures.0 in
+    let m = value_long (word_at t l.next) _ e in
+    let g = lists_go t l.next l.kinds l.bits l.count (omega arith) v.result.kind v.result.bits (omega arith) (omega arith) e in (
+      omega (arith, d, m),
+      omega (arith, w.ensures.1),
+      omega arith,
+      length-set l.kinds l.count v.result.kind ∙ l.invariant.3,
+      length-set l.bits l.count v.result.bits ∙ l.invariant.4,
+      ap (λ (n : ℕ). behind_lists (take (l.count + 1) (set l.kinds l.count v.result.kind)) (take (l.count + 1) (set l.bits l.count v.result.bits)) (lists_in (words_from t (l.next + n + 1)))) d ∙ g ∙ l.invariant.5,
+    )
+
+pub returns : goal.returns
+returns c =
+    let l = c.loop-next in
+    let t = c.args.text.now in
+    (lists_end t l.next (take l.count l.kinds) (take l.count l.bits) (omega arith) ∙ l.invariant.5, omega arith)

@@ -1,0 +1,10 @@
+-- `play::replies::written` meets its contract: case by case.
+-- Assumes nothing.
+use mathlib.Core.Path.{refl}
+use Rattle.play.proofs.replies.written.Goals as goal
+
+pub returns-in-Length : goal.returns-in-Length
+returns-in-Length c = (tt, (rw c.a-1.given.1, refl))
+
+pub returns-in-Refused : goal.returns-in-Refused
+returns-in-Refused c = (tt, (rw c.a-in-Refused-1.given.1, refl))

@@ -1,0 +1,32 @@
+-- `writer::put` meets its contract: each return is one law of `written_by`.
+-- Assumes nothing.
+use native.Mathlib.Omega.{arith}
+use borrow.Author.Tests.{not-true, not-false}
+use Rattle.writer.proofs.Told.{told_11, told_revision, told_few, told_12, told_writable, told_length, one_seen}
+use Rattle.writer.proofs.put.Goals as goal
+
+pub returns-then-not-a : goal.returns-then-not-a
+returns-then-not-a c = told_11 _ _ _ c.accepts-a.ensures _ (not-true _ c.if-not-a.true)
+
+pub overflow_cast-h : goal.overflow_cast-h
+overflow_cast-h c = omega (arith, told_revision 0 _ _ c.accepts-a.ensures (not-false _ c.if-not-a.false))
+
+pub sizes-z-requires : goal.sizes-z-requires
+sizes-z-requires c = (c.requires.0, told_few 0 _ _ c.accepts-a.ensures (not-false _ c.if-not-a.false))
+
+pub returns-then-not-all-out : goal.returns-then-not-all-out
+returns-then-not-all-out c = told_12 _ _ _ c.accepts-a.ensures (not-false _ c.if-not-a.false) c.sizes-z.ensures _ (not-true _ c.if-not-all-out.true)
+
+pub put_block-requires : goal.put_block-requires
+put_block-requires c =
+    let a = c.args in
+    let p = c.requires in (
+      (p.0, p.3),
+      told_writable a.ceiling _ _ c.accepts-a.ensures (not-false _ c.if-not-a.false) c.sizes-z.ensures a.out.now (not-false _ c.if-not-all-out.false) p.1 (one_seen a.table.now a.row p.2),
+    )
+
+pub returns : goal.returns
+returns c =
+    let a = c.args in
+    told_length _ _ _ c.accepts-a.ensures (not-false _ c.if-not-a.false) c.sizes-z.ensures a.out.now (not-false _ c.if-not-all-out.false)
+    c.put_block.ensures
