@@ -1,5 +1,6 @@
 -- `frame::is_frame` meets its contract: a frame is judged at the front exactly where one stands.
 -- Assumes nothing.
+use borrow.Enum.Refused.{opened}
 use mathlib.Core.Path.{◌≡◌, sym, ap, ◌∙◌}
 use mathlib.Core.Bool.{Bool, ◌&&◌}
 use mathlib.Core.List.{append-nil}
@@ -26,8 +27,8 @@ pub returns-in-Frame : goal.returns-in-Frame
 unfolding whole_frame
 returns-in-Frame c =
     let s = c.args.s.now in
-    let n = c.v-1.given.0.0 in
-    let f = judged_front greatest_ceiling s n (sym (judges c.before.before.before.before) ∙ c.v-1.given.1) in
+    let n = c.in-Frame.n in
+    let f = judged_front greatest_ceiling s n (sym (judges c.before.before) ∙ c.in-Frame.is) in
     ap (λ (k : ℕ). eqb k (length s)) f.1 ∙ ap (λ (b : Bool). b && eqb (length_at s 0) (length s)) (sym f.0)
 
 pub returns-in_default : goal.returns-in_default
@@ -35,5 +36,5 @@ unfolding whole_frame
 returns-in_default c =
     let s = c.args.s.now in
     bool? (frame_at greatest_ceiling s 0)
-    (λ e. absurd (no_frame c.judge-v.result c.in_default.keys2 (length_at s 0) (judges c.before.before ∙ front_judged greatest_ceiling s e)))
+    (λ e. absurd (no_frame c.judge-v.result (opened c.in_default.in_default-own.keys2) (length_at s 0) (judges c.before.before ∙ front_judged greatest_ceiling s e)))
     (λ e. ap (λ (b : Bool). b && eqb (length_at s 0) (length s)) (sym e))

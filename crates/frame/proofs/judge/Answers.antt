@@ -82,7 +82,7 @@ head u =
 
 ok : (c : Else6) → allowed (top (start c.before.before)) (length_at (run (start c.before.before)) 0) ≡ true
 ok c =
-    ap (allowed (top (start c.before.before))) (sym c.pair_at-n.ensures) ∙ sym c.length_allowed.ensures ∙ not-false _ c.if-not-length_allowed.false
+    ap (allowed (top (start c.before.before))) (sym c.pair_at-n.ensures) ∙ sym c.length_allowed.ensures ∙ c.if-not-length_allowed.false
 
 -- the test of the CRC, as `crc_right` has it
 sums : (c : AfterPairAt2)
@@ -117,7 +117,7 @@ returns-then-not-length_allowed c =
     let d = head c.before.before.before in
     sym
     (bad_length (top (start c.before.before.before)) (run (start c.before.before.before)) (omega (arith, d.eight)) d.first d.second d.eight
-    (ap (allowed (top (start c.before.before.before))) (sym c.pair_at-n.ensures) ∙ sym c.length_allowed.ensures ∙ not-true _ c.if-not-length_allowed.true))
+    (ap (allowed (top (start c.before.before.before))) (sym c.pair_at-n.ensures) ∙ sym c.length_allowed.ensures ∙ c.if-not-length_allowed.true))
 
 pub returns-then-left-n : goal.returns-then-left-n
 returns-then-left-n c =

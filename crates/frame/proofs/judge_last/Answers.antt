@@ -1,5 +1,6 @@
 -- `frame::judge_last` meets its contract: what is decided already stays, and the rest is told by how many bytes there are.
 -- Assumes nothing.
+use borrow.Enum.Refused.{opened}
 use mathlib.Core.Path.{◌≡◌, refl, sym, ap, ◌∙◌}
 use mathlib.Core.List.{List, append-nil}
 use Prim.Native.Nat.{ℕ}
@@ -28,17 +29,17 @@ verdict j e = sym (j.judge-v.ensures ∙ ap (judged (top j)) (append-nil (run j)
 
 pub returns-then-s-lt2 : goal.returns-then-s-lt2
 returns-then-s-lt2 c =
-    sym (last_ends (top c.before.before.before.before) (run c.before.before.before.before) (verdict c.before.before.before.before c.enum_told-1.given.1) (lt-ltb (length (run c.before.before.before.before)) 2 (omega arith)) refl)
+    sym (last_ends (top c.before.before.before) (run c.before.before.before) (verdict c.before.before.before c.in-Undecided.is) (lt-ltb (length (run c.before.before.before)) 2 (omega arith)) refl)
 
 pub returns-then-s-lt8 : goal.returns-then-s-lt8
 returns-then-s-lt8 c =
     sym
-    (last_ends (top c.before.before.before.before.before) (run c.before.before.before.before.before) (verdict c.before.before.before.before.before c.enum_told-1.given.1) (le-ltb (length (run c.before.before.before.before.before)) 2 (omega arith)) (lt-ltb (length (run c.before.before.before.before.before)) 8 (omega arith)))
+    (last_ends (top c.before.before.before.before) (run c.before.before.before.before) (verdict c.before.before.before.before c.in-Undecided.is) (le-ltb (length (run c.before.before.before.before)) 2 (omega arith)) (lt-ltb (length (run c.before.before.before.before)) 8 (omega arith)))
 
 pub returns-else-s-lt8 : goal.returns-else-s-lt8
 returns-else-s-lt8 c =
     sym
-    (last_ends (top c.before.before.before.before.before) (run c.before.before.before.before.before) (verdict c.before.before.before.before.before c.enum_told-1.given.1) (le-ltb (length (run c.before.before.before.before.before)) 2 (omega arith)) (le-ltb (length (run c.before.before.before.before.before)) 8 (omega arith)))
+    (last_ends (top c.before.before.before.before) (run c.before.before.before.before) (verdict c.before.before.before.before c.in-Undecided.is) (le-ltb (length (run c.before.before.before.before)) 2 (omega arith)) (le-ltb (length (run c.before.before.before.before)) 8 (omega arith)))
 
 pub returns-in_default : goal.returns-in_default
-returns-in_default c = sym (last_same (top c.before.before) (run c.before.before) c.judge-v.result c.in_default.keys2 (verdict c.before.before refl))
+returns-in_default c = sym (last_same (top c.before.before) (run c.before.before) c.judge-v.result (opened c.in_default.in_default-own.keys2) (verdict c.before.before refl))

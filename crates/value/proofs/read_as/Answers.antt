@@ -13,43 +13,43 @@ use Rattle.value.proofs.read_as.Goals as goal
 
 pub signed-requires : goal.signed-requires
 unfolding size_of
-signed-requires c = let h = rw c.in-5.keys1 at c.requires in (omega (arith, h), search rules)
+signed-requires c = let h = rw c.in-5.is at c.requires in (omega (arith, h), search rules)
 
 pub signed-requires-in-6 : goal.signed-requires-in-6
 unfolding size_of
-signed-requires-in-6 c = let h = rw c.in-6.keys2 at c.requires in (omega (arith, h), search rules)
+signed-requires-in-6 c = let h = rw c.in-6.is at c.requires in (omega (arith, h), search rules)
 
 pub signed-requires-in-7 : goal.signed-requires-in-7
 unfolding size_of
-signed-requires-in-7 c = let h = rw c.in-7.keys3 at c.requires in (omega (arith, h), search rules)
+signed-requires-in-7 c = let h = rw c.in-7.is at c.requires in (omega (arith, h), search rules)
 
 pub single_of-requires : goal.single_of-requires
 unfolding size_of
-single_of-requires c = rw c.in-9.keys5 at c.requires
+single_of-requires c = rw c.in-9.is at c.requires
 
 pub returns-in-5 : goal.returns-in-5
 unfolding read_as
-returns-in-5 c = rw c.in-5.keys1 (let e = to_z-of_z w64 _ (record { sfits = c.signed.type-inv }) ∙ c.signed.ensures in record { says = ap signed e; case = refl })
+returns-in-5 c = rw c.in-5.is (let e = to_z-of_z w64 _ (record { sfits = c.signed.type_inv }) ∙ c.signed.ensures in record { says = ap signed e; case = refl })
 
 pub returns-in-6 : goal.returns-in-6
 unfolding read_as
-returns-in-6 c = rw c.in-6.keys2 (let e = to_z-of_z w64 _ (record { sfits = c.signed-in-6.type-inv }) ∙ c.signed-in-6.ensures in record { says = ap signed e; case = refl })
+returns-in-6 c = rw c.in-6.is (let e = to_z-of_z w64 _ (record { sfits = c.signed-in-6.type_inv }) ∙ c.signed-in-6.ensures in record { says = ap signed e; case = refl })
 
 pub returns-in-7 : goal.returns-in-7
 unfolding read_as
-returns-in-7 c = rw c.in-7.keys3 (let e = to_z-of_z w64 _ (record { sfits = c.signed-in-7.type-inv }) ∙ c.signed-in-7.ensures in record { says = ap signed e; case = refl })
+returns-in-7 c = rw c.in-7.is (let e = to_z-of_z w64 _ (record { sfits = c.signed-in-7.type_inv }) ∙ c.signed-in-7.ensures in record { says = ap signed e; case = refl })
 
 pub returns-in-8 : goal.returns-in-8
 unfolding read_as
-returns-in-8 c = rw c.in-8.keys4 (let e = to_z-of_z w64 _ (record { sfits = c.signed-in-8.type-inv }) ∙ c.signed-in-8.ensures in record { says = ap signed e; case = refl })
+returns-in-8 c = rw c.in-8.is (let e = to_z-of_z w64 _ (record { sfits = c.signed-in-8.type_inv }) ∙ c.signed-in-8.ensures in record { says = ap signed e; case = refl })
 
 pub returns-in-9 : goal.returns-in-9
 unfolding read_as
-returns-in-9 c = rw c.in-9.keys5 c.single_of.ensures
+returns-in-9 c = rw c.in-9.is c.single_of.ensures
 
 pub returns-in-10 : goal.returns-in-10
 unfolding read_as
-returns-in-10 c = rw c.in-10.keys6 c.double_of.ensures
+returns-in-10 c = rw c.in-10.is c.double_of.ensures
 
 pub returns-in_default : goal.returns-in_default
-returns-in_default c = let r = c.in_default.rest in let e = plain c.args.kind c.args.x r.0.0.0.0.0.1 r.0.0.0.0.1 r.0.0.0.1 r.0.0.1 r.0.1 r.1 in record { says = e; case = refl }
+returns-in_default c = let r = c.in_default.in_default-own.rest in let e = plain c.args.kind c.args.x r.0.0.0.0.0.1 r.0.0.0.0.1 r.0.0.0.1 r.0.0.1 r.0.1 r.1 in record { says = e; case = refl }

@@ -15,4 +15,4 @@ returns-then-word-eq1 c =
 
 pub returns : goal.returns
 returns c =
-    record { given_after = c.hex_pairs.ensures.0 ∙ sym (bytes_hex c.args.word.now (omega arith)); count_bound = omega (arith, c.hex_pairs.ensures.1) }
+    record { given_after = c.hex_pairs.ensures.given_after ∙ sym (bytes_hex c.args.word.now (omega arith)); count_bound = omega (arith, c.hex_pairs.ensures.count_in_bounds) }

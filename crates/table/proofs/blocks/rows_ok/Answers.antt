@@ -27,7 +27,7 @@ fits c = file _ c.requires
 -- the row passed its step
 step : (c : Else1) → row_step c.loop-i.least c.loop-i.used
     c.field_count-fields.result c.row_at-r.result ≡ true
-step c = sym c.row_ok.ensures ∙ not-false _ c.if-not-row_ok.false
+step c = sym c.row_ok.ensures ∙ c.if-not-row_ok.false
 
 pub block_count-count-requires : goal.block_count-count-requires
 block_count-count-requires c = omega (arith, fits c.before)
@@ -48,7 +48,7 @@ loop-i-init c = (
 pub returns-then-not-row_ok : goal.returns-then-not-row_ok
 returns-then-not-row_ok c =
     law.rows_stop _ _ _ _ _ _ _ c.loop-i.invariant.4 _ c.row_at-r.ensures.0 (omega arith)
-    (sym c.row_ok.ensures ∙ not-true _ c.if-not-row_ok.true)
+    (sym c.row_ok.ensures ∙ c.if-not-row_ok.true)
 
 pub block_ok-requires : goal.block_ok-requires
 block_ok-requires c = omega (arith, law.step_says _ _ _ _ (step c.before))
@@ -56,7 +56,7 @@ block_ok-requires c = omega (arith, law.step_says _ _ _ _ (step c.before))
 pub returns-then-not-block_ok : goal.returns-then-not-block_ok
 returns-then-not-block_ok c =
     law.rows_block _ _ _ _ _ _ _ c.loop-i.invariant.4 _ c.row_at-r.ensures.0 (omega arith)
-    (step c.before.before.before) (sym c.block_ok.ensures ∙ not-true _ c.if-not-block_ok.true)
+    (step c.before.before.before) (sym c.block_ok.ensures ∙ c.if-not-block_ok.true)
 
 pub overflow_add-least : goal.overflow_add-least
 overflow_add-least c = omega (arith, law.step_says _ _ _ _ (step c.before.before.before.before))
@@ -65,7 +65,7 @@ pub loop-i-preserved : goal.loop-i-preserved
 loop-i-preserved c =
     let s = step c.before.before.before.before.before in
     let n = law.step_says _ _ _ _ s in
-    let b = sym c.block_ok.ensures ∙ not-false _ c.if-not-block_ok.false in (
+    let b = sym c.block_ok.ensures ∙ c.if-not-block_ok.false in (
       omega arith,
       omega (arith, n),
       omega arith,

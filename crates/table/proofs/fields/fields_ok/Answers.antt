@@ -15,11 +15,11 @@ loop-i-init c = (search rules, rw (add-zero, sub-zero))
 pub returns-then-not-field_ok : goal.returns-then-not-field_ok
 returns-then-not-field_ok c =
     fields_stop _ _ _ _ _ _ _ c.loop-i.invariant.1 _ c.field_at-f.ensures.0 (omega arith)
-    (sym c.field_ok.ensures ∙ not-true _ c.if-not-field_ok.true)
+    (sym c.field_ok.ensures ∙ c.if-not-field_ok.true)
 
 pub loop-i-preserved : goal.loop-i-preserved
 loop-i-preserved c =
-    let e = sym c.field_ok.ensures ∙ not-false _ c.if-not-field_ok.false in (
+    let e = sym c.field_ok.ensures ∙ c.if-not-field_ok.false in (
       omega arith,
       fields_go _ _ _ _ _ _ _ c.loop-i.invariant.1 _ c.field_at-f.ensures.0 (omega arith) e _ _ _ (omega arith) (omega arith) (omega arith),
     )
