@@ -1,9 +1,9 @@
 -- A block against a table: what each test shows, and what each way through the code makes of it.
 -- Assumes nothing.
-use mathlib.Core.Path.{◌≡◌, refl, sym, ap, ◌∙◌, subst}
+use mathlib.Core.Path.{◌≡◌, sym, ap, ◌∙◌, subst}
 use mathlib.Core.List.{List}
 use mathlib.Core.Bool.{Bool, true, false, not, ◌&&◌, ◌||◌}
-use Prim.Native.Nat.{ℕ, suc, ◌+◌, ◌-◌, ◌*◌, ◌%◌, ◌<◌, ◌≤◌}
+use Prim.Native.Nat.{ℕ, ◌+◌, ◌-◌, ◌*◌, ◌%◌, ◌<◌, ◌≤◌}
 use native.Mathlib.Omega.{arith}
 use native.Mathlib.Nat.{mul-le-mul}
 use lib.ListN.{length}
@@ -27,7 +27,7 @@ use Rattle.table.proofs.Lists.{length_tab}
 use Rattle.table.proofs.Levels.{first_two, second_are, nested_is}
 use Rattle.walk.specs.declared.Span.{Span}
 use Rattle.walk.specs.declared.Nest.{Nest}
-use Rattle.walk.specs.Walk.{second_length_in, span, nest_end, walk_end, any_second, nest_or}
+use Rattle.walk.specs.Walk.{second_length_in, span, walk_end, any_second, nest_or}
 use Rattle.block.specs.declared.Matched.{Matched}
 use Rattle.block.specs.declared.Matched.TheVariants.{At, Refused}
 use Rattle.block.specs.declared.SubMatched.{SubMatched}

@@ -1,6 +1,6 @@
 -- A sub-block of a block that passed: it lies in the block with those nested in it, and its level's carried fields lie in it.
 -- Assumes nothing.
-use mathlib.Core.Path.{◌≡◌, refl, sym, ap, ◌∙◌, subst}
+use mathlib.Core.Path.{◌≡◌, refl, sym, ◌∙◌, subst}
 use mathlib.Core.List.{List}
 use mathlib.Core.Bool.{Bool, true, false, not, ◌&&◌, ◌||◌}
 use Prim.Native.Nat.{ℕ, suc, ◌+◌, ◌*◌, ◌<◌, ◌≤◌}
@@ -12,7 +12,7 @@ use borrow.Author.Tests.{leb-true, eqb-true, eq-eqb, ne_eqb}
 use Rattle.rows.specs.declared.Row.{Row}
 use Rattle.rows.specs.Places.{field_at}
 use Rattle.table.specs.Lists.{every, pick, tabulate}
-use Rattle.table.specs.Rows.{BlockRow, first_rows, second_rows, nested_row}
+use Rattle.table.specs.Rows.{first_rows, second_rows, nested_row}
 use Rattle.table.specs.Decode.{block_of}
 use Rattle.table.proofs.Lists.{length_tab}
 use Rattle.table.proofs.Levels.{one_first}

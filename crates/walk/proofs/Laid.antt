@@ -22,7 +22,7 @@ Laid lo (s ∷ ss) hi = (lo ≤ s.at) × Laid (s.at + s.size) ss hi
 laid_whole : (lo hi : ℕ) (ss : List Span) → Laid lo ss hi → lo ≤ hi
 unfolding Laid
 laid_whole lo hi [] d = d
-laid_whole lo hi (s ∷ ss) d = omega (arith, d.0, laid_whole _ hi ss d.1)
+laid_whole lo hi (s ∷ ss) d = omega (arith, d.0, laid_whole (s.at + s.size) hi ss d.1)
 
 laid_from : (lo mid hi : ℕ) (ss : List Span) → lo ≤ mid → Laid mid ss hi → Laid lo ss hi
 unfolding Laid
@@ -32,7 +32,7 @@ laid_from lo mid hi (s ∷ ss) l d = (omega (arith, d.0), d.1)
 laid_join : (lo mid hi : ℕ) (ss ts : List Span) → Laid lo ss mid → Laid mid ts hi → Laid lo (ss ++ ts) hi
 unfolding Laid
 laid_join lo mid hi [] ts d e = laid_from lo mid hi ts d e
-laid_join lo mid hi (s ∷ ss) ts d e = (d.0, laid_join _ mid hi ss ts d.1 e)
+laid_join lo mid hi (s ∷ ss) ts d e = (d.0, laid_join (s.at + s.size) mid hi ss ts d.1 e)
 
 -- nothing is picked of no places
 nothing : {X : Type 0} {s : Span} → none ≡ some s → X
@@ -42,7 +42,7 @@ laid_after : (lo hi : ℕ) (ss : List Span) → Laid lo ss hi → (i : ℕ) (s :
 unfolding Laid pick
 laid_after lo hi [] d i s e = nothing e
 laid_after lo hi (x ∷ ss) d zero s e = let u : x ≡ s = cc in subst (λ (y : Span). lo ≤ y.at) u d.0
-laid_after lo hi (x ∷ ss) d (suc i) s e = omega (arith, d.0, laid_after _ hi ss d.1 i s e)
+laid_after lo hi (x ∷ ss) d (suc i) s e = omega (arith, d.0, laid_after (x.at + x.size) hi ss d.1 i s e)
 
 laid_by : (lo hi : ℕ) (ss : List Span) → Laid lo ss hi → (i : ℕ) (s : Span) → pick ss i ≡ some s → s.at + s.size ≤ hi
 unfolding Laid pick
@@ -50,7 +50,7 @@ laid_by lo hi [] d i s e = nothing e
 laid_by lo hi (x ∷ ss) d zero s e =
     let u : x ≡ s = cc in
     subst (λ (y : Span). y.at + y.size ≤ hi) u (laid_whole _ hi ss d.1)
-laid_by lo hi (x ∷ ss) d (suc i) s e = laid_by _ hi ss d.1 i s e
+laid_by lo hi (x ∷ ss) d (suc i) s e = laid_by (x.at + x.size) hi ss d.1 i s e
 
 laid_apart : (lo hi : ℕ) (ss : List Span) → Laid lo ss hi → (i j : ℕ) (s t : Span) → i < j → pick ss i ≡ some s → pick ss j ≡ some t
     → s.at + s.size ≤ t.at
@@ -60,7 +60,7 @@ laid_apart lo hi (x ∷ ss) d i zero s t l e f = let z : ⊥ = omega arith in ab
 laid_apart lo hi (x ∷ ss) d zero (suc j) s t l e f =
     let u : x ≡ s = cc in
     subst (λ (y : Span). y.at + y.size ≤ t.at) u (laid_after _ hi ss d.1 j t f)
-laid_apart lo hi (x ∷ ss) d (suc i) (suc j) s t l e f = laid_apart _ hi ss d.1 i j s t (omega arith) e f
+laid_apart lo hi (x ∷ ss) d (suc i) (suc j) s t l e f = laid_apart (x.at + x.size) hi ss d.1 i j s t (omega arith) e f
 
 -- k places of one size, from the i-th on
 tab_laid : (base size i k lo hi : ℕ) → lo ≤ base + i * size → base + (i + k) * size ≤ hi

@@ -1,11 +1,9 @@
 -- `block::look` meets its contract: each return is one law of `seen`.
 -- Assumes nothing.
 use mathlib.Core.Path.{◌≡◌, sym, ◌∙◌}
-use borrow.Author.Tests.{not-true, not-false}
 use mathlib.Core.Bool.{true}
 use Rattle.frame.specs.Frame.{whole_frame}
 use Rattle.block.proofs.Blocks.{eight, look_10, look_6, look_at, stands_at}
-use borrow.Author.Rules.{rules}
 use Rattle.block.proofs.look.Goals as goal
 use Rattle.block.proofs.look.Lts
 use Rattle.block.proofs.look.Reads
@@ -15,19 +13,19 @@ abbrev Else1 : Type 0
 Else1 = Lts.Else1 tie.the-claims Reads.Pre Reads.Post
 
 whole : (c : Else1) → whole_frame c.args.block.now ≡ true
-whole c = sym c.is_frame.ensures ∙ not-false _ c.if-not-is_frame.false
+whole c = sym c.is_frame.ensures ∙ c.if-not-is_frame.false
 
 pub returns-then-not-is_frame : goal.returns-then-not-is_frame
-returns-then-not-is_frame c = look_10 _ _ _ (sym c.is_frame.ensures ∙ not-true _ c.if-not-is_frame.true)
+returns-then-not-is_frame c = look_10 _ _ _ (sym c.is_frame.ensures ∙ c.if-not-is_frame.true)
 
 pub number-requires : goal.number-requires
 number-requires c = eight _ (whole c.before)
 
 pub fitted-requires : goal.fitted-requires
-fitted-requires c = let s = stands_at _ c.find.ensures c.row-1.given.1 in (whole c.before.before.before.before.before.before, s.inside, s.rules)
+fitted-requires c = let s = stands_at _ c.find.ensures c.in-At.is in (whole c.before.before.before.before, s.inside, s.rules)
 
 pub returns-in-At : goal.returns-in-At
-returns-in-At c = look_at _ _ _ (whole c.before.before.before.before.before.before.before) _ _ c.find.ensures c.number.ensures c.row-1.given.1 c.fitted.ensures
+returns-in-At c = look_at _ _ _ (whole c.before.before.before.before.before) _ _ c.find.ensures c.number.ensures c.in-At.is c.fitted.ensures
 
 pub returns-in-Nothing : goal.returns-in-Nothing
-returns-in-Nothing c = look_6 _ _ _ (whole c.before.before.before.before.before) _ _ c.find.ensures c.number.ensures c.enum_told-1.given.1
+returns-in-Nothing c = look_6 _ _ _ (whole c.before.before.before.before) _ _ c.find.ensures c.number.ensures c.in-Nothing.is

@@ -4,7 +4,7 @@ use Rattle.block.proofs.Blocks.{row_refused, row_at}
 use Rattle.block.proofs.row_of.Goals as goal
 
 pub returns-in-At : goal.returns-in-At
-returns-in-At c = row_at _ _ _ c.look.ensures _ _ c.row-1.given.1
+returns-in-At c = row_at _ _ _ c.look.ensures _ _ c.in-At.is
 
 pub returns-in-Refused : goal.returns-in-Refused
-returns-in-Refused c = row_refused _ _ _ c.look.ensures c.x-1.given.1
+returns-in-Refused c = row_refused _ _ _ c.look.ensures c.in-Refused.is

@@ -15,24 +15,24 @@ pub returns-in-1 : goal.returns-in-1
 unfolding wanted_of bits_for
 returns-in-1 c =
     let a = c.args in
-    rw c.in-1.keys1
+    rw c.in-1.is
     (c.fit_if.ensures ∙ rw c.unsigned_ok.ensures (fit_both (is_unsigned a.kind) (ltb a.e.bits (256 ^ size_of a.kind)) a.e.bits))
 
 pub returns-in-2 : goal.returns-in-2
 unfolding wanted_of bits_for
-returns-in-2 c = rw c.in-2.keys2 c.signed_bits.ensures
+returns-in-2 c = rw c.in-2.is c.signed_bits.ensures
 
 pub returns-in-3 : goal.returns-in-3
 unfolding wanted_of bits_for
 returns-in-3 c =
     let a = c.args in
-    rw c.in-3.keys3 (c.fit_if-in-3.ensures ∙ fit_both (eqb a.kind f4) (ltb a.e.bits (256 ^ 4)) a.e.bits)
+    rw c.in-3.is (c.fit_if-in-3.ensures ∙ fit_both (eqb a.kind f4) (ltb a.e.bits (256 ^ 4)) a.e.bits)
 
 pub returns-in-4 : goal.returns-in-4
 unfolding wanted_of bits_for
 returns-in-4 c =
     let a = c.args in
-    rw (c.in-4.keys4, lt-ltb a.e.bits (256 ^ 8) (omega arith)) (c.fit_if-in-4.ensures ∙ fit_cond (eqb a.kind f8) a.e.bits)
+    rw (c.in-4.is, lt-ltb a.e.bits (256 ^ 8) (omega arith)) (c.fit_if-in-4.ensures ∙ fit_cond (eqb a.kind f8) a.e.bits)
 
 pub returns-in_default : goal.returns-in_default
-returns-in_default c = let r = c.in_default.rest in c.fit_if-in_default.ensures ∙ fit_other _ _ _ r.0.0.0.1 r.0.0.1 r.0.1 r.1
+returns-in_default c = let r = c.in_default.in_default-own.rest in c.fit_if-in_default.ensures ∙ fit_other _ _ _ r.0.0.0.1 r.0.0.1 r.0.1 r.1

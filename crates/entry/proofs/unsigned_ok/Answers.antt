@@ -9,19 +9,19 @@ use Rattle.entry.proofs.unsigned_ok.Goals as goal
 
 pub returns-in-1 : goal.returns-in-1
 unfolding size_of
-returns-in-1 c = rw c.in-1.keys1
+returns-in-1 c = rw c.in-1.is
 
 pub returns-in-2 : goal.returns-in-2
 unfolding size_of
-returns-in-2 c = rw c.in-2.keys2
+returns-in-2 c = rw c.in-2.is
 
 pub returns-in-3 : goal.returns-in-3
 unfolding size_of
-returns-in-3 c = rw c.in-3.keys3
+returns-in-3 c = rw c.in-3.is
 
 pub returns-in-4 : goal.returns-in-4
 unfolding size_of
-returns-in-4 c = rw (c.in-4.keys4, lt-ltb c.args.x (256 ^ 8) (omega arith))
+returns-in-4 c = rw (c.in-4.is, lt-ltb c.args.x (256 ^ 8) (omega arith))
 
 pub returns-in_default : goal.returns-in_default
 returns-in_default c = rw (← outside 1 4 c.args.kind (omega arith))

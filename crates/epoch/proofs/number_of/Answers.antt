@@ -8,4 +8,4 @@ use Rattle.epoch.specs.Ranges.{unsigned_of}
 use Rattle.epoch.proofs.number_of.Goals as goal
 
 pub returns-in-Unsigned : goal.returns-in-Unsigned
-returns-in-Unsigned c = sym (ap (λ (x : Answer). unsigned_of (answerSays x)) (c.a-1.given.1 ∙ ap Field c.v-1.given.1))
+returns-in-Unsigned c = sym (ap (λ (x : Answer). unsigned_of (answerSays x)) (c.in-Field.is ∙ ap Field c.in-Unsigned.is))

@@ -15,29 +15,29 @@ use Rattle.epochs.proofs.range2.Reads
 use Rattle.epochs.proofs.range2.Tie as tie
 
 abbrev AfterEnumTold : Type 0
-AfterEnumTold = Lts.After-enum_told tie.the-claims Reads.Pre Reads.Post
+AfterEnumTold = Lts.Past-After-enum_told tie.the-claims Reads.Pre Reads.Post
 
 free : (e : AfterEnumTold) → ask_refusal e.args.s e.args.in_force.now ≡ none
-free e = sym e.of_ask-c.ensures ∙ ap refusal_of e.enum_told-1.given.1
+free e = sym e.of_ask-c.ensures ∙ ap refusal_of e.in-Passed.is
 
 pub slice_bounds-range2-end : goal.slice_bounds-range2-end
 slice_bounds-range2-end c =
     let a = c.args in
-    sym (length-take-le _ _ (asked a.s a.in_force.now (free c.before.before)).fits)
+    sym (length-take-le _ _ (asked a.s a.in_force.now (free c.before)).fits)
 
 pub range2-requires : goal.range2-requires
 range2-requires c =
     let a = c.args in
-    (asked a.s a.in_force.now (free c.before.before)).ok
+    (asked a.s a.in_force.now (free c.before)).ok
 
 pub returns-in-Refused : goal.returns-in-Refused
 unfolding range2_of
 returns-in-Refused c =
     let a = c.args in
-    unless_refused_lem (ask_refusal a.s a.in_force.now) c.c-1.given.0.0 (range2_field (decode (table_in_force a.s a.in_force.now)) a.block.now a.k a.m) (sym c.of_ask-c.ensures ∙ ap refusal_of c.c-1.given.1)
+    unless_refused_lem (ask_refusal a.s a.in_force.now) c.in-Refused.PAYLOAD (range2_field (decode (table_in_force a.s a.in_force.now)) a.block.now a.k a.m) (sym c.of_ask-c.ensures ∙ ap refusal_of c.in-Refused.is)
 
 pub returns-in-Passed : goal.returns-in-Passed
 unfolding range2_of
 returns-in-Passed c =
     let a = c.args in
-    unless_none (ask_refusal a.s a.in_force.now) (range2_field (decode (table_in_force a.s a.in_force.now)) a.block.now a.k a.m) (free c.before.before.before) c.range2.ensures
+    unless_none (ask_refusal a.s a.in_force.now) (range2_field (decode (table_in_force a.s a.in_force.now)) a.block.now a.k a.m) (free c.before.before) c.range2.ensures

@@ -17,17 +17,17 @@ use Rattle.feed.proofs.feed.Reads
 use Rattle.feed.proofs.feed.Tie as tie
 
 abbrev AfterScan : Type 0
-AfterScan = Lts.After-scan tie.the-claims Reads.Pre Reads.Post
+AfterScan = Lts.After-scan tie.the-claims Reads.Pre Reads.Post tie.handed_clauses
 
 abbrev Start : Type 0
-Start = Lts.Start tie.the-claims Reads.Pre Reads.Post
+Start = Lts.Start tie.the-claims Reads.Pre Reads.Post tie.handed_clauses
 
 pub slice_bounds-scan-end-2 : goal.slice_bounds-scan-end-2
 slice_bounds-scan-end-2 c =
     sym (length-take-le c.lesser-t.result c.args.piece.now (omega arith))
 
 abbrev entry : AfterScan → Start
-entry s = s.before.before.before.before.before.before.before
+entry s = s.before.before.before.before.before
 
 front : (s : AfterScan) → (entry s).args.standing ≤ (entry s).args.held
 front s = (entry s).requires.1
@@ -84,10 +84,4 @@ returns c =
     let t = takes c.before.before.before.before.before.before in
     let l = adds c.before.before.before.before.before.before in
     let f = held_few c.before.before.before.before.before.before in
-    let w = whole a.ceiling a.hold.now a.held a.standing a.piece.now a.room (front c.before.before.before.before.before.before) (fits c.before.before.before.before.before.before) c.scan-found.result (came c.before.before.before.before.before.before) in (
-      numbers_are a.ceiling a.hold.now a.held a.standing a.piece.now a.room (front c.before.before.before.before.before.before) (fits c.before.before.before.before.before.before) c.scan-found.result (came c.before.before.before.before.before.before),
-      (
-        kept a.ceiling a.hold.now a.held a.standing a.piece.now a.room (front c.before.before.before.before.before.before) (fits c.before.before.before.before.before.before) c.scan-found.result (came c.before.before.before.before.before.before) c.keep.ensures,
-        record { front = omega (arith, l, w); few = omega (arith, l, f); taken = t },
-      ),
-    )
+    let w = whole a.ceiling a.hold.now a.held a.standing a.piece.now a.room (front c.before.before.before.before.before.before) (fits c.before.before.before.before.before.before) c.scan-found.result (came c.before.before.before.before.before.before) in record { value = numbers_are a.ceiling a.hold.now a.held a.standing a.piece.now a.room (front c.before.before.before.before.before.before) (fits c.before.before.before.before.before.before) c.scan-found.result (came c.before.before.before.before.before.before); hold_after = kept a.ceiling a.hold.now a.held a.standing a.piece.now a.room (front c.before.before.before.before.before.before) (fits c.before.before.before.before.before.before) c.scan-found.result (came c.before.before.before.before.before.before) c.keep.ensures; good_numbers = record { front = omega (arith, l, w); few = omega (arith, l, f); taken = t } }

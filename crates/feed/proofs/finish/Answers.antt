@@ -16,13 +16,13 @@ use Rattle.feed.proofs.finish.Reads
 use Rattle.feed.proofs.finish.Tie as tie
 
 abbrev AfterLast : Type 0
-AfterLast = Lts.After-last tie.the-claims Reads.Pre Reads.Post
+AfterLast = Lts.After-last tie.the-claims Reads.Pre Reads.Post tie.handed_clauses
 
 abbrev Start : Type 0
-Start = Lts.Start tie.the-claims Reads.Pre Reads.Post
+Start = Lts.Start tie.the-claims Reads.Pre Reads.Post tie.handed_clauses
 
 abbrev entry : AfterLast → Start
-entry s = s.before.before.before.before
+entry s = s.before.before.before
 
 front : (s : AfterLast) → (entry s).args.standing ≤ (entry s).args.held
 front s = (entry s).requires.0
@@ -50,10 +50,4 @@ pub returns : goal.returns
 returns c =
     let a = (entry c.before.before.before.before.before.before).args in
     let f = few c.before.before.before.before.before.before in
-    let g = end_front a.ceiling a.hold.now a.held a.standing (front c.before.before.before.before.before.before) (fits c.before.before.before.before.before.before) c.last-found.result (came c.before.before.before.before.before.before) in (
-      end_told a.ceiling a.hold.now a.held a.standing (front c.before.before.before.before.before.before) (fits c.before.before.before.before.before.before) c.last-found.result (came c.before.before.before.before.before.before),
-      (
-        end_kept a.ceiling a.hold.now a.held a.standing (front c.before.before.before.before.before.before) (fits c.before.before.before.before.before.before) c.last-found.result (came c.before.before.before.before.before.before) c.move_down.ensures,
-        record { front = g; few = omega (arith, (entry c.before.before.before.before.before.before).requires); taken = omega arith },
-      ),
-    )
+    let g = end_front a.ceiling a.hold.now a.held a.standing (front c.before.before.before.before.before.before) (fits c.before.before.before.before.before.before) c.last-found.result (came c.before.before.before.before.before.before) in record { value = end_told a.ceiling a.hold.now a.held a.standing (front c.before.before.before.before.before.before) (fits c.before.before.before.before.before.before) c.last-found.result (came c.before.before.before.before.before.before); hold_after = end_kept a.ceiling a.hold.now a.held a.standing (front c.before.before.before.before.before.before) (fits c.before.before.before.before.before.before) c.last-found.result (came c.before.before.before.before.before.before) c.move_down.ensures; good_numbers = record { front = g; few = omega (arith, (entry c.before.before.before.before.before.before).requires); taken = omega arith } }

@@ -11,5 +11,5 @@ returns c =
     let a = c.args in
     let s = drop a.from a.hold.now in
     c.copy_in-2.ensures
-    ∙ paste_same a.hold.now a.to (drop 0 c.copy_in.new.0) (drop a.from a.hold.now) a.k
+    ∙ paste_same a.hold.now a.to (drop 0 c.copy_in.new.out) (drop a.from a.hold.now) a.k
     (ap (take a.k) c.copy_in.ensures ∙ paste_front a.buf.now (drop a.from a.hold.now) a.k (omega (arith, length-drop a.from a.hold.now)))

@@ -3,7 +3,7 @@
 use Rattle.play.proofs.settings_by.Goals as goal
 
 pub returns-in-Absent : goal.returns-in-Absent
-returns-in-Absent c = rw c.enum_told-1.given.1 c.default_settings.ensures
+returns-in-Absent c = rw c.in-Absent.is c.default_settings.ensures
 
 pub returns-in-Given : goal.returns-in-Given
-returns-in-Given c = rw c.word-1.given.1
+returns-in-Given c = rw c.in-Given.is

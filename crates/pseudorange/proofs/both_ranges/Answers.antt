@@ -20,6 +20,6 @@ returns c =
     let a = c.args in
     a_second a.misc a.code a.offsets a.lsb
     (sym (ap₂ (λ (x y : Bool). x || y) c.no_first.ensures c.no_offset.ensures) ∙ c.if-no_first-no_offset.false)
-    (to_z-of_z w64 _ (record { sfits = c.second_range.type-inv })
+    (to_z-of_z w64 _ (record { sfits = c.second_range.type_inv })
     ∙ c.second_range.ensures
     ∙ ap (λ (n : ℕ). second_range n a.offsets a.lsb) c.first_range.ensures.0)

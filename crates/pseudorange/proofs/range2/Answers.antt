@@ -7,13 +7,13 @@ use Rattle.pseudorange.proofs.range2.Goals as goal
 pub both_ranges-requires : goal.both_ranges-requires
 both_ranges-requires c =
     let h = c.requires in
-    (subst (PairBelow 4294967296) c.p-1.given.1 h.0, subst (PairBelow 65536) c.q-1.given.1 h.1)
+    (subst (PairBelow 4294967296) c.in-Both.is h.0, subst (PairBelow 65536) c.in-Both-q.is h.1)
 
 pub returns-in-Both-q : goal.returns-in-Both-q
-returns-in-Both-q c = rw (c.p-1.given.1, c.q-1.given.1) c.both_ranges.ensures
+returns-in-Both-q c = rw (c.in-Both.is, c.in-Both-q.is) c.both_ranges.ensures
 
 pub returns-in-Not-q : goal.returns-in-Not-q
-returns-in-Not-q c = rw (c.p-1.given.1, c.enum_told-1.given.1) (record { says = refl; case = refl })
+returns-in-Not-q c = rw (c.in-Both.is, c.in-Not-q.is) (record { says = refl; case = refl })
 
 pub returns-in-Not : goal.returns-in-Not
-returns-in-Not c = rw c.enum_told-in-Not-1.given.1 (record { says = refl; case = refl })
+returns-in-Not c = rw c.in-Not.is (record { says = refl; case = refl })

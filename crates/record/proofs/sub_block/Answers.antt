@@ -8,11 +8,8 @@ use Rattle.record.proofs.Parts.{part_at}
 use Rattle.record.proofs.sub_block.Goals as goal
 
 pub part-requires : goal.part-requires
-part-requires c = c.sub_place-p.ensures.1.1
+part-requires c = c.sub_place-p.ensures.size_in_bounds
 
 pub returns : goal.returns
 returns c =
-    let place = c.sub_place-p.ensures.1.0 in (
-      c.part.ensures.0.0 ∙ ap (sub_slice _) place ∙ part_at _ _ _,
-      c.part.ensures.1 ∙ ap (λ (s : Span). offset_by c.args.block.ptr s.at) place,
-    )
+    let place = c.sub_place-p.ensures.span_value in record { result_value = c.part.ensures.result_value.0 ∙ ap (sub_slice _) place ∙ part_at _ _ _; ref_ptr_value = c.part.ensures.ref_ptr_value ∙ ap (λ (s : Span). offset_by c.args.block.ref_ptr s.at) place }

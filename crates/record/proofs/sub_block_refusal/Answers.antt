@@ -3,4 +3,4 @@
 use Rattle.record.proofs.sub_block_refusal.Goals as goal
 
 pub returns : goal.returns
-returns c = c.sub_place-p.ensures.0
+returns c = c.sub_place-p.ensures.handed_value

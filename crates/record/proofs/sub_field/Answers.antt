@@ -6,37 +6,37 @@ use Rattle.record.proofs.Calls.{sub_fine, first_within, sub_refused, sub_9, sub_
 use Rattle.record.proofs.sub_field.Goals as goal
 
 pub overflow_add-start : goal.overflow_add-start
-overflow_add-start c = omega (arith, (sub_fine _ _ _ c.sub_row_of.ensures c.row-1.given.1).inside)
+overflow_add-start c = omega (arith, (sub_fine _ _ _ c.sub_row_of.ensures c.in-At.is).inside)
 
 pub returns-then-count-j : goal.returns-then-count-j
 returns-then-count-j c =
-    sub_9 _ _ _ c.sub_row_of.ensures _ _ c.row-1.given.1 _ c.first_count-count.ensures c.if-count-j.true
+    sub_9 _ _ _ c.sub_row_of.ensures _ _ c.in-At.is _ c.first_count-count.ensures c.if-count-j.true
 
 pub overflow_add-start-in-At : goal.overflow_add-start-in-At
 overflow_add-start-in-At c =
-    omega (arith, (passed _ c.requires).file.most, sub_in c.args.table.now _ _ c.sub_row_of.ensures c.row-1.given.0.0 _ c.row-1.given.1 _ c.first_count-count.ensures c.if-count-j.false)
+    omega (arith, (passed _ c.requires).file.most, sub_in c.args.table.now _ _ c.sub_row_of.ensures c.in-At.row _ c.in-At.is _ c.first_count-count.ensures c.if-count-j.false)
 
 pub field_at-f-requires : goal.field_at-f-requires
 field_at-f-requires c =
-    sub_in _ _ _ c.sub_row_of.ensures _ _ c.row-1.given.1 _ c.first_count-count.ensures (omega arith)
+    sub_in _ _ _ c.sub_row_of.ensures _ _ c.in-At.is _ c.first_count-count.ensures (omega arith)
 
 pub revision-revision-requires : goal.revision-revision-requires
 revision-revision-requires c =
-    omega (arith, (sub_fine _ _ _ c.sub_row_of.ensures c.row-1.given.1).long)
+    omega (arith, (sub_fine _ _ _ c.sub_row_of.ensures c.in-At.is).long)
 
 pub part-requires : goal.part-requires
 part-requires c =
-    first_within _ _ _ c.sub_row_of.ensures _ _ c.row-1.given.1
+    first_within _ _ _ c.sub_row_of.ensures _ _ c.in-At.is
 
 pub field_said-requires : goal.field_said-requires
 field_said-requires c =
-    sub_ends _ _ _ c.sub_row_of.ensures _ _ c.row-1.given.1 _ c.first_count-count.ensures c.if-count-j.false
-    c.field_at-f.ensures.0 c.revision-revision.ensures c.part.ensures.0.1
+    sub_ends _ _ _ c.sub_row_of.ensures _ _ c.in-At.is _ c.first_count-count.ensures c.if-count-j.false
+    c.field_at-f.ensures.0 c.revision-revision.ensures c.part.ensures.result_value.1
 
 pub returns-else-count-j : goal.returns-else-count-j
 returns-else-count-j c =
-    sub_says _ _ _ c.sub_row_of.ensures _ _ c.row-1.given.1 _ c.first_count-count.ensures c.if-count-j.false
-    c.field_at-f.ensures.0 c.revision-revision.ensures c.part.ensures.0.0 c.field_said.ensures
+    sub_says _ _ _ c.sub_row_of.ensures _ _ c.in-At.is _ c.first_count-count.ensures c.if-count-j.false
+    c.field_at-f.ensures.0 c.revision-revision.ensures c.part.ensures.result_value.0 c.field_said.ensures
 
 pub returns-in-Refused : goal.returns-in-Refused
-returns-in-Refused c = sub_refused _ _ _ c.sub_row_of.ensures _ c.x-1.given.1
+returns-in-Refused c = sub_refused _ _ _ c.sub_row_of.ensures _ c.in-Refused.is

@@ -7,11 +7,11 @@ use Rattle.record.proofs.sub_place.Goals as goal
 pub returns-in-At : goal.returns-in-At
 returns-in-At c =
     let d = c.sub_row_of.ensures in
-    let h = c.nest-1.given.1 in
-    (twin_given _ _ _ d h, (place_given _ _ _ d h, first_within _ _ _ d _ _ h))
+    let h = c.in-At.is in
+    record { handed_value = twin_given _ _ _ d h; span_value = place_given _ _ _ d h; size_in_bounds = first_within _ _ _ d _ _ h }
 
 pub returns-in-Refused : goal.returns-in-Refused
 returns-in-Refused c =
     let d = c.sub_row_of.ensures in
-    let h = c.x-1.given.1 in
-    (twin_refused _ _ _ d h, (place_refused _ _ _ d h, omega arith))
+    let h = c.in-Refused.is in
+    record { handed_value = twin_refused _ _ _ d h; span_value = place_refused _ _ _ d h; size_in_bounds = omega arith }

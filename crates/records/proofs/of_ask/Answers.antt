@@ -60,9 +60,9 @@ slice_bounds-check-end c =
 pub returns-in-Version : goal.returns-in-Version
 unfolding ask_refusal
 returns-in-Version c =
-    simp (long c.before.before.before.before.before.before, lt-ltb 0 _ (some_in c.before.before.before.before.before), (version_passes _ c.check-c.ensures c.enum_told-1.given.1).0)
+    simp (long c.before.before.before.before.before, lt-ltb 0 _ (some_in c.before.before.before.before), (version_passes _ c.check-c.ensures c.in-Version.is).0)
 
 pub returns-in-Broken : goal.returns-in-Broken
 unfolding ask_refusal
 returns-in-Broken c =
-    simp (long c.before.before.before.before.before.before, lt-ltb 0 _ (some_in c.before.before.before.before.before), broken_breaks _ c.check-c.ensures c.enum_told-in-Broken-1.given.1)
+    simp (long c.before.before.before.before.before, lt-ltb 0 _ (some_in c.before.before.before.before), broken_breaks _ c.check-c.ensures c.in-Broken.is)

@@ -20,20 +20,20 @@ use Rattle.records.proofs.sub_bytes.Reads
 use Rattle.records.proofs.sub_bytes.Tie as tie
 
 abbrev AfterEnumTold2 : Type 0
-AfterEnumTold2 = Lts.After-enum_told2 tie.the-claims Reads.Pre Reads.Post
+AfterEnumTold2 = Lts.Past-After-enum_told2 tie.the-claims Reads.Pre Reads.Post
 
 free : (e : AfterEnumTold2) → ask_refusal e.args.s e.args.in_force.now ≡ none
-free e = sym e.of_ask-c.ensures ∙ ap refusal_of e.enum_told-in-Passed-1.given.1
+free e = sym e.of_ask-c.ensures ∙ ap refusal_of e.in-Passed.is
 
 pub slice_bounds-sub_block-end : goal.slice_bounds-sub_block-end
 slice_bounds-sub_block-end c =
     let a = c.args in
-    sym (length-take-le _ _ (asked a.s a.in_force.now (free c.before.before)).fits)
+    sym (length-take-le _ _ (asked a.s a.in_force.now (free c.before)).fits)
 
 pub sub_block-requires : goal.sub_block-requires
 sub_block-requires c =
     let a = c.args in
-    (asked a.s a.in_force.now (free c.before.before)).ok
+    (asked a.s a.in_force.now (free c.before)).ok
 
 -- what is handed back, and where it stands, by what was asked before
 module _ (s : State) (force block : List ℕ) (k : ℕ) where
@@ -53,12 +53,12 @@ none_of b n = refl
 pub returns-in-Refused : goal.returns-in-Refused
 returns-in-Refused c =
     let a = c.args in
-    let refused = sym c.of_ask-c.ensures ∙ ap refusal_of c.enum_told-1.given.1 in
+    let refused = sym c.of_ask-c.ensures ∙ ap refusal_of c.in-Refused.is in
     (c.part.ensures.0.0 ∙ none_of a.block.now _ ∙ bytes_by a.s a.in_force.now a.block.now a.k refused, c.part.ensures.1 ∙ ap (λ (x : Span). offset_by a.block.ref_ptr x.at) (place_by_lem a.s a.in_force.now a.block.now a.k refused))
 
 pub returns-in-Passed : goal.returns-in-Passed
 returns-in-Passed c =
     let a = c.args in (
-      c.sub_block.ensures.0 ∙ bytes_by a.s a.in_force.now a.block.now a.k (free c.before.before.before),
-      c.sub_block.ensures.1 ∙ ap (λ (x : Span). offset_by a.block.ref_ptr x.at) (place_by_lem a.s a.in_force.now a.block.now a.k (free c.before.before.before)),
+      c.sub_block.ensures.0 ∙ bytes_by a.s a.in_force.now a.block.now a.k (free c.before.before),
+      c.sub_block.ensures.1 ∙ ap (λ (x : Span). offset_by a.block.ref_ptr x.at) (place_by_lem a.s a.in_force.now a.block.now a.k (free c.before.before)),
     )

@@ -15,29 +15,29 @@ use Rattle.records.proofs.sub_bytes_refused.Reads
 use Rattle.records.proofs.sub_bytes_refused.Tie as tie
 
 abbrev AfterEnumTold : Type 0
-AfterEnumTold = Lts.After-enum_told tie.the-claims Reads.Pre Reads.Post
+AfterEnumTold = Lts.Past-After-enum_told tie.the-claims Reads.Pre Reads.Post
 
 free : (e : AfterEnumTold) → ask_refusal e.args.s e.args.in_force.now ≡ none
-free e = sym e.of_ask-c.ensures ∙ ap refusal_of e.enum_told-1.given.1
+free e = sym e.of_ask-c.ensures ∙ ap refusal_of e.in-Passed.is
 
 pub slice_bounds-sub_block_refusal-end : goal.slice_bounds-sub_block_refusal-end
 slice_bounds-sub_block_refusal-end c =
     let a = c.args in
-    sym (length-take-le _ _ (asked a.s a.in_force.now (free c.before.before)).fits)
+    sym (length-take-le _ _ (asked a.s a.in_force.now (free c.before)).fits)
 
 pub sub_block_refusal-requires : goal.sub_block_refusal-requires
 sub_block_refusal-requires c =
     let a = c.args in
-    (asked a.s a.in_force.now (free c.before.before)).ok
+    (asked a.s a.in_force.now (free c.before)).ok
 
 pub returns-in-Refused : goal.returns-in-Refused
 unfolding sub_bytes_refusal
 returns-in-Refused c =
     let a = c.args in
-    sym (ap (λ (x : Option ℕ). first_of x (sub_block_refusal (decode (table_in_force a.s a.in_force.now)) a.block.now a.k)) (sym c.of_ask-c.ensures ∙ ap refusal_of c.c-1.given.1))
+    sym (ap (λ (x : Option ℕ). first_of x (sub_block_refusal (decode (table_in_force a.s a.in_force.now)) a.block.now a.k)) (sym c.of_ask-c.ensures ∙ ap refusal_of c.in-Refused.is))
 
 pub returns-in-Passed : goal.returns-in-Passed
 unfolding sub_bytes_refusal
 returns-in-Passed c =
     let a = c.args in
-    c.sub_block_refusal.ensures ∙ sym (ap (λ (x : Option ℕ). first_of x (sub_block_refusal (decode (table_in_force a.s a.in_force.now)) a.block.now a.k)) (free c.before.before.before))
+    c.sub_block_refusal.ensures ∙ sym (ap (λ (x : Option ℕ). first_of x (sub_block_refusal (decode (table_in_force a.s a.in_force.now)) a.block.now a.k)) (free c.before.before))

@@ -16,27 +16,27 @@ use Rattle.records.proofs.sub_place.Reads
 use Rattle.records.proofs.sub_place.Tie as tie
 
 abbrev AfterEnumTold : Type 0
-AfterEnumTold = Lts.After-enum_told tie.the-claims Reads.Pre Reads.Post
+AfterEnumTold = Lts.Past-After-enum_told tie.the-claims Reads.Pre Reads.Post
 
 free : (e : AfterEnumTold) → ask_refusal e.args.s e.args.in_force.now ≡ none
-free e = sym e.of_ask-c.ensures ∙ ap refusal_of e.enum_told-1.given.1
+free e = sym e.of_ask-c.ensures ∙ ap refusal_of e.in-Passed.is
 
 pub slice_bounds-sub_place-end : goal.slice_bounds-sub_place-end
 slice_bounds-sub_place-end c =
     let a = c.args in
-    sym (length-take-le _ _ (asked a.s a.in_force.now (free c.before.before)).fits)
+    sym (length-take-le _ _ (asked a.s a.in_force.now (free c.before)).fits)
 
 pub sub_place-requires : goal.sub_place-requires
 sub_place-requires c =
     let a = c.args in
-    (asked a.s a.in_force.now (free c.before.before)).ok
+    (asked a.s a.in_force.now (free c.before)).ok
 
 pub returns-in-Refused : goal.returns-in-Refused
 unfolding sub_bytes_refusal sub_place_of
 returns-in-Refused c =
     let a = c.args in
     let tab = decode (table_in_force a.s a.in_force.now) in
-    let r = sym c.of_ask-c.ensures ∙ ap refusal_of c.c-1.given.1 in (
+    let r = sym c.of_ask-c.ensures ∙ ap refusal_of c.in-Refused.is in (
       sym (ap (λ (x : Option ℕ). first_of x (sub_block_refusal tab a.block.now a.k)) r),
       (sym (ap (λ (x : Option ℕ). place_unless x (sub_place tab a.block.now a.k)) r), omega arith),
     )
@@ -47,6 +47,6 @@ returns-in-Passed c =
     let a = c.args in
     let tab = decode (table_in_force a.s a.in_force.now) in
     let p = c.sub_place.ensures in (
-      p.0 ∙ sym (ap (λ (x : Option ℕ). first_of x (sub_block_refusal tab a.block.now a.k)) (free c.before.before.before)),
-      (p.1.0 ∙ sym (ap (λ (x : Option ℕ). place_unless x (sub_place tab a.block.now a.k)) (free c.before.before.before)), p.1.1),
+      p.0 ∙ sym (ap (λ (x : Option ℕ). first_of x (sub_block_refusal tab a.block.now a.k)) (free c.before.before)),
+      (p.1.0 ∙ sym (ap (λ (x : Option ℕ). place_unless x (sub_place tab a.block.now a.k)) (free c.before.before)), p.1.1),
     )

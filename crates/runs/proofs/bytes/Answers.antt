@@ -20,10 +20,10 @@ use Rattle.runs.proofs.bytes.Reads
 use Rattle.runs.proofs.bytes.Tie as tie
 
 abbrev AfterEnumTold2 : Type 0
-AfterEnumTold2 = Lts.After-enum_told2 tie.the-claims Reads.Pre Reads.Post
+AfterEnumTold2 = Lts.Past-After-enum_told2 tie.the-claims Reads.Pre Reads.Post
 
 free : (e : AfterEnumTold2) → bytes_refusal e.args.s e.args.hold.now ≡ none
-free e = sym (e.of_bytes-c.ensures _ refl) ∙ ap refusal_of e.enum_told-in-Passed-1.given.1
+free e = sym (e.of_bytes-c.ensures _ refl) ∙ ap refusal_of e.in-Passed.is
 
 pub part-requires-in-Passed : goal.part-requires-in-Passed
 unfolding bytes_refusal
@@ -43,7 +43,7 @@ module _ (s : State) (hold : List ℕ) where
 pub returns-in-Refused : goal.returns-in-Refused
 returns-in-Refused c =
     let a = c.args in
-    let refused = sym (c.of_bytes-c.ensures _ refl) ∙ ap refusal_of c.enum_told-1.given.1 in
+    let refused = sym (c.of_bytes-c.ensures _ refl) ∙ ap refusal_of c.in-Refused.is in
     (c.part.ensures.0.0 ∙ bytes_by a.s a.hold.now refused, c.part.ensures.1 ∙ at_start a.hold.ref_ptr)
 
 pub returns-in-Passed : goal.returns-in-Passed

@@ -9,14 +9,14 @@ use Rattle.reader.proofs.Accepted.{is_refused, is_done}
 use Rattle.runs.proofs.feed.Goals as goal
 
 pub feed_on-requires : goal.feed_on-requires
-feed_on-requires c = sym (c.of_feed-c.ensures _ refl) ∙ ap refusal_of c.enum_told-1.given.1
+feed_on-requires c = sym (c.of_feed-c.ensures _ refl) ∙ ap refusal_of c.in-Passed.is
 
 pub returns-in-Refused : goal.returns-in-Refused
 unfolding feed_of
 returns-in-Refused c =
     let a = c.args in
-    is_refused a.s a.hold.now (feeding_by (feeding_of a.s a.hold.now a.piece.now) a.s a.hold.now) (feed_refusal a.s a.hold.now a.piece.now) (number_for c.c-1.given.0.0)
-    (sym (c.of_feed-c.ensures _ refl) ∙ ap refusal_of c.c-1.given.1)
+    is_refused a.s a.hold.now (feeding_by (feeding_of a.s a.hold.now a.piece.now) a.s a.hold.now) (feed_refusal a.s a.hold.now a.piece.now) (number_for c.in-Refused.PAYLOAD)
+    (sym (c.of_feed-c.ensures _ refl) ∙ ap refusal_of c.in-Refused.is)
 
 pub returns-in-Passed : goal.returns-in-Passed
 unfolding feed_of
@@ -24,4 +24,4 @@ returns-in-Passed c =
     let a = c.args in
     c.feed_on.ensures
     ∙ is_done a.s a.hold.now (feeding_by (feeding_of a.s a.hold.now a.piece.now) a.s a.hold.now) (feed_refusal a.s a.hold.now a.piece.now)
-    (sym (c.of_feed-c.ensures _ refl) ∙ ap refusal_of c.enum_told-1.given.1)
+    (sym (c.of_feed-c.ensures _ refl) ∙ ap refusal_of c.in-Passed.is)

@@ -55,7 +55,7 @@ numbers : (d : AfterFeed) → d.feed-f.result ≡ numbers_of (meaning d)
 unfolding feeding_of
 numbers d = d.feed-f.ensures.0
 
-left : (d : AfterFeed) → d.feed-f.new.1.0 ≡ hold_of (meaning d) (entry d).args.hold.now
+left : (d : AfterFeed) → d.feed-f.new.hold ≡ hold_of (meaning d) (entry d).args.hold.now
 unfolding feeding_of
 left d = d.feed-f.ensures.1.0
 
@@ -66,7 +66,7 @@ whole d = fed_whole _ _ _ _
 good : (d : AfterFeed) → GoodNumbers d.feed-f.result (min (limit - (entry d).args.s.run.counts.taken) (length (entry d).args.piece.now))
 good d = d.feed-f.ensures.1.1
 
-long_left : (d : AfterFeed) → length (entry d).args.hold.now ≤ length d.feed-f.new.1.0
+long_left : (d : AfterFeed) → length (entry d).args.hold.now ≤ length d.feed-f.new.hold
 long_left d =
     let F = meaning d in
     omega (arith, ap length (left d) ∙ length-append (meaning d).held (drop (length (meaning d).held) (entry d).args.hold.now), length-drop (length (meaning d).held) (entry d).args.hold.now)

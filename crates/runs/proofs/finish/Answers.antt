@@ -9,14 +9,14 @@ use Rattle.reader.proofs.Accepted.{is_refused, is_done}
 use Rattle.runs.proofs.finish.Goals as goal
 
 pub finish_on-requires : goal.finish_on-requires
-finish_on-requires c = sym (c.of_finish-c.ensures _ refl) ∙ ap refusal_of c.enum_told-1.given.1
+finish_on-requires c = sym (c.of_finish-c.ensures _ refl) ∙ ap refusal_of c.in-Passed.is
 
 pub returns-in-Refused : goal.returns-in-Refused
 unfolding finish_of
 returns-in-Refused c =
     let a = c.args in
-    is_refused a.s a.hold.now (finishing_by (finishing_of a.s a.hold.now) a.s a.hold.now) (finish_refusal a.s a.hold.now) (number_for c.c-1.given.0.0)
-    (sym (c.of_finish-c.ensures _ refl) ∙ ap refusal_of c.c-1.given.1)
+    is_refused a.s a.hold.now (finishing_by (finishing_of a.s a.hold.now) a.s a.hold.now) (finish_refusal a.s a.hold.now) (number_for c.in-Refused.PAYLOAD)
+    (sym (c.of_finish-c.ensures _ refl) ∙ ap refusal_of c.in-Refused.is)
 
 pub returns-in-Passed : goal.returns-in-Passed
 unfolding finish_of
@@ -24,4 +24,4 @@ returns-in-Passed c =
     let a = c.args in
     c.finish_on.ensures
     ∙ is_done a.s a.hold.now (finishing_by (finishing_of a.s a.hold.now) a.s a.hold.now) (finish_refusal a.s a.hold.now)
-    (sym (c.of_finish-c.ensures _ refl) ∙ ap refusal_of c.enum_told-1.given.1)
+    (sym (c.of_finish-c.ensures _ refl) ∙ ap refusal_of c.in-Passed.is)

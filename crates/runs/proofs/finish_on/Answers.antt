@@ -55,7 +55,7 @@ numbers : (d : AfterFinish) → d.finish-f.result ≡ numbers_of (meaning d)
 unfolding finishing_of
 numbers d = d.finish-f.ensures.0
 
-left : (d : AfterFinish) → d.finish-f.new.1.0 ≡ hold_of (meaning d) (entry d).args.hold.now
+left : (d : AfterFinish) → d.finish-f.new.hold ≡ hold_of (meaning d) (entry d).args.hold.now
 unfolding finishing_of
 left d = d.finish-f.ensures.1.0
 
@@ -63,7 +63,7 @@ whole : (d : AfterFinish) → WholeIf (meaning d).standing (meaning d).held
 unfolding finishing_of
 whole d = end_whole _ _
 
-long_left : (d : AfterFinish) → length (entry d).args.hold.now ≤ length d.finish-f.new.1.0
+long_left : (d : AfterFinish) → length (entry d).args.hold.now ≤ length d.finish-f.new.hold
 long_left d =
     omega (arith, ap length (left d) ∙ length-append (meaning d).held (drop (length (meaning d).held) (entry d).args.hold.now), length-drop (length (meaning d).held) (entry d).args.hold.now)
 

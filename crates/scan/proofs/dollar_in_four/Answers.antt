@@ -5,6 +5,6 @@ use Rattle.scan.proofs.Eights.{none_of_four}
 use Rattle.scan.proofs.dollar_in_four.Goals as goal
 
 pub returns : goal.returns
-returns c =
+returns c f =
     let a = c.args in
     record { from = omega arith; within = c.requires; none = none_of_four a.s.now a.k f }

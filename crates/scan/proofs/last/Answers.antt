@@ -47,17 +47,17 @@ overflow_sub-p c = c.start_from-p.ensures.from
 
 -- the held bytes
 abbrev bytes : AfterStartFrom → List ℕ
-bytes f = f.before.before.before.before.before.before.args.held.now
+bytes f = f.args.held.now
 
 abbrev top_at : AfterStartFrom → ℕ
-top_at f = f.before.before.before.before.before.before.args.ceiling
+top_at f = f.args.ceiling
 
 pub count_no_sync-passed-requires : goal.count_no_sync-passed-requires
 count_no_sync-passed-requires c = omega (arith, c.start_from-p.ensures.from, c.start_from-p.ensures.within)
 
 -- those passed with the places up to the next start
 abbrev past : AfterCountNoSync → Passed
-past n = n.count_no_sync.result
+past n = n.count_no_sync-passed.result
 
 placed : (n : AfterCountNoSync) → (past n).skipped ≡ n.start_from-p.result
 placed n =
@@ -84,7 +84,7 @@ abbrev run : AfterJudgeLast → List ℕ
 run j = bytes (begin j).before
 
 abbrev place : AfterJudgeLast → ℕ
-place j = (begin j).before.start-from.result
+place j = (begin j).before.start_from-p.result
 
 abbrev top : AfterJudgeLast → ℕ
 top j = top_at (begin j).before
@@ -114,35 +114,35 @@ slice_bounds-judge_last-end c = omega (arith, inside c.before)
 pub returns-in-Frame : goal.returns-in-Frame
 returns-in-Frame c =
     c.last_found-in-Frame.ensures
-    ∙ sym (end_frame (top c.before.before.before.before.before) (run c.before.before.before.before.before) (place c.before.before.before.before.before) (past (begin c.before.before.before.before.before)) c.v-1.given.0.0 (inside c.before.before.before.before.before.before.before) (verdict c.before.before.before.before.before c.v-1.given.1))
-    ∙ there (begin c.before.before.before.before.before)
+    ∙ sym (end_frame (top c.before.before.before) (run c.before.before.before) (place c.before.before.before) (past (begin c.before.before.before)) c.in-Frame.n (inside c.before.before.before.before.before) (verdict c.before.before.before c.in-Frame.is))
+    ∙ there (begin c.before.before.before)
 
 pub count-passed-requires : goal.count-passed-requires
-count-passed-requires c = omega (arith, placed (begin c.before.before.before.before), inside c.before.before.before.before.before.before)
+count-passed-requires c = omega (arith, placed (begin c.before.before), inside c.before.before.before.before)
 
 -- one more is passed
-one_more : (c : AfterCount) → c.count-passed.result.skipped ≡ place c.before.before.before.before + 1
+one_more : (c : AfterCount) → c.count-passed.result.skipped ≡ place c.before.before + 1
 one_more c =
-    let n = begin c.before.before.before.before in
+    let n = begin c.before.before in
     let e : c.count-passed.result.skipped ≡ (past n).skipped + 1 = ap (λ (x : Passed). x.skipped) c.count-passed.ensures in
     omega (arith, e, placed n)
 
 pub loop-passed-smaller : goal.loop-passed-smaller
 loop-passed-smaller c =
-    omega (arith, one_more c.before, inside c.before.before.before.before.before.before.before, (begin c.before.before.before.before.before).before.start-from.ensures.from)
+    omega (arith, one_more c.before, inside c.before.before.before.before.before, (begin c.before.before.before).before.start_from-p.ensures.from)
 
 pub loop-passed-preserved : goal.loop-passed-preserved
 loop-passed-preserved c = (
-  omega (arith, one_more c.before, inside c.before.before.before.before.before.before.before),
-  ap (λ (i : ℕ). from_end (top c.before.before.before.before.before) (run c.before.before.before.before.before) i c.count-passed.result) (one_more c.before)
-      ∙ ap (from_end (top c.before.before.before.before.before) (run c.before.before.before.before.before) (place c.before.before.before.before.before + 1)) c.count-passed.ensures
-      ∙ sym (end_pass (top c.before.before.before.before.before) (run c.before.before.before.before.before) (place c.before.before.before.before.before) (past (begin c.before.before.before.before.before)) c.v-in-NoFrame-1.given.0.0 (inside c.before.before.before.before.before.before.before) (verdict c.before.before.before.before.before c.v-in-NoFrame-1.given.1))
-      ∙ there (begin c.before.before.before.before.before),
+  omega (arith, one_more c.before, inside c.before.before.before.before.before),
+  ap (λ (i : ℕ). from_end (top c.before.before.before) (run c.before.before.before) i c.count-passed.result) (one_more c.before)
+      ∙ ap (from_end (top c.before.before.before) (run c.before.before.before) (place c.before.before.before + 1)) c.count-passed.ensures
+      ∙ sym (end_pass (top c.before.before.before) (run c.before.before.before) (place c.before.before.before) (past (begin c.before.before.before)) c.in-NoFrame.why (inside c.before.before.before.before.before) (verdict c.before.before.before c.in-NoFrame.is))
+      ∙ there (begin c.before.before.before),
 )
 
 pub returns-in-Undecided : goal.returns-in-Undecided
 returns-in-Undecided c =
-    absurd (last_decides (top c.before.before.before.before) (drop (place c.before.before.before.before) (run c.before.before.before.before)) (verdict c.before.before.before.before c.enum_told-1.given.1))
+    absurd (last_decides (top c.before.before.before) (drop (place c.before.before.before) (run c.before.before.before)) (verdict c.before.before.before c.in-Undecided.is))
 
 pub returns : goal.returns
 returns c =

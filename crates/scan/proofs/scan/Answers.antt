@@ -64,49 +64,47 @@ first_kept s e =
     (kept (with_rest (judged a.ceiling) a.piece.now) a.held.now nothing_passed (length a.held.now))
 
 abbrev start : AfterScanPart2 → AfterScanPart
-start t = t.before.before.before.before.before
+start t = t.before.before.before.before
 
 second : (t : AfterScanPart2) {x : Stretch} → t.scan_part-in-Through.result ≡ x → whole (start t) ≡ given (start t) (then_part (judged (entry (start t)).args.ceiling) [] x)
 second t e =
     let s = start t in
-    let b = t.before-1.given in
-    first s b.1
-    ∙ ap (given s) (last_part (judged (entry s).args.ceiling) (entry s).args.piece.now b.0.0 b.0.1.0 ∙ ap (then_part (judged (entry s).args.ceiling) []) (sym t.scan_part-in-Through.ensures ∙ e))
+    first s t.in-Through.is
+    ∙ ap (given s) (last_part (judged (entry s).args.ceiling) (entry s).args.piece.now t.in-Through.before t.in-Through.mark ∙ ap (then_part (judged (entry s).args.ceiling) []) (sym t.scan_part-in-Through.ensures ∙ e))
 
 second_kept : (t : AfterScanPart2) {x : Stretch} → t.scan_part-in-Through.result ≡ x
-    → Kept (t.before-1.given.0.0.skipped + length (entry (start t)).args.piece.now) t.before-1.given.0.1.0 x
+    → Kept (t.in-Through.before.skipped + length (entry (start t)).args.piece.now) t.in-Through.mark x
 second_kept t e =
     let p = (entry (start t)).args.piece.now in
-    let b = t.before-1.given in
-    subst (Kept (b.0.0.skipped + length p) b.0.1.0) (sym t.scan_part-in-Through.ensures ∙ e) (kept (with_rest (judged (entry (start t)).args.ceiling) []) p b.0.0 b.0.1.0)
+    subst (Kept (t.in-Through.before.skipped + length p) t.in-Through.mark) (sym t.scan_part-in-Through.ensures ∙ e) (kept (with_rest (judged (entry (start t)).args.ceiling) []) p t.in-Through.before t.in-Through.mark)
 
 pub scan_part-requires : goal.scan_part-requires
 scan_part-requires c = omega (arith, ap (λ (p : Passed). p.skipped) c.nothing_passed.ensures)
 
--- LEFT: sub-t21 : tie.Need-overflow-sub-t21
--- LEFT: sub-t21 c = omega (arith, first_kept c.before.before.before c.before.passed.given.1)
+pub overflow_sub-result : goal.overflow_sub-result
+overflow_sub-result c = omega (arith, first_kept c.before.before c.in-Block.is)
 
 pub scan_part-requires-in-Through : goal.scan_part-requires-in-Through
 scan_part-requires-in-Through c =
-    let k = first_kept c.before.before.before.before.before c.before-1.given.1 in
+    let k = first_kept c.before.before.before.before c.in-Through.is in
     omega (arith, k.0)
 
 pub overflow_sub-result-in-Block-scan_part : goal.overflow_sub-result-in-Block-scan_part
 overflow_sub-result-in-Block-scan_part c =
-    omega (arith, second_kept c.before.before.before.before c.passed-in-Block-scan_part-2-1.given.1, (first_kept (start c.before.before.before.before) c.before-1.given.1).1)
+    omega (arith, second_kept c.before.before c.in-Block-scan_part.is, (first_kept (start c.before.before) c.in-Through.is).1)
 
 pub returns-in-Block : goal.returns-in-Block
-returns-in-Block c = sym (first c.before.before.before.before c.passed-1.given.1)
+returns-in-Block c = sym (first c.before.before c.in-Block.is)
 
 pub returns-in-Waits : goal.returns-in-Waits
-returns-in-Waits c = sym (first c.before.before.before.before c.passed-in-Waits-1.given.1)
+returns-in-Waits c = sym (first c.before.before c.in-Waits.is)
 
 pub returns-in-Block-scan_part : goal.returns-in-Block-scan_part
-returns-in-Block-scan_part c = sym (second c.before.before.before.before c.passed-in-Block-scan_part-2-1.given.1)
+returns-in-Block-scan_part c = sym (second c.before.before c.in-Block-scan_part.is)
 
 pub returns-in-Waits-scan_part : goal.returns-in-Waits-scan_part
-returns-in-Waits-scan_part c = sym (second c.before.before.before.before c.passed-in-Waits-scan_part-2-1.given.1)
+returns-in-Waits-scan_part c = sym (second c.before.before c.in-Waits-scan_part.is)
 
 pub returns-in-Through-scan_part : goal.returns-in-Through-scan_part
 unfolding settle count_all needed
-returns-in-Through-scan_part c = sym (second c.before.before.before.before c.passed-in-Through-scan_part-2-1.given.1)
+returns-in-Through-scan_part c = sym (second c.before.before c.in-Through-scan_part.is)

@@ -1,5 +1,6 @@
 -- `scan::scan_part` meets its contract. The invariant: the places from k on, with those passed and the present mark, give what the whole part gives.
 -- Assumes nothing.
+use borrow.Enum.Refused.{opened}
 use mathlib.Core.Path.{◌≡◌, refl, sym, ap, ap₂, ◌∙◌, subst}
 use mathlib.Core.List.{List, ◌++◌}
 use Prim.Native.Nat.{ℕ, ◌≤◌, ◌<◌, ◌+◌, ◌-◌}
@@ -42,7 +43,7 @@ abbrev AfterCount : Type 0
 AfterCount = Lts.After-count tie.the-claims Reads.Pre Reads.Post goal.the-invariant-loop-k goal.the-decreases-loop-k
 
 abbrev AfterWhy : Type 0
-AfterWhy = Lts.After-why tie.the-claims Reads.Pre Reads.Post goal.the-invariant-loop-k goal.the-decreases-loop-k
+AfterWhy = Lts.Past-After-known_told3 tie.the-claims Reads.Pre Reads.Post goal.the-invariant-loop-k goal.the-decreases-loop-k
 
 pub loop-k-init : goal.loop-k-init
 loop-k-init c = (omega arith, omega arith, refl)
@@ -62,7 +63,7 @@ count_no_sync-passed-requires c =
 
 -- those passed with the places up to the next start
 abbrev past : AfterCountNoSync → Passed
-past n = n.count_no_sync.result
+past n = n.count_no_sync-passed.result
 
 placed : (n : AfterCountNoSync) → (past n).skipped ≡ (entry n.before).args.before.skipped + n.start_from-p.result
 placed n =
@@ -99,7 +100,7 @@ abbrev begin : AfterJudge → AfterStartFrom
 begin j = (counted j).before
 
 abbrev place : AfterJudge → ℕ
-place j = (begin j).start-from.result
+place j = (begin j).start_from-p.result
 
 -- the run from the place on
 abbrev run : AfterJudge → List ℕ
@@ -149,30 +150,29 @@ pub slice_bounds-judge-end : goal.slice_bounds-judge-end
 slice_bounds-judge-end c = omega (arith, inside c.before)
 
 pub overflow_add-place : goal.overflow_add-place
-overflow_add-place c = omega (arith, end_fits c.before.before.before.before c.v-1.given.0.0 (fits c.before.before.before.before c.v-1.given.1))
+overflow_add-place c = omega (arith, end_fits c.before.before c.in-Frame.n (fits c.before.before c.in-Frame.is))
 
 pub returns-in-Frame : goal.returns-in-Frame
 returns-in-Frame c =
-    let a = (entry (begin c.before.before.before.before.before)).args in
-    let v = c.v-1 in
-    ap (Block (past (counted c.before.before.before.before.before)) v.given.0.0) c.greater.ensures
+    let a = (entry (begin c.before.before.before)).args in
+    ap (Block (past (counted c.before.before.before)) c.in-Frame.n) c.greater.ensures
     ∙ sym
-    (part_frame a.ceiling a.s.now a.rest.now (place c.before.before.before.before.before) (past (counted c.before.before.before.before.before)) (begin c.before.before.before.before.before).before.before.loop.m v.given.0.0 (inside c.before.before.before.before.before.before.before) (verdict c.before.before.before.before.before v.given.1))
-    ∙ there (counted c.before.before.before.before.before)
+    (part_frame a.ceiling a.s.now a.rest.now (place c.before.before.before) (past (counted c.before.before.before)) (begin c.before.before.before).before.before.loop-k.m c.in-Frame.n (inside c.before.before.before.before.before) (verdict c.before.before.before c.in-Frame.is))
+    ∙ there (counted c.before.before.before)
 
 pub returns-in-Undecided : goal.returns-in-Undecided
 returns-in-Undecided c =
-    let a = (entry (begin c.before.before.before)).args in
+    let a = (entry (begin c.before.before)).args in
     sym
-    (part-waits a.ceiling a.s.now a.rest.now (place c.before.before.before) (past (counted c.before.before.before)) (begin c.before.before.before).before.before.loop.m (inside c.before.before.before.before.before) (verdict c.before.before.before c.enum_told-1.given.1))
-    ∙ there (counted c.before.before.before)
+    (part-waits a.ceiling a.s.now a.rest.now (place c.before.before) (past (counted c.before.before)) (begin c.before.before).before.before.loop-k.m (inside c.before.before.before.before) (verdict c.before.before c.in-Undecided.is))
+    ∙ there (counted c.before.before)
 
 pub count-passed-requires : goal.count-passed-requires
-count-passed-requires c = place_fits c.before.before.before.before
+count-passed-requires c = place_fits c.before.before
 
 -- the place and its verdict, where one more is passed
 abbrev at : AfterCount → AfterJudge
-at q = q.before.before.before.before
+at q = q.before.before
 
 one_more : (q : AfterCount) → q.count-passed.result.skipped ≡ (entry (begin (at q))).args.before.skipped + (place (at q) + 1)
 one_more q =
@@ -181,35 +181,35 @@ one_more q =
     omega (arith, e, placed n)
 
 -- no frame stands at the place, for this reason
-reasoned : (w : AfterWhy) → judged (top (at w.before.before)) (run (at w.before.before)) ≡ NoFrame (CrcWrong w.why-1.given.0.0)
+reasoned : (w : AfterWhy) → judged (top (at w.before)) (run (at w.before)) ≡ NoFrame (CrcWrong w.in-CrcWrong.n)
 reasoned w =
-    verdict (at w.before.before) (w.v-in-NoFrame-1.given.1 ∙ ap NoFrame w.why-1.given.1)
+    verdict (at w.before) (w.in-NoFrame.is ∙ ap NoFrame w.in-CrcWrong.is)
 
 pub overflow_add-place-in-CrcWrong : goal.overflow_add-place-in-CrcWrong
 overflow_add-place-in-CrcWrong c =
-    let j = at c.before.before.before.before in
-    let t : There c.why-1.given.0.0 (run j) = subst (Fits (run j)) (reasoned c.before.before) ((judging (top j)).fits (run j)) in
-    omega (arith, end_fits j c.why-1.given.0.0 t)
+    let j = at c.before.before in
+    let t : There c.in-CrcWrong.n (run j) = subst (Fits (run j)) (reasoned c.before) ((judging (top j)).fits (run j)) in
+    omega (arith, end_fits j c.in-CrcWrong.n t)
 
 pub overflow_add-k : goal.overflow_add-k
-overflow_add-k c = let j = at c.before.before.before.before.before in omega (arith, inside j.before.before, bound (begin j))
+overflow_add-k c = let j = at c.before.before.before in omega (arith, inside j.before.before, bound (begin j))
 
 pub loop-k-smaller-in-CrcWrong : goal.loop-k-smaller-in-CrcWrong
 loop-k-smaller-in-CrcWrong c =
-    let j = at c.before.before.before.before.before in
-    omega (arith, inside j.before.before, (begin j).start-from.ensures.from)
+    let j = at c.before.before.before in
+    omega (arith, inside j.before.before, (begin j).start_from-p.ensures.from)
 
 pub loop-k-preserved-in-CrcWrong : goal.loop-k-preserved-in-CrcWrong
 loop-k-preserved-in-CrcWrong c =
-    let j = at c.before.before.before.before.before in
+    let j = at c.before.before.before in
     let a = (entry (begin j)).args in
-    let m = (begin j).before.before.loop.m in
+    let m = (begin j).before.before.loop-k.m in
     let e : 1 + place j ≡ place j + 1 = omega arith in (
       omega (arith, inside j.before.before),
-      omega (arith, one_more c.before.before.before.before.before),
+      omega (arith, one_more c.before.before.before),
       ap (λ (i : ℕ). from_here (begin j) i c.count-passed.result c.greater-m.result) e
-          ∙ ap₂ (from_here (begin j) (place j + 1)) (c.count-passed.ensures ∙ ap (count (past (counted j))) c.why-1.given.1) c.greater-m.ensures
-          ∙ sym (part_pass a.ceiling a.s.now a.rest.now (place j) (past (counted j)) m (CrcWrong c.why-1.given.0.0) (inside j.before.before) (reasoned c.before.before.before))
+          ∙ ap₂ (from_here (begin j) (place j + 1)) (c.count-passed.ensures ∙ ap (count (past (counted j))) c.in-CrcWrong.is) c.greater-m.ensures
+          ∙ sym (part_pass a.ceiling a.s.now a.rest.now (place j) (past (counted j)) m (CrcWrong c.in-CrcWrong.n) (inside j.before.before) (reasoned c.before.before))
           ∙ there (counted j),
     )
 
@@ -219,18 +219,17 @@ overflow_add-k-in_default c = let j = at c.before.before in omega (arith, inside
 pub loop-k-smaller : goal.loop-k-smaller
 loop-k-smaller c =
     let j = at c.before.before in
-    omega (arith, inside j.before.before, (begin j).start-from.ensures.from)
+    omega (arith, inside j.before.before, (begin j).start_from-p.ensures.from)
 
 pub loop-k-preserved : goal.loop-k-preserved
 loop-k-preserved c =
     let j = at c.before.before in
     let a = (entry (begin j)).args in
-    let m = (begin j).before.before.loop.m in
-    let v = c.v-in-NoFrame-1 in (
+    let m = (begin j).before.before.loop-k.m in (
       omega (arith, inside j.before.before),
       one_more c.before.before,
-      ap₂ (from_here (begin j) (place j + 1)) c.count-passed.ensures (sym (no_mark v.given.0.0 c.in_default.keys2 (past (counted j)).skipped m))
-          ∙ sym (part_pass a.ceiling a.s.now a.rest.now (place j) (past (counted j)) m v.given.0.0 (inside j.before.before) (verdict j v.given.1))
+      ap₂ (from_here (begin j) (place j + 1)) c.count-passed.ensures (sym (no_mark c.in-NoFrame.why (opened c.in_default.in_default-own.keys2) (past (counted j)).skipped m))
+          ∙ sym (part_pass a.ceiling a.s.now a.rest.now (place j) (past (counted j)) m c.in-NoFrame.why (inside j.before.before) (verdict j c.in-NoFrame.is))
           ∙ there (counted j),
     )
 

@@ -25,8 +25,8 @@ returns-then-not-is_sound-waiting c = sym (stage_one _ _ _ (one c.before.before 
 
 pub returns-in-Version : goal.returns-in-Version
 returns-in-Version c =
-    sym (stage-table _ _ _ (one c.before.before.before.before.before.before (not-false _ c.if-not-is_sound-waiting.false)) ∙ check_version_lem _ c.check-c.ensures c.c-1.given.1)
+    sym (stage-table _ _ _ (one c.before.before.before.before (not-false _ c.if-not-is_sound-waiting.false)) ∙ check_version_lem _ c.check-c.ensures c.in-Version.is)
 
 pub returns-in-Broken : goal.returns-in-Broken
 returns-in-Broken c =
-    sym (stage-table _ _ _ (one c.before.before.before.before.before (not-false _ c.if-not-is_sound-waiting.false)) ∙ check_broken _ c.check-c.ensures c.enum_told-1.given.1)
+    sym (stage-table _ _ _ (one c.before.before.before.before (not-false _ c.if-not-is_sound-waiting.false)) ∙ check_broken _ c.check-c.ensures c.in-Broken.is)

@@ -27,7 +27,7 @@ abbrev Start : Type 0
 Start = Lts.Start tie.the-claims Reads.Pre Reads.Post
 
 abbrev entry : AfterOfOpen → Start
-entry m = m.before.before.before.before
+entry m = m.before.before.before
 
 free : (m : AfterOfOpen) {v : ℕ} → m.of_open-a.result ≡ Version v → open_refusal (entry m).args.s (entry m).args.settings (entry m).args.in_force.now (entry m).args.waiting.now ≡ none
 unfolding open_of
@@ -48,39 +48,37 @@ done m e =
 
 pub copy_in-requires : goal.copy_in-requires
 copy_in-requires c =
-    let p = passed c.before.before.before.before.before.before c.a-in-Version-1.given.1 in
+    let p = passed c.before.before.before.before c.in-Version.is in
     (omega (arith, p.facts.waiting, p.long_force), omega (arith, p.facts.waiting, p.long_wait))
 
 pub returns-then-w-gt0 : goal.returns-then-w-gt0
 returns-then-w-gt0 c =
-    let a = (entry c.before.before.before.before.before.before.before.before.before.before).args in
-    let v = c.a-in-Version-1.given in
-    let p = passed c.before.before.before.before.before.before.before.before.before.before v.1 in
+    let a = (entry c.before.before.before.before.before.before.before.before).args in
+    let p = passed c.before.before.before.before.before.before.before.before c.in-Version.is in
     let l = lt-ltb 0 a.s.waiting c.if-w-gt0.true in
     let q = c.open_state.ensures in
-    same_outcome (sym (ap saidOpened v.1) ∙ c.of_open-a.ensures ∙ ap (λ (x : Outcome). x.said) (done c.before.before.before.before.before.before.before.before.before.before v.1))
+    same_outcome (sym (ap saidOpened c.in-Version.is) ∙ c.of_open-a.ensures ∙ ap (λ (x : Outcome). x.said) (done c.before.before.before.before.before.before.before.before c.in-Version.is))
     (same_state c.open_state.result q.0 q.1 q.2
     ∙ sym (ap (λ (b : Bool). record { run = fresh_run a.settings; in_force = cond b a.s.waiting a.s.in_force; waiting = 0 }) l))
     (c.copy_in.ensures ∙ copied a.in_force.now a.waiting.now a.s.waiting (omega (arith, p.facts.waiting, p.long_wait))
     ∙ sym (ap (λ (b : Bool). cond b (over (take a.s.waiting a.waiting.now) a.in_force.now) a.in_force.now) l))
-    ∙ sym (done c.before.before.before.before.before.before.before.before.before.before v.1)
+    ∙ sym (done c.before.before.before.before.before.before.before.before c.in-Version.is)
 
 pub returns-in-Refused : goal.returns-in-Refused
 unfolding open_of
 returns-in-Refused c =
-    let a = (entry c.before.before.before.before).args in
+    let a = (entry c.before.before).args in
     sym
-    (refused_by_lem a.s a.in_force.now (opening a.s a.settings a.in_force.now a.waiting.now) (open_refusal a.s a.settings a.in_force.now a.waiting.now) (number_for c.a-1.given.0.0) refl
-    (sym c.of_open-a.ensures ∙ ap saidOpened c.a-1.given.1))
+    (refused_by_lem a.s a.in_force.now (opening a.s a.settings a.in_force.now a.waiting.now) (open_refusal a.s a.settings a.in_force.now a.waiting.now) (number_for c.in-Refused.PAYLOAD) refl
+    (sym c.of_open-a.ensures ∙ ap saidOpened c.in-Refused.is))
 
 pub returns-else-w-gt0 : goal.returns-else-w-gt0
 returns-else-w-gt0 c =
-    let a = (entry c.before.before.before.before.before.before).args in
-    let v = c.a-in-Version-1.given in
+    let a = (entry c.before.before.before.before).args in
     let l = le-ltb 0 a.s.waiting c.if-w-gt0.false in
     let q = c.open_state-in-Version.ensures in
-    same_outcome (sym (ap saidOpened v.1) ∙ c.of_open-a.ensures ∙ ap (λ (x : Outcome). x.said) (done c.before.before.before.before.before.before v.1))
+    same_outcome (sym (ap saidOpened c.in-Version.is) ∙ c.of_open-a.ensures ∙ ap (λ (x : Outcome). x.said) (done c.before.before.before.before c.in-Version.is))
     (same_state c.open_state-in-Version.result q.0 q.1 q.2
     ∙ sym (ap (λ (b : Bool). record { run = fresh_run a.settings; in_force = cond b a.s.waiting a.s.in_force; waiting = 0 }) l))
     (sym (ap (λ (b : Bool). cond b (over (take a.s.waiting a.waiting.now) a.in_force.now) a.in_force.now) l))
-    ∙ sym (done c.before.before.before.before.before.before v.1)
+    ∙ sym (done c.before.before.before.before c.in-Version.is)

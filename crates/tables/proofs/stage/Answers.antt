@@ -28,7 +28,7 @@ abbrev Start : Type 0
 Start = Lts.Start tie.the-claims Reads.Pre Reads.Post
 
 abbrev entry : AfterOfStage → Start
-entry m = m.before.before.before.before
+entry m = m.before.before.before
 
 free : (m : AfterOfStage) {v : ℕ} → m.of_stage-a.result ≡ Version v → stage_refusal (entry m).args.s (entry m).args.waiting.now (entry m).args.t.now ≡ none
 unfolding stage_of
@@ -51,23 +51,22 @@ done m e =
 
 pub copy_in-requires : goal.copy_in-requires
 copy_in-requires c =
-    let p = passed c.before.before.before.before.before c.a-in-Version-1.given.1 in
+    let p = passed c.before.before.before c.in-Version.is in
     (omega (arith, p.0, p.1), omega arith)
 
 pub returns-in-Refused : goal.returns-in-Refused
 unfolding stage_of
 returns-in-Refused c =
-    let a = (entry c.before.before.before.before).args in
+    let a = (entry c.before.before).args in
     sym
-    (refused_by_lem a.s a.waiting.now (staging a.s a.waiting.now a.t.now) (stage_refusal a.s a.waiting.now a.t.now) (number_for c.a-1.given.0.0) refl
-    (sym c.of_stage-a.ensures ∙ ap said_staged c.a-1.given.1))
+    (refused_by_lem a.s a.waiting.now (staging a.s a.waiting.now a.t.now) (stage_refusal a.s a.waiting.now a.t.now) (number_for c.in-Refused.PAYLOAD) refl
+    (sym c.of_stage-a.ensures ∙ ap said_staged c.in-Refused.is))
 
 pub returns-in-Version : goal.returns-in-Version
 returns-in-Version c =
-    let a = (entry c.before.before.before.before.before.before.before.before.before).args in
-    let v = c.a-in-Version-1.given in
-    same_outcome (sym (ap said_staged v.1) ∙ c.of_stage-a.ensures ∙ ap (λ (x : Outcome). x.said) (done c.before.before.before.before.before.before.before.before.before v.1))
+    let a = (entry c.before.before.before.before.before.before.before).args in
+    same_outcome (sym (ap said_staged c.in-Version.is) ∙ c.of_stage-a.ensures ∙ ap (λ (x : Outcome). x.said) (done c.before.before.before.before.before.before.before c.in-Version.is))
     refl
     (c.copy_in.ensures ∙ copied a.waiting.now a.t.now (length a.t.now) (omega arith)
     ∙ ap (λ (x : List ℕ). over x a.waiting.now) (take-length a.t.now))
-    ∙ sym (done c.before.before.before.before.before.before.before.before.before v.1)
+    ∙ sym (done c.before.before.before.before.before.before.before c.in-Version.is)

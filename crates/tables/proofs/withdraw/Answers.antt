@@ -11,11 +11,11 @@ use Rattle.tables.proofs.withdraw.Goals as goal
 pub returns-in-Refused : goal.returns-in-Refused
 unfolding withdraw_of withdraw_refusal
 returns-in-Refused c =
-    is_refused c.args.s [] (withdrawing c.args.s) (withdraw_refusal c.args.s) (number_for c.c-1.given.0.0)
-    (sym c.of_state-c.ensures ∙ ap refusal_of c.c-1.given.1)
+    is_refused c.args.s [] (withdrawing c.args.s) (withdraw_refusal c.args.s) (number_for c.in-Refused.PAYLOAD)
+    (sym c.of_state-c.ensures ∙ ap refusal_of c.in-Refused.is)
 
 pub returns-in-Passed : goal.returns-in-Passed
 unfolding withdraw_of withdraw_refusal
 returns-in-Passed c =
     is_done c.args.s [] (withdrawing c.args.s) (withdraw_refusal c.args.s)
-    (sym c.of_state-c.ensures ∙ ap refusal_of c.enum_told-1.given.1)
+    (sym c.of_state-c.ensures ∙ ap refusal_of c.in-Passed.is)

@@ -7,4 +7,4 @@ returns c =
     let first = c.byte_or_0-first.ensures in
     let size = c.byte_or_0-size.ensures in
     let count = c.byte_or_0-count.ensures in
-    (rw (first.0, size.0, count.0), (first.1, count.1, size.1))
+    record { value = rw (first.0, size.0, count.0); size_bound = (first.1, count.1, size.1) }

@@ -13,23 +13,23 @@ use Rattle.writes.proofs.write.Reads
 use Rattle.writes.proofs.write.Tie as tie
 
 abbrev AfterEnumTold : Type 0
-AfterEnumTold = Lts.After-enum_told tie.the-claims Reads.Pre Reads.Post
+AfterEnumTold = Lts.Past-After-enum_told tie.the-claims Reads.Pre Reads.Post
 
 free : (e : AfterEnumTold) → ask_refusal e.args.s e.args.in_force.now ≡ none
-free e = sym e.of_ask-c.ensures ∙ ap refusal_of e.enum_told-1.given.1
+free e = sym e.of_ask-c.ensures ∙ ap refusal_of e.in-Passed.is
 
 pub slice_bounds-write-end : goal.slice_bounds-write-end
 slice_bounds-write-end c =
     let a = c.args in
-    sym (length-take-le _ _ (asked a.s a.in_force.now (free c.before.before)).fits)
+    sym (length-take-le _ _ (asked a.s a.in_force.now (free c.before)).fits)
 
 pub write-requires : goal.write-requires
 write-requires c =
     let a = c.args in
-    (asked a.s a.in_force.now (free c.before.before.before)).ok
+    (asked a.s a.in_force.now (free c.before.before)).ok
 
 pub returns-in-Refused : goal.returns-in-Refused
-returns-in-Refused c = write_refused_lem _ _ _ _ (sym c.of_ask-c.ensures ∙ ap refusal_of c.c-1.given.1)
+returns-in-Refused c = write_refused_lem _ _ _ _ (sym c.of_ask-c.ensures ∙ ap refusal_of c.in-Refused.is)
 
 pub returns-in-Passed : goal.returns-in-Passed
-returns-in-Passed c = write_asked _ _ _ _ (free c.before.before.before.before.before.before) c.write.ensures
+returns-in-Passed c = write_asked _ _ _ _ (free c.before.before.before.before.before) c.write.ensures

@@ -24,9 +24,9 @@ returns-in-Refused c =
     let force = a.in_force.now in
     let block = a.block.now in
     let t = c.state_of-t.result in
-    let r = sym c.sub_place-p.ensures.0 ∙ ap handed_says c.h-1.given.1 in
+    let r = sym c.sub_place-p.ensures.0 ∙ ap handed_says c.in-Refused.is in
     handing.hands_none (λ (t : State). sub_bytes_refusal t force block a.k) (λ (t : State). (sub_place_of t force block a.k).at) (λ (t : State). sub_bytes_of t force block a.k) block
-    (λ (t : State) (e : sound t ≡ false). sub_bytes_one t e force block a.k) (state_of a.s) t (number_for c.h-1.given.0.0) c.state_of-t.ensures r
+    (λ (t : State) (e : sound t ≡ false). sub_bytes_one t e force block a.k) (state_of a.s) t (number_for c.in-Refused.PAYLOAD) c.state_of-t.ensures r
     (sub_bytes_empty t force block a.k _ r) c.no_part.ensures
 
 pub returns-in-Given : goal.returns-in-Given
@@ -36,7 +36,7 @@ returns-in-Given c =
     let force = a.in_force.now in
     let block = a.block.now in
     let t = c.state_of-t.result in
-    let r = sym c.sub_place-p.ensures.0 ∙ ap handed_says c.enum_told-1.given.1 in
+    let r = sym c.sub_place-p.ensures.0 ∙ ap handed_says c.in-Given.is in
     let p = c.sub_place-p.ensures.1 in
     handing.hands_it (λ (t : State). sub_bytes_refusal t force block a.k) (λ (t : State). (sub_place_of t force block a.k).at) (λ (t : State). sub_bytes_of t force block a.k) block
     (λ (t : State) (e : sound t ≡ false). sub_bytes_one t e force block a.k) (state_of a.s) t (sub_place_of t force block a.k).size c.state_of-t.ensures r

@@ -10,9 +10,9 @@ use Rattle.cform.specs.Answer.{tell, field_c}
 use Rattle.cform.proofs.fields.field_c.Goals as goal
 
 pub value_c-requires : goal.value_c-requires
-value_c-requires c = subst (λ (x : Answer). T (no_nan_in x)) c.a-1.given.1 c.requires
+value_c-requires c = subst (λ (x : Answer). T (no_nan_in x)) c.in-Field.is c.requires
 
 pub returns-in-Refused : goal.returns-in-Refused
 returns-in-Refused c =
     c.tell_c.ensures ∙ ap (λ (n : ℕ). tell n 0 0 (pos 0) 0) c.number.ensures
-    ∙ sym (ap (λ (x : Answer). field_c (answerSays x)) c.a-in-Refused-1.given.1)
+    ∙ sym (ap (λ (x : Answer). field_c (answerSays x)) c.in-Refused.is)

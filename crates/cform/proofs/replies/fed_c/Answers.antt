@@ -7,10 +7,10 @@ use Rattle.cform.specs.Answer.{answer_c}
 use Rattle.cform.proofs.replies.fed_c.Goals as goal
 
 pub returns-in-Block : goal.returns-in-Block
-returns-in-Block c = c.block_c.ensures ∙ sym (ap (λ (x : Fed). answer_c (saidFed x)) c.a-1.given.1)
+returns-in-Block c = c.block_c.ensures ∙ sym (ap (λ (x : Fed). answer_c (saidFed x)) c.in-Block.is)
 
 pub returns-in-More : goal.returns-in-More
-returns-in-More c = c.no_block.ensures ∙ sym (ap (λ (x : Fed). answer_c (saidFed x)) c.a-in-More-1.given.1)
+returns-in-More c = c.no_block.ensures ∙ sym (ap (λ (x : Fed). answer_c (saidFed x)) c.in-More.is)
 
 pub returns-in-Refused : goal.returns-in-Refused
-returns-in-Refused c = c.refused_c.ensures ∙ sym (ap (λ (x : Fed). answer_c (saidFed x)) c.a-in-Refused-1.given.1)
+returns-in-Refused c = c.refused_c.ensures ∙ sym (ap (λ (x : Fed). answer_c (saidFed x)) c.in-Refused.is)

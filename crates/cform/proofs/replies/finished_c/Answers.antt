@@ -7,10 +7,10 @@ use Rattle.cform.specs.Answer.{answer_c}
 use Rattle.cform.proofs.replies.finished_c.Goals as goal
 
 pub returns-in-Block : goal.returns-in-Block
-returns-in-Block c = c.block_c.ensures ∙ sym (ap (λ (x : Finished). answer_c (said_finished x)) c.a-1.given.1)
+returns-in-Block c = c.block_c.ensures ∙ sym (ap (λ (x : Finished). answer_c (said_finished x)) c.in-Block.is)
 
 pub returns-in-End : goal.returns-in-End
-returns-in-End c = c.at_end.ensures ∙ sym (ap (λ (x : Finished). answer_c (said_finished x)) c.a-in-End-1.given.1)
+returns-in-End c = c.at_end.ensures ∙ sym (ap (λ (x : Finished). answer_c (said_finished x)) c.in-End.is)
 
 pub returns-in-Refused : goal.returns-in-Refused
-returns-in-Refused c = c.refused_c.ensures ∙ sym (ap (λ (x : Finished). answer_c (said_finished x)) c.a-in-Refused-1.given.1)
+returns-in-Refused c = c.refused_c.ensures ∙ sym (ap (λ (x : Finished). answer_c (said_finished x)) c.in-Refused.is)

@@ -7,7 +7,7 @@ use Rattle.cform.specs.Answer.{answer_c}
 use Rattle.cform.proofs.replies.opened_c.Goals as goal
 
 pub returns-in-Version : goal.returns-in-Version
-returns-in-Version c = c.no_block.ensures ∙ sym (ap (λ (x : Opened). answer_c (saidOpened x)) c.a-1.given.1)
+returns-in-Version c = c.no_block.ensures ∙ sym (ap (λ (x : Opened). answer_c (saidOpened x)) c.in-Version.is)
 
 pub returns-in-Refused : goal.returns-in-Refused
-returns-in-Refused c = c.refused_c.ensures ∙ sym (ap (λ (x : Opened). answer_c (saidOpened x)) c.a-in-Refused-1.given.1)
+returns-in-Refused c = c.refused_c.ensures ∙ sym (ap (λ (x : Opened). answer_c (saidOpened x)) c.in-Refused.is)

@@ -7,7 +7,7 @@ use Rattle.cform.specs.Answer.{answer_c}
 use Rattle.cform.proofs.replies.withdrawn_c.Goals as goal
 
 pub returns-in-Waited : goal.returns-in-Waited
-returns-in-Waited c = c.whether_waited.ensures ∙ sym (ap (λ (x : Withdrawn). answer_c (said_withdrawn x)) c.a-1.given.1)
+returns-in-Waited c = c.whether_waited.ensures ∙ sym (ap (λ (x : Withdrawn). answer_c (said_withdrawn x)) c.in-Waited.is)
 
 pub returns-in-Refused : goal.returns-in-Refused
-returns-in-Refused c = c.refused_c.ensures ∙ sym (ap (λ (x : Withdrawn). answer_c (said_withdrawn x)) c.a-in-Refused-1.given.1)
+returns-in-Refused c = c.refused_c.ensures ∙ sym (ap (λ (x : Withdrawn). answer_c (said_withdrawn x)) c.in-Refused.is)

@@ -3,10 +3,10 @@
 use Rattle.play.proofs.replies.finished.Goals as goal
 
 pub returns-in-Block : goal.returns-in-Block
-returns-in-Block c = rw c.a-1.given.1
+returns-in-Block c = rw c.in-Block.is
 
 pub returns-in-End : goal.returns-in-End
-returns-in-End c = rw c.a-in-End-1.given.1
+returns-in-End c = rw c.in-End.is
 
 pub returns-in-Refused : goal.returns-in-Refused
-returns-in-Refused c = rw c.a-in-Refused-1.given.1
+returns-in-Refused c = rw c.in-Refused.is

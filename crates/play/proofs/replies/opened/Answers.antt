@@ -4,7 +4,7 @@ use mathlib.Core.Path.{refl}
 use Rattle.play.proofs.replies.opened.Goals as goal
 
 pub returns-in-Version : goal.returns-in-Version
-returns-in-Version c = (rw c.a-1.given.1, refl)
+returns-in-Version c = (rw c.in-Version.is, refl)
 
 pub returns-in-Refused : goal.returns-in-Refused
-returns-in-Refused c = (rw c.a-in-Refused-1.given.1, refl)
+returns-in-Refused c = (rw c.in-Refused.is, refl)

@@ -3,7 +3,7 @@
 use Rattle.play.proofs.replies.withdrawn.Goals as goal
 
 pub returns-in-Waited : goal.returns-in-Waited
-returns-in-Waited c = rw c.a-1.given.1
+returns-in-Waited c = rw c.in-Waited.is
 
 pub returns-in-Refused : goal.returns-in-Refused
-returns-in-Refused c = rw c.a-in-Refused-1.given.1
+returns-in-Refused c = rw c.in-Refused.is

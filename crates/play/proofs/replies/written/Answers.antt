@@ -4,7 +4,7 @@ use mathlib.Core.Path.{refl}
 use Rattle.play.proofs.replies.written.Goals as goal
 
 pub returns-in-Length : goal.returns-in-Length
-returns-in-Length c = (tt, (rw c.a-1.given.1, refl))
+returns-in-Length c = (tt, (rw c.in-Length.is, refl))
 
 pub returns-in-Refused : goal.returns-in-Refused
-returns-in-Refused c = (tt, (rw c.a-in-Refused-1.given.1, refl))
+returns-in-Refused c = (tt, (rw c.in-Refused.is, refl))

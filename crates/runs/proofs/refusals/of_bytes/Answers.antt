@@ -17,12 +17,12 @@ asked s n = sound s && leb 65536 n
 
 pub returns-then-may_call : goal.returns-then-may_call
 unfolding bytes_refusal
-returns-then-may_call c =
+returns-then-may_call c v e =
     let s = c.args.s in
     sym (ap (λ (x : Bool). need x 1 none) (ap (asked s) e ∙ sym c.may_call.ensures ∙ c.if-may_call.true))
 
 pub returns-else-may_call : goal.returns-else-may_call
 unfolding bytes_refusal
-returns-else-may_call c =
+returns-else-may_call c v e =
     let s = c.args.s in
     sym (ap (λ (x : Bool). need x 1 none) (ap (asked s) e ∙ sym c.may_call.ensures ∙ c.if-may_call.false))

@@ -74,19 +74,19 @@ gives s hold = is_some (settle (judged (ceiling_of s)) (rest_of hold s.run.held 
 
 pub returns-then-not-may_call : goal.returns-then-not-may_call
 unfolding feed_refusal
-returns-then-not-may_call c =
+returns-then-not-may_call c v same =
     let a = c.args in
     at_1 (safe a.s a.hold.now) _ (sym c.may_call.ensures ∙ not-true _ c.if-not-may_call.true)
 
 pub returns-then-not-is_feeding : goal.returns-then-not-is_feeding
 unfolding feed_refusal
-returns-then-not-is_feeding c =
+returns-then-not-is_feeding c v same =
     let a = c.args in
     at_2 (safe a.s a.hold.now) (is_feeding a.s.run.phase) _ (long c.before.before.before.before) (sym c.is_feeding.ensures ∙ not-true _ c.if-not-is_feeding.true)
 
 pub returns-then-run-piece : goal.returns-then-run-piece
 unfolding feed_refusal
-returns-then-run-piece c =
+returns-then-run-piece c v same =
     let a = c.args in
     at_3 (safe a.s a.hold.now) (is_feeding a.s.run.phase) _ true (long c.before.before.before.before.before.before) (fed c.before.before.before)
     (also (may a.s) (gives a.s a.hold.now) v a.piece same (open_or (may a.s) (empty a.piece) (gives a.s a.hold.now) c.if-run-piece.true))
@@ -99,14 +99,14 @@ gives_block-requires c =
 
 pub returns-then-gives_block : goal.returns-then-gives_block
 unfolding feed_refusal
-returns-then-gives_block c =
+returns-then-gives_block c v same =
     let a = c.args in
     at_3 (safe a.s a.hold.now) (is_feeding a.s.run.phase) _ true (long c.before.before.before.before.before.before.before.before.before) (fed c.before.before.before.before.before.before)
     (also (may a.s) (gives a.s a.hold.now) v a.piece same (full_or (may a.s) (empty a.piece) (gives a.s a.hold.now) c.if-run-piece.false ∙ sym c.gives_block.ensures ∙ c.if-gives_block.true))
 
 pub returns-else-gives_block : goal.returns-else-gives_block
 unfolding feed_refusal
-returns-else-gives_block c =
+returns-else-gives_block c v same =
     let a = c.args in
     at_3 (safe a.s a.hold.now) (is_feeding a.s.run.phase) _ false (long c.before.before.before.before.before.before.before.before.before) (fed c.before.before.before.before.before.before)
     (also (may a.s) (gives a.s a.hold.now) v a.piece same (full_or (may a.s) (empty a.piece) (gives a.s a.hold.now) c.if-run-piece.false ∙ sym c.gives_block.ensures ∙ c.if-gives_block.false))

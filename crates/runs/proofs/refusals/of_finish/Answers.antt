@@ -26,7 +26,7 @@ asked s n = sound s && leb 65536 n
 
 pub returns-then-not-may_call : goal.returns-then-not-may_call
 unfolding finish_refusal
-returns-then-not-may_call c =
+returns-then-not-may_call c v e =
     let s = c.args.s in
     sym (ap (λ (x : Bool). need x 1 (need (not (is_closed s.run.phase)) 2 none)) (ap (asked s) e ∙ sym c.may_call.ensures ∙ not-true _ c.if-not-may_call.true))
 
@@ -40,9 +40,9 @@ second s v e f =
     sym (ap (λ (x : Bool). need x 1 (need (not (is_closed s.run.phase)) 2 none)) e ∙ ap (λ (x : Bool). need (not x) 2 none) f)
 
 pub returns-then-is_closed : goal.returns-then-is_closed
-returns-then-is_closed c =
+returns-then-is_closed c v e =
     second c.args.s v (fine c.before.before.before v e) (sym c.is_closed.ensures ∙ c.if-is_closed.true)
 
 pub returns : goal.returns
-returns c =
+returns c v e =
     second c.args.s v (fine c.before.before.before v e) (sym c.is_closed.ensures ∙ c.if-is_closed.false)

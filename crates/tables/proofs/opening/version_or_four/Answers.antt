@@ -5,7 +5,7 @@ use Rattle.tables.proofs.Checking.{check_version_lem, check_broken}
 use Rattle.tables.proofs.opening.version_or_four.Goals as goal
 
 pub returns-in-Version : goal.returns-in-Version
-returns-in-Version c = sym (check_version_lem _ c.check-c.ensures c.c-1.given.1)
+returns-in-Version c = sym (check_version_lem _ c.check-c.ensures c.in-Version.is)
 
 pub returns-in-Broken : goal.returns-in-Broken
-returns-in-Broken c = sym (check_broken _ c.check-c.ensures c.enum_told-1.given.1)
+returns-in-Broken c = sym (check_broken _ c.check-c.ensures c.in-Broken.is)
