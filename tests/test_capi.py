@@ -43,10 +43,10 @@ def read(path, mode="r"):
         return f.read()
 
 
-def ran(words, env, data=b""):
+def ran(words, env, data=b"", limit=600):
     """Status, standard output and standard error of a command."""
     try:
-        run = subprocess.run(words, input=data, env=env, cwd=TOP, stdout=subprocess.PIPE, stderr=subprocess.PIPE, timeout=600)
+        run = subprocess.run(words, input=data, env=env, cwd=TOP, stdout=subprocess.PIPE, stderr=subprocess.PIPE, timeout=limit)
     except (OSError, subprocess.TimeoutExpired) as error:
         return 127, b"", str(error).encode()
     return run.returncode, run.stdout, run.stderr
@@ -273,7 +273,7 @@ def script(seed):
 
 def build(env):
     """The archive, and the programs."""
-    status, _, error = ran([os.path.join(TOP, "tools", "capi")], env)
+    status, _, error = ran([os.path.join(TOP, "tools", "capi")], env, limit=7200)  # where nothing is proved yet
     if not expect("tools/capi builds the archive", status == 0 and os.path.exists(ARCHIVE), error.decode(errors="replace")[-2000:]):
         return False
     os.makedirs(BUILT, exist_ok=True)
