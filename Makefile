@@ -3,7 +3,7 @@
 #   make install     copies header, archive, a pkg-config file, and the examples with their table, to PREFIX; it builds nothing, and stops
 #                    where the archive is older than what it is made of
 #   make uninstall   removes what make install has copied; give it the same PREFIX
-#   make clean       removes the archive; what is proved, and the programs, stay in target/
+#   make clean       removes the archive; what is proved, and the programs, stay in crates/NAME/out/
 # PREFIX may be relative, but must have no space in it. DESTDIR stands before every path, and in no file.
 PREFIX = /usr/local
 INCLUDEDIR = $(PREFIX)/include
@@ -20,7 +20,7 @@ override DATADIR := $(call absolute,$(DATADIR))
 in_prefix = $(patsubst $(PREFIX)/%,$${prefix}/%,$(1))
 
 # the header, and what the archive is made of, as tools/capi has it
-CRATES = capi $(shell sed -n 's/^capi://p' crates.txt)
+CRATES = capi_c $(shell sed -n 's/^capi_c staticlib://p' crates.txt)
 MADE_OF = include/alderflute.h crates.txt $(foreach name,$(CRATES),$(wildcard $(addprefix crates/$(name)/,src specs proofs)))
 
 all:

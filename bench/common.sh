@@ -15,6 +15,13 @@ need() { # COMMAND:PACKAGE ..
     exit 2
 }
 
+# Has a static library proved and built, and puts the archive where the benchmarks link it.
+archive() { # CRATE ARCHIVE
+    (cd "crates/$1" && ../../tools/quiet rt lib)
+    mkdir -p target/staticlib
+    cp "crates/$1/out/lib$1.a" "target/staticlib/$2"
+}
+
 # Runs an x86-64 program, prints the instructions that it took, and leaves what it wrote in $out/said.
 insns() { # PROGRAM [ARGS ..]
     if ! INSNS=1 tools/x86run "$@" >"$out/said" 2>"$out/count"; then

@@ -1,4 +1,4 @@
-"""What test programs share: cases counted, and programs of target/bin run through tools/x86run and compared with what each has
+"""What test programs share: cases counted, and programs that are built run through tools/x86run and compared with what each has
 to write."""
 import os
 import subprocess
@@ -8,12 +8,17 @@ from concurrent.futures import ThreadPoolExecutor
 TOP = os.path.dirname(os.path.dirname(os.path.abspath(__file__)))
 
 
+def built(name):
+    """Where a program stands that `rt run` or `rt ci` has built, from the top."""
+    return os.path.join("crates", name, "out", name)
+
+
 def kit():
     """The environment with the kit's folder in it, so that rt is asked once and not at each run."""
     env = dict(os.environ)
     if "RATTLE_HOME" not in env:
         guide = subprocess.run(["rt", "doc"], stdout=subprocess.PIPE, text=True, check=True).stdout.strip()
-        env["RATTLE_HOME"] = os.path.dirname(os.path.dirname(guide))
+        env["RATTLE_HOME"] = os.path.dirname(guide)
     return env
 
 
@@ -41,7 +46,7 @@ class Cases:
 
 def told(name, stdin, stdout, env):
     """What a program writes to standard output, where that is a pipe, and to standard error, with these for its own."""
-    ran = subprocess.run([os.path.join(TOP, "tools", "x86run"), os.path.join(TOP, "target", "bin", name)], stdin=stdin,
+    ran = subprocess.run([os.path.join(TOP, "tools", "x86run"), os.path.join(TOP, built(name))], stdin=stdin,
                          stdout=stdout, env=env, stderr=subprocess.PIPE, timeout=60)
     return (ran.stdout or b"").decode(errors="replace"), ran.stderr.decode(errors="replace")
 
@@ -51,7 +56,7 @@ class Program:
 
     def __init__(self, name, judge):
         self.name, self.judge = name, judge
-        self.path = os.path.join(TOP, "target", "bin", name)
+        self.path = os.path.join(TOP, built(name))
         self.env = None
 
     def says(self, data):
@@ -78,7 +83,7 @@ class Program:
         """Runs the cases (name, input, expected output) up to the first difference, then the others (name, a function of
         the environment that says what is wrong), and prints the counts last. Gives the status to exit with."""
         if not os.path.exists(self.path):
-            print(f"there is no target/bin/{self.name}; `rt check {self.name}` makes it\n0 passed, 1 failed")
+            print(f"there is no {built(self.name)}; `rt run` in crates/{self.name} makes it\n0 passed, 1 failed")
             return 1
         self.env = kit()
         passed = 0

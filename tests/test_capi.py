@@ -23,7 +23,7 @@ from programs import TOP
 
 BUILT = os.path.join(TOP, "target", "capi")
 ARCHIVE = os.path.join(TOP, "target", "staticlib", "libalderflute.a")
-REPLAY = os.path.join(TOP, "target", "bin", "replay")
+REPLAY = os.path.join(TOP, programs.built("replay"))
 HEADER = os.path.join(TOP, "include", "alderflute.h")
 EXAMPLE = os.path.join(TOP, "samples", "example.c")
 WRITE = os.path.join(TOP, "samples", "write.c")
@@ -43,10 +43,10 @@ def read(path, mode="r"):
         return f.read()
 
 
-def ran(words, env, data=b""):
+def ran(words, env, data=b"", limit=600):
     """Status, standard output and standard error of a command."""
     try:
-        run = subprocess.run(words, input=data, env=env, cwd=TOP, stdout=subprocess.PIPE, stderr=subprocess.PIPE, timeout=600)
+        run = subprocess.run(words, input=data, env=env, cwd=TOP, stdout=subprocess.PIPE, stderr=subprocess.PIPE, timeout=limit)
     except (OSError, subprocess.TimeoutExpired) as error:
         return 127, b"", str(error).encode()
     return run.returncode, run.stdout, run.stderr
@@ -273,7 +273,7 @@ def script(seed):
 
 def build(env):
     """The archive, and the programs."""
-    status, _, error = ran([os.path.join(TOP, "tools", "capi")], env)
+    status, _, error = ran([os.path.join(TOP, "tools", "capi")], env, limit=7200)  # where nothing is proved yet
     if not expect("tools/capi builds the archive", status == 0 and os.path.exists(ARCHIVE), error.decode(errors="replace")[-2000:]):
         return False
     os.makedirs(BUILT, exist_ok=True)
@@ -292,7 +292,7 @@ def compiled(env, source, program, flags, libraries):
 
 def syntax(env, name, language, standard):
     """What clang says of a C file."""
-    clang = os.path.join(env["RATTLE_HOME"], "on", os.uname().machine, "toolchain", "bin", "clang")
+    clang = os.path.join(env["RATTLE_HOME"], "toolchain", "bin", "clang")
     words = [clang, "--target=x86_64-unknown-linux-gnu", "-x", language, "-std=" + standard, "-fsyntax-only"] + CFLAGS
     status, _, error = ran(words + [name], env)
     return "" if status == 0 else error.decode(errors="replace")
@@ -335,7 +335,7 @@ def header(env):
 
 def exports():
     """The names of the functions that the crate gives to C."""
-    return {name for path in glob.glob(os.path.join(TOP, "crates", "capi", "src", "*.rt"))
+    return {name for path in glob.glob(os.path.join(TOP, "crates", "capi_c", "src", "*.rt"))
             for name in re.findall(r'extern "C" fn (\w+)', read(path))}
 
 
@@ -579,7 +579,7 @@ def difference(a, b):
 
 def scripts(env):
     """The same script through the C interface and through replay."""
-    if not expect("target/bin/replay is there (`rt check replay` makes it)", os.path.exists(REPLAY)):
+    if not expect("crates/replay/out/replay is there (`rt run` in crates/replay makes it)", os.path.exists(REPLAY)):
         return
     given = [(os.path.basename(path), read(path, "rb")) for path in sorted(glob.glob(os.path.join(TOP, "samples", "*.script")))]
     given += [(f"seed {seed}", script(seed)) for seed in SEEDS]

@@ -33,7 +33,7 @@ def sources(crate, kind):
     return "\n".join(read(os.path.relpath(name, TOP)) for name in names)
 
 
-CRATES = [line.split(":")[0].strip() for line in read("crates.txt").splitlines() if ":" in line and not line.startswith("#")]
+CRATES = [line.split(":")[0].split()[0] for line in read("crates.txt").splitlines() if ":" in line and not line.startswith("#")]
 CODE = {crate: sources(crate, "src") for crate in CRATES}
 DOCUMENTS = sorted(os.path.relpath(name, TOP) for folder in ("", "docs") for name in glob.glob(os.path.join(TOP, folder, "*.md")))
 

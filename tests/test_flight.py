@@ -3,7 +3,7 @@
 put and poke, blocks that are written, ceilings; and on those that tools/script writes of recordings.
 
 What is expected is written down here, with the CRCs of the buffers from binascii.crc_hqx(data, 0).
-Needs target/bin/replay, which `rt check` makes. The last line is 'N passed, M failed'.
+Needs crates/replay/out/replay, which `rt run` there or `rt ci` makes. The last line is 'N passed, M failed'.
 """
 import binascii
 import glob
@@ -17,7 +17,7 @@ import tempfile
 import programs
 from programs import TOP
 
-PROGRAM = os.path.join(TOP, "target", "bin", "replay")
+PROGRAM = os.path.join(TOP, programs.built("replay"))
 BLOCK = "2440a98900000800"  # S2: number 0, revision 0, length 8
 LONGEST = 270_000
 
@@ -478,7 +478,7 @@ def played(script, env):
 
 def main():
     if not os.path.exists(PROGRAM):
-        print("test_flight: there is no target/bin/replay; `rt check replay` makes it\n0 passed, 1 failed")
+        print("test_flight: there is no crates/replay/out/replay; `rt run` in crates/replay makes it\n0 passed, 1 failed")
         return 1
     env = programs.kit()
     counted = programs.Cases()

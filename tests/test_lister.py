@@ -192,7 +192,7 @@ def paused(*pieces):
     """A pipe that stays open: the lines of each piece come before the next piece is written, and the last after the end."""
     def wrong(env):
         run, said = b"", ""
-        with subprocess.Popen([os.path.join(TOP, "tools", "x86run"), os.path.join(TOP, "target", "bin", "lister")], bufsize=0,
+        with subprocess.Popen([os.path.join(TOP, "tools", "x86run"), os.path.join(TOP, programs.built("lister"))], bufsize=0,
                               stdin=subprocess.PIPE, stdout=subprocess.PIPE, env=env) as lister:
             for piece in pieces:
                 lister.stdin.write(piece)

@@ -44,8 +44,8 @@ import scripts  # noqa: E402
 
 TOP = programs.TOP
 RUNNER = os.path.join(TOP, "tools", "x86run")
-REPLAY = os.path.join(TOP, "target", "bin", "replay")
-LISTER = os.path.join(TOP, "target", "bin", "lister")
+REPLAY = os.path.join(TOP, programs.built("replay"))
+LISTER = os.path.join(TOP, programs.built("lister"))
 SCRIPTS, RECORDS, LEVELS, CEILINGS, WRITES, RUNS = 220, 110, 40, 30, 60, 20
 LEAST_RECORD_ANSWERS = 20000
 LEAST_WRITTEN = 2500    # blocks
@@ -1169,7 +1169,7 @@ def report(name, stream, number, call, want, got, status):
     lines += ["  model:   %s" % shown(want), "  program: %s" % shown(got),
               "  reproduce, in the top folder:",
               "    %s --seed %s > target/input" % (me, name),
-              "    tools/x86run target/bin/%s < target/input" % program]
+              "    tools/x86run crates/%s/out/%s < target/input" % (program, program)]
     if program == "replay":
         lines.append("    python3 %s < target/input" % os.path.join(
             here, "model", "model.py"))
@@ -2105,7 +2105,7 @@ def test(times):
     start = time.time()
     passed, failed = test_model()
     for path in missing():
-        print("missing, or no program: %s (`rt check` builds the programs)" % path)
+        print("missing, or no program: %s (`rt run` in its crate's folder builds it)" % path)
         failed += 1
     if failed:
         return passed, failed

@@ -95,7 +95,7 @@ def ours():
     CASES.expect("the model's pseudoranges", [line.split(" | ")[0] for line in said.splitlines()] == due, said[-300:])
     program = Program("replay", "the model")
     if not os.path.exists(program.path):
-        print("skipped: there is no target/bin/replay, so the program's pseudoranges are not compared; `rt check replay` makes it")
+        print("skipped: there is no crates/replay/out/replay, so the program's pseudoranges are not compared; `rt run` in crates/replay makes it")
         return
     program.env = kit()
     differs = program.difference(said, program.says(lines))

@@ -329,7 +329,7 @@ def compiles(header, numbers, size, folder):
         f.writelines('_Static_assert(%s == %d, "%s");\n' % (name, n, name) for name, n in numbers.items())
         f.write('_Static_assert(sizeof alderflute_table == %d, "the size");\n' % size)
         f.write("int last(void);\nint last(void) { return alderflute_table[%d]; }\n" % (size - 1))
-    clang = os.path.join(kit()["RATTLE_HOME"], "on", os.uname().machine, "toolchain", "bin", "clang")
+    clang = os.path.join(kit()["RATTLE_HOME"], "toolchain", "bin", "clang")
     said = ""
     for language, standard in (("c", "c11"), ("c++", "c++11")):
         run = subprocess.run([clang, "--target=x86_64-unknown-linux-gnu", "-x", language, "-std=" + standard, "-fsyntax-only", "-Wall",
@@ -475,24 +475,24 @@ def changed_rows():
         lib, constant, rows = (read(os.path.join(crate, name)) for name in ("src/lib.rt", "src/bytes.rt", "specs/Rows.antt"))
         expect("the length of the array that is handed out", "pub fn table() -> [u8; %d]\n" % len(data) in lib and str(size) not in lib)
         expect("the version in the first line", lib.startswith("// The rows shipped, version %d " % (version + 6)), lib[:80])
-        expect("the constant", "[u8; %d]" % len(data) in constant and bytes(int(n, 16) for n in re.findall(r"^    0x(..),", constant, re.M)) == data)
-        expect("the readable list", 'field "Spare" u1 14 0 ones' in rows and "endofatt ∷ myblock ∷ []" in rows and "tableOf %d (" % (version + 6) in rows)
+        expect("the constant", "[u8; %d]" % len(data) in constant and bytes(int(n, 16) for n in re.findall(r"\b0x(..),", constant)) == data)
+        expect("the readable list", 'field "Spare" u1 14 0 ones' in rows and "endofatt ∷ myblock ∷ []" in rows and "table_of %d (" % (version + 6) in rows)
         nest = [[line.split()[1] for line in NEST.split("\n") if line.startswith(word + " ")] for word in ("body", "sub", "sub2")]
-        lists = rows.partition('    twoLevels "MyBlock" 6000 3\n')[2].partition("\n\n")[0].split("[])\n")
+        lists = rows.partition('    two_levels "MyBlock" 6000 3\n')[2].partition("\n\n")[0].split("[])\n")
         expect("two levels in the readable list", [re.findall(r'field "(\w+)"', part) for part in lists] == nest, lists)
         expect("their count of first-level rows in the constant",
-               all("    0x%02x, // %s: first-level rows\n" % row in constant for row in ((2, "MyBlock"), (12, "MeasEpoch"), (0, "EndOfAtt"))))
+               all(" 0x%02x, // %s: first-level rows\n" % row in constant for row in ((2, "MyBlock"), (12, "MeasEpoch"), (0, "EndOfAtt"))))
         expect("all edits apply", "has to once" not in out, out)
         wrong = edited(crate, "wrong/a_number_twice.edit")
-        with_twice = bytes(int(n, 16) for n in re.findall(r"^    0x(..),", wrong["src/bytes.rt"], re.M))
-        numbers = re.findall(r'(?:block|twoLevels) "\w+" (\d+) ', wrong["specs/Rows.antt"])
+        with_twice = bytes(int(n, 16) for n in re.findall(r"\b0x(..),", wrong["src/bytes.rt"]))
+        numbers = re.findall(r'(?:block|two_levels) "\w+" (\d+) ', wrong["specs/Rows.antt"])
         expect("a number twice, with the right CRC", with_twice == closed(with_twice[:-4]) != data and len(set(numbers)) == len(numbers) - 1, numbers)
         twice = show(with_twice, folder)
         expect("a number twice, in the constant too", "T8: block numbers rise" in twice[2], twice)
-        with_index = bytes(int(n, 16) for n in re.findall(r"^    0x(..),", edited(crate, "wrong/another_first_index.edit")["src/bytes.rt"], re.M))
+        with_index = bytes(int(n, 16) for n in re.findall(r"\b0x(..),", edited(crate, "wrong/another_first_index.edit")["src/bytes.rt"]))
         expect("another first index", "T10: the index" in show(closed(with_index[:-4]), folder)[2])
         hand = ("docs/RULES.md", "docs/PROMISES.md", "docs/DECISIONS.md, 9", "README.md", "CHANGELOG.md", "tests/model/model.py",
-                "crates/samples/specs/PppInfo.antt", "bench/baseline_writer.c", "rt check shipped lister samples")
+                "crates/samples/specs/PppInfo.antt", "bench/baseline_writer.c", "crates/shipped, crates/lister and crates/samples")
         expect("what is left is told", all(name in out for name in hand), out)
         expect("nothing is left the second time", tool("rattle", given, crate)[1].endswith("nothing has changed\n"))
         with open(given, "w", encoding="utf-8") as f:

@@ -1,6 +1,6 @@
 #!/usr/bin/env python3
 """tools/: what each ends with and says, on good and on bad input. Most cases run in a copy of tools/ with stand-ins for rt, for
-tools/x86run and for the programs, the others on the programs of target/bin; nothing is proved. Prints 'N passed, M failed'
+tools/x86run and for the programs, the others on the programs that are built; nothing is proved. Prints 'N passed, M failed'
 last; exit status 1 where one failed."""
 import fcntl
 import os
@@ -33,7 +33,7 @@ echo "${TMPDIR:-}" >"$STAND/tmpdir"
 if [ -e "$STAND/says" ]; then . "$STAND/says"; fi
 case $1 in
 version) cat "$STAND/version" ;;
-staticlib) mkdir -p target/staticlib && echo archive >target/staticlib/libcapi.a ;;
+lib) mkdir -p out && echo archive >"out/lib$2.a" ;;
 esac
 """
 
@@ -71,11 +71,12 @@ class Stand:
         write(self.at("tools/x86run"), '#!/bin/sh\nexec "$@"\n')
         write(self.at("bin/rt"), RT)
         write(self.at("version"), "kit 1\n")
-        write(self.at("crates.txt"), "# NAME: DEPS\nlow:\ncapi: low\n")
+        write(self.at("crates.txt"), "# NAME: DEPS\nlow:\ncapi: low\ncapi_c staticlib: capi low\n")
         write(self.at("crates/low/src/lib.rt"), "// low\n")
         write(self.at("crates/capi/src/lib.rt"), "// capi\n")
+        write(self.at("crates/capi_c/src/lib.rt"), "// capi_c\n")
         os.makedirs(self.at("tmp"))
-        self.env = {k: v for k, v in os.environ.items() if k not in ("TMPDIR", "RATTLE_HOME", "KIT", "CFLAGS", "INSNS", "RT_JOBS")}
+        self.env = {k: v for k, v in os.environ.items() if k not in ("TMPDIR", "RATTLE_HOME", "KIT", "CFLAGS", "INSNS")}
         self.env.update(STAND=folder, PATH=self.at("bin") + ":" + self.env["PATH"], PYTHONDONTWRITEBYTECODE="1")
 
     def at(self, path):
@@ -83,7 +84,7 @@ class Stand:
 
     def program(self, name, script):
         """A stand-in for a program, which reads all that it is given and then plays the script."""
-        write(self.at("target/bin/" + name), "#!/bin/sh\ncat >/dev/null\n" + script)
+        write(self.at(f"crates/{name}/out/{name}"), "#!/bin/sh\ncat >/dev/null\n" + script)
 
     def says(self, script):
         """What rt plays from now on."""
@@ -117,7 +118,7 @@ def helps(stand):
     """Help on standard output and status 0, wrong words with the usage and status 2."""
     names = sorted(n for n in os.listdir(os.path.join(TOP, "tools")) if os.stat(os.path.join(TOP, "tools", n)).st_mode & stat.S_IXUSR)
     names = [n for n in names if os.path.isfile(os.path.join(TOP, "tools", n))]
-    expect("the tools are there", len(names) == 13, names)
+    expect("the tools are there", len(names) == 15, names)
     for name in names:
         status, out, err = stand.run(name, "--help", top=TOP)
         expect(f"tools/{name} --help", (status, err) == (0, "") and f"Usage: tools/{name}" in out.decode(), (status, out[-300:], err))
@@ -142,7 +143,7 @@ def listed(stand):
     write(stand.at("run.sbf"), ONE)
     whole = (0, b"block 0 0 0 8\nend 8 1 0\n", "")
     expect("a file", stand.run("list", "run.sbf") == whole)
-    expect("what is proved first", stand.calls() == ["check lister"])
+    expect("what is proved first", stand.calls() == ["run lister"])
     expect("no argument", stand.run("list", data=ONE) == whole)
     expect("'-'", stand.run("list", "-", data=ONE) == whole)
     expect("from another folder", stand.run("list", "../run.sbf", cwd=stand.at("tmp")) == whole)
@@ -195,7 +196,7 @@ def scribed(stand):
     write(stand.at("my.table"), "rows")
     stand.program("scribe", "printf block\n")
     expect("scribe: a file", stand.run("scribe", "run.txt", "out.sbf") == (0, b"", "") and read(stand.at("out.sbf")) == b"block")
-    expect("scribe: what is proved first", stand.calls() == ["check scribe"])
+    expect("scribe: what is proved first", stand.calls() == ["run scribe"])
     expect("scribe: '-' and '-'", stand.run("scribe", "-", "-", data=b"5943 0 1000 2100\n") == (0, b"block", ""))
     expect("scribe: a file that is there already", stand.run("scribe", "-", "run.txt", data=b"") == (0, b"", "") and read(stand.at("run.txt")) == b"block")
     stand.program("scribe", 'printf "%s" "$*"\n')
@@ -316,24 +317,31 @@ def proving(stand):
     """What is told while rt proves, and where it cannot."""
     stand.program("lister", "echo 'end 8 1 0'\n")
     write(stand.at("file"), ONE)
-    stand.says('echo "fn x: proved"; echo "rt: low proved (unchanged since it was last proved)"; echo "rt: ok"\n')
+    stand.says('echo "fn x: proved"; echo "crate low: modules loaded=30 checked=0"; echo "logic=proved functions=1"\n')
     expect("nothing to prove, nothing told", stand.run("list", "file") == (0, b"end 8 1 0\n", ""))
-    stand.says('echo "fn x: proved"; echo "rt: low proved (12 s)"; n=0; until [ -e "$STAND/go" ] || [ $n = 90 ]; do sleep 0.1; n=$((n + 1)); done; echo "rt: lister proved (3 s)"\n')
+    stand.says('echo "fn x: proved"; echo "crate low: modules loaded=9 checked=12"; echo "logic=proved functions=1"; n=0; until [ -e "$STAND/go" ] || [ $n = 90 ]; do sleep 0.1; n=$((n + 1)); done; echo "crate lister: modules loaded=0 checked=3"; echo "logic=proved functions=2"\n')
     with stand.start("list", "file") as ran:
         first = ran.stderr.readline()
-        expect("a line a crate, while rt goes on", first == b"tools/list: low proved (12 s)\n" and ran.poll() is None, first)
+        expect("a line a crate, while rt goes on", first == b"tools/list: low proved\n" and ran.poll() is None, first)
         write(stand.at("go"), "")
-        expect("and the next", ended(ran) == (0, b"end 8 1 0\n", "tools/list: lister proved (3 s)\n"))
-    os.remove(stand.at("target/bin/lister"))
-    stand.says("printf '#!/bin/sh\\necho end 0 0 0\\n' >target/bin/lister; chmod +x target/bin/lister\n")
+        expect("and the next", ended(ran) == (0, b"end 8 1 0\n", "tools/list: lister proved\n"))
+    os.remove(stand.at("crates/lister/out/lister"))
+    stand.says("printf '#!/bin/sh\\necho end 0 0 0\\n' >out/lister; chmod +x out/lister\n")
     said = stand.run("list", "file")
     expect("the first time is told", said[:2] == (0, b"end 0 0 0\n") and said[2].startswith("tools/list: proving and building lister;"), said)
     stand.says('echo "rt: low NOT PROVED"; exit 1\n')
     status, out, err = stand.run("list", "file")
-    expect("a proof that fails", (status, out) == (1, b"") and err.startswith("rt: low NOT PROVED\ntools/list: rt check lister ended with status 1"), err)
+    expect("a proof that fails", (status, out) == (1, b"") and err.startswith("rt: low NOT PROVED\ntools/list: rt run lister ended with status 1"), err)
+    stand.says('echo "fn x: not proved"; echo "crate low: modules loaded=9 checked=1"; echo "logic=not-proved"; exit 1\n')
+    status, out, err = stand.run("list", "file")
+    expect("a proof that fails is no proof", (status, out) == (1, b"") and "low proved" not in err, err)
     status, out, err = stand.run("quiet", "sh", "-c", "echo out; echo err >&2; exit 5")
     expect("quiet shows what fails, with its status", (status, out, err) == (5, b"", "out\nerr\n"), (status, err))
     expect("quiet is quiet", stand.run("quiet", "sh", "-c", "echo out; echo err >&2") == (0, b"", ""))
+    expect("what tools/note tells of is not proved again", stand.run("note", "lister") == (0, b"", "") and stand.run("list", "file")[:2] == (0, b"end 0 0 0\n"))
+    write(stand.at("crates/lister/src/main.rt"), "// changed\n")
+    expect("but where a source has changed", stand.run("list", "file")[0] == 1)
+    one_line("note of no program", stand.run("note", "low"), "note", "low", "no program")
     expect("rt's status", stand.run("rt", "check")[0] == 1)
     expect("quiet: a signal, as a shell tells it", stand.run("quiet", "sh", "-c", "kill -9 $$") == (137, b"", ""))
     os.remove(stand.at("says"))
@@ -349,7 +357,7 @@ def capi(stand):
     def makes(name, again):
         stand.calls()
         said = stand.run("capi")
-        made = "staticlib capi" in stand.calls()
+        made = "lib capi_c" in stand.calls()
         expect(f"capi: {name}", said[0] == 0 and made == again and b"libalderflute.a is built" in said[1] and ("proving" in said[2]) == again, said)
 
     makes("the first time", True)
@@ -417,8 +425,8 @@ def signals(stand):
             os.remove(stand.at("sleeps"))
     os.remove(stand.at("says"))
     for tool, words in [("list", []), ("scribe", ["-", "out"]), ("table", ["show"]), ("table", ["make", "-", "out"])]:
-        write(stand.at("target/bin/lister"), "#!/bin/sh\nexec cat\n")
-        write(stand.at("target/bin/scribe"), "#!/bin/sh\nexec cat\n")
+        write(stand.at("crates/lister/out/lister"), "#!/bin/sh\nexec cat\n")
+        write(stand.at("crates/scribe/out/scribe"), "#!/bin/sh\nexec cat\n")
         with stand.start(tool, *words, stdin=subprocess.PIPE) as ran:
             ran.stdin.write(b"version 1\n")
             ran.stdin.flush()
@@ -430,7 +438,7 @@ def signals(stand):
 
 def compiler(stand):
     """tools/x86cc removes its folder, also where a signal comes."""
-    tools = stand.at("home/on/%s/toolchain/bin/" % os.uname().machine)
+    tools = stand.at("home/toolchain/bin/")
     write(tools + "clang", "#!/bin/sh\ntouch \"$STAND/compiles\"\nsleep 1\n")
     write(tools + "ld.lld", "#!/bin/sh\n")
     env = dict(stand.env, KIT="1", RATTLE_HOME=stand.at("home"), TMPDIR=stand.at("cc"))
@@ -446,7 +454,7 @@ def compiler(stand):
 
 
 def real(stand):
-    """The tools of the repository itself on the programs of target/bin."""
+    """The tools of the repository itself on its programs."""
     env = dict(stand.env, RATTLE_HOME=programs.kit()["RATTLE_HOME"])
     expect("list of the flight", stand.run("list", SAMPLE, top=TOP, env=env) == (0, read(SAMPLE[:-3] + "list"), ""))
     script = os.path.join(TOP, "samples", "flight-line.script")

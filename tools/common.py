@@ -6,6 +6,7 @@ begun and removes its temporary files. So does a pipe that nobody reads any more
 """
 import contextlib
 import errno
+import hashlib
 import os
 import re
 import shutil
@@ -239,9 +240,8 @@ def memory_folder():
 
 @contextlib.contextmanager
 def soonest():
-    """The environment in which rt is done soonest: tools/rt says why. Where TMPDIR or RT_JOBS is set, that stands."""
+    """The environment in which rt is done soonest: tools/rt says why. Where TMPDIR is set, that stands."""
     env = dict(os.environ)
-    env["RT_JOBS"] = env.get("RT_JOBS") or "4"
     folder = None
     try:
         with held_back():
@@ -255,18 +255,22 @@ def soonest():
             shutil.rmtree(folder, ignore_errors=True)
 
 
-PROVED = re.compile(rb"rt: (\w+) proved \(\d+ s\)\n")
+CHECKED = re.compile(rb"crate (\w+): modules loaded=\d+ checked=([1-9]\d*)\n")
+PROVED = b"logic=proved "
 
 
-def quietly(command, env=None, folder=None):
+def quietly(command, **how):
     """Runs a command and gives its status. What it prints is shown where it fails, on standard error; and where rt has proved a crate,
-    a line says so at once."""
-    log = []
-    with begun(command, stdout=subprocess.PIPE, stderr=subprocess.STDOUT, env=env, cwd=folder) as ran:
+    and did not find all of it proved already, a line says so at once."""
+    log, crate = [], None
+    with begun(command, stdout=subprocess.PIPE, stderr=subprocess.STDOUT, **how) as ran:
         for line in ran.stdout:
             log.append(line)
-            if PROVED.fullmatch(line):
-                say(line.decode()[4:].rstrip())
+            checked = CHECKED.fullmatch(line)
+            crate = checked[1].decode() if checked else crate
+            if crate and line.startswith(PROVED):
+                say("%s proved" % crate)
+                crate = None
     if ran.returncode:
         tell(b"".join(log))
     return status_of(ran)
@@ -277,10 +281,67 @@ def need_rt():
         raise Failed("the kit's command rt is not on the path; put it there")
 
 
-def prove(*words):
-    """Has rt prove and build, at the top of the repository. Where nothing changed that takes no time."""
+def prove(verb, name):
+    """Has rt prove a crate and build it, in its folder. Where nothing changed that takes little time."""
     need_rt()
+    folder = os.path.join(TOP, "crates", name)
+    with told_of(folder):
+        os.listdir(folder)
     with soonest() as env:
-        status = quietly(["rt", *words], env, TOP)
+        status = quietly(["rt", verb, name], stdin=subprocess.DEVNULL, env=env, cwd=folder)
     if status:
-        raise Failed("rt %s ended with status %d, and what it said stands above; mend that" % (" ".join(words), status))
+        raise Failed("rt %s %s ended with status %d, and what it said stands above; mend that" % (verb, name, status))
+
+
+# ---- what is built
+
+
+def program_of(name):
+    """Where a program stands that `rt run` or `rt ci` has built."""
+    return os.path.join(TOP, "crates", name, "out", name)
+
+
+def sum_of(path):
+    with told_of(path), open(path, "rb") as f:
+        return hashlib.sha256(f.read()).hexdigest()
+
+
+def crates():
+    """The crates of crates.txt, each with the libraries of its line."""
+    path = os.path.join(TOP, "crates.txt")
+    with told_of(path), open(path, encoding="utf-8", errors="replace") as f:
+        lines = [line.split("#")[0].partition(":") for line in f]
+    return {head.split()[0]: rest.split() for head, colon, rest in lines if colon and head.split()}
+
+
+def needed(name):
+    """A crate and those that it stands on."""
+    listed, found = crates(), [name]
+    for each in found:
+        found += [below for below in listed.get(each, []) if below not in found]
+    return found
+
+
+def sources(name):
+    """A sum of all that is built of a crate: the kit, the list of crates, and the files of the crate and of those below."""
+    kit = subprocess.run(["rt", "version"], stdout=subprocess.PIPE, check=False).stdout.decode(errors="replace")
+    sums = [kit, os.uname().machine, sum_of(os.path.join(TOP, "crates.txt"))]
+    for part in [os.path.join("crates", each, part) for each in needed(name) for part in ("src", "specs", "proofs")]:
+        for folder, _, files in sorted(os.walk(os.path.join(TOP, part))):
+            sums += ["%s %s" % (os.path.join(folder, file), sum_of(os.path.join(folder, file))) for file in sorted(files)]
+    return hashlib.sha256("\n".join(sums).encode()).hexdigest()
+
+
+def is_noted(name, made):
+    """Whether the file `made` was built of the crate as it stands, by the note beside it."""
+    try:
+        with open(made + ".made-of", encoding="utf-8") as f:
+            said = f.read()
+    except (OSError, ValueError):
+        return False
+    return os.path.exists(made) and said == "%s %s\n" % (sources(name), sum_of(made))
+
+
+def note(name, made, now):
+    """Notes beside the file `made` that it was built of the crate's sources with the sum `now`."""
+    write(made + ".made-of", ("%s %s\n" % (now, sum_of(made))).encode())

@@ -1,7 +1,7 @@
 """Runs a program of the repository on a file or on standard input: what tools/list, tools/crc, tools/replay and tools/scribe share.
 
-The program is proved and built first, so that what runs is what the sources say. A Rattle program has no exit status
-(docs/DECISIONS.md, 47): that it failed is seen by what it says on standard error and by the end of what it prints.
+The program is proved and built first, so that what runs is what the sources say. A program tells that it failed by what it says on
+standard error and by the end of what it prints (docs/DECISIONS.md, 47).
 """
 import os
 import re
@@ -9,7 +9,7 @@ import subprocess
 import sys
 import threading
 
-from common import TOP, Failed, Misused, held_back, open_input, prove, put, say, shown, status_of, tool
+from common import TOP, Failed, Misused, held_back, is_noted, need_rt, open_input, program_of, prove, put, say, shown, status_of, tool
 
 KEPT = 256  # bytes of the end of what is printed, more than a last line has
 NAMED = 10  # bad lines that are named; of the others the number is told
@@ -69,15 +69,18 @@ def copied(stream, to):
 
 
 def built(name):
-    """Has the program proved and built."""
-    if not os.path.exists(os.path.join(TOP, "target", "bin", name)):
+    """Has the program proved and built. `rt run` runs it then too, on an empty input. What tools/noted tells of needs nothing."""
+    need_rt()
+    if is_noted(name, program_of(name)):
+        return
+    if not os.path.exists(program_of(name)):
         say("proving and building %s; the first time takes some minutes" % name)
-    prove("check", name)
+    prove("run", name)
 
 
 def played(name, given, words=(), to=put):
     """Runs the program with these words. Gives what it complains of, its status and the end of what it prints."""
-    command = [os.path.join(TOP, "tools", "x86run"), os.path.join(TOP, "target", "bin", name), *words]
+    command = [os.path.join(TOP, "tools", "x86run"), program_of(name), *words]
     ran = None
     try:
         with held_back():

@@ -1,4 +1,5 @@
-// What the benchmarks in C call: feed and the writer with plain numbers, and nothing else. The C caller meets the `requires`.
+// What the benchmarks in C call: feed and the writer with plain numbers, and nothing else. `benchface_c` exports it. The C caller meets the
+// `requires`.
 #![tactic(auto)]
 
 ghost use Rattle.std.specs.Prelude.{◌≡◌, ◌≤◌, length, true};
@@ -26,8 +27,7 @@ fn four(r: HoldNumbers) -> [usize; 4]
     [r.held, r.standing, r.taken, passed.skipped]
 }
 
-#[unsafe(no_mangle)]
-pub extern "C" fn alderflute_bench_feed(
+pub fn alderflute_bench_feed(
     ceiling: usize,
     hold: &mut [u8],
     held: usize,
@@ -43,8 +43,7 @@ pub extern "C" fn alderflute_bench_feed(
     *out = four(feed::feed(ceiling, hold, held, standing, piece, room));
 }
 
-#[unsafe(no_mangle)]
-pub extern "C" fn alderflute_bench_finish(
+pub fn alderflute_bench_finish(
     ceiling: usize,
     hold: &mut [u8],
     held: usize,
@@ -59,8 +58,7 @@ pub extern "C" fn alderflute_bench_finish(
 }
 
 // A block of a table that passes, by the writer alone: its length, or 0 where it is refused. TOW and WNc are unsigned numbers.
-#[unsafe(no_mangle)]
-pub extern "C" fn alderflute_bench_write(
+pub fn alderflute_bench_write(
     ceiling: usize,
     table: &[u8],
     number: u64,

@@ -6,8 +6,7 @@ ghost use Rattle.capi.specs.Calls.{making, write_c};
 
 use cform::{CState, CValue, CWritten};
 
-#[unsafe(no_mangle)]
-pub extern "C" fn alderflute_write(
+pub fn alderflute_write(
     s: CState,
     in_force: &[u8],
     number: u64,

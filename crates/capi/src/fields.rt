@@ -4,16 +4,14 @@ ghost use Rattle.capi.specs.Calls.{body_c, sub_c, tow_c, wnc_c};
 
 use cform::{CField, CState};
 
-#[unsafe(no_mangle)]
-pub extern "C" fn alderflute_body(s: CState, in_force: &[u8], block: &[u8], i: usize) -> CField
+pub fn alderflute_body(s: CState, in_force: &[u8], block: &[u8], i: usize) -> CField
     ensures { result ≡ body_c s in_force.now block.now i }
 {
     let t = cform::states::state_of(s);
     cform::fields::field_c(records::body(t, in_force, block, i))
 }
 
-#[unsafe(no_mangle)]
-pub extern "C" fn alderflute_sub(
+pub fn alderflute_sub(
     s: CState,
     in_force: &[u8],
     block: &[u8],
@@ -26,16 +24,14 @@ pub extern "C" fn alderflute_sub(
     cform::fields::field_c(records::sub(t, in_force, block, k, j))
 }
 
-#[unsafe(no_mangle)]
-pub extern "C" fn alderflute_tow(s: CState, block: &[u8]) -> CField
+pub fn alderflute_tow(s: CState, block: &[u8]) -> CField
     ensures { result ≡ tow_c s block.now }
 {
     let t = cform::states::state_of(s);
     cform::fields::field_c(records::tow(t, block))
 }
 
-#[unsafe(no_mangle)]
-pub extern "C" fn alderflute_wnc(s: CState, block: &[u8]) -> CField
+pub fn alderflute_wnc(s: CState, block: &[u8]) -> CField
     ensures { result ≡ wnc_c s block.now }
 {
     let t = cform::states::state_of(s);

@@ -4,8 +4,7 @@ ghost use Rattle.capi.specs.Calls.{sub2_c, range_c, range2_c};
 
 use cform::{CField, CState};
 
-#[unsafe(no_mangle)]
-pub extern "C" fn alderflute_sub2(
+pub fn alderflute_sub2(
     s: CState,
     in_force: &[u8],
     block: &[u8],
@@ -19,16 +18,14 @@ pub extern "C" fn alderflute_sub2(
     cform::fields::field_c(epochs::sub2(t, in_force, block, k, m, j))
 }
 
-#[unsafe(no_mangle)]
-pub extern "C" fn alderflute_range(s: CState, in_force: &[u8], block: &[u8], k: usize) -> CField
+pub fn alderflute_range(s: CState, in_force: &[u8], block: &[u8], k: usize) -> CField
     ensures { result ≡ range_c s in_force.now block.now k }
 {
     let t = cform::states::state_of(s);
     cform::fields::field_c(epochs::range(t, in_force, block, k))
 }
 
-#[unsafe(no_mangle)]
-pub extern "C" fn alderflute_range2(
+pub fn alderflute_range2(
     s: CState,
     in_force: &[u8],
     block: &[u8],

@@ -1,4 +1,4 @@
-// The calls for C, over the structs of `cform`: the functions that include/alderflute.h declares.
+// The calls for C, over the structs of `cform`: the functions that include/alderflute.h declares, and that `capi_c` exports.
 #![tactic(auto)]
 
 ghost use Rattle.std.specs.Prelude.{◌≡◌};
@@ -15,8 +15,7 @@ pub mod parts; // parts.rt: Bytes, and the bytes of a sub-block
 pub mod blocks; // blocks.rt: Write
 
 // A new reader.
-#[unsafe(no_mangle)]
-pub extern "C" fn alderflute_new() -> CState
+pub fn alderflute_new() -> CState
     ensures { result ≡ state_c new_state }
 {
     let s = reader::new();
@@ -24,8 +23,7 @@ pub extern "C" fn alderflute_new() -> CState
 }
 
 // The settings of a new reader: where nothing else is wanted, what to give Open.
-#[unsafe(no_mangle)]
-pub extern "C" fn alderflute_default_settings() -> CSettings
+pub fn alderflute_default_settings() -> CSettings
     ensures { result ≡ settings_c default_settings }
 {
     let x = reader::default_settings();
@@ -36,8 +34,7 @@ pub extern "C" fn alderflute_default_settings() -> CSettings
 const ABI: u32 = 2;
 
 // What a program compares with its header's number: where they differ, header and archive are of different builds.
-#[unsafe(no_mangle)]
-pub extern "C" fn alderflute_abi() -> u32
+pub fn alderflute_abi() -> u32
     ensures { result ≡ abi }
 {
     ABI

@@ -6,8 +6,7 @@ use cform::{CPart, CState};
 use reader::Check;
 use record::Handed;
 
-#[unsafe(no_mangle)]
-pub extern "C" fn alderflute_bytes(s: CState, hold: &[u8]) -> CPart
+pub fn alderflute_bytes(s: CState, hold: &[u8]) -> CPart
     ensures { handing result hold.now ≡ bytes_c s hold.now }
 {
     let t = cform::states::state_of(s);
@@ -24,8 +23,7 @@ pub extern "C" fn alderflute_bytes(s: CState, hold: &[u8]) -> CPart
     }
 }
 
-#[unsafe(no_mangle)]
-pub extern "C" fn alderflute_subbytes(s: CState, in_force: &[u8], block: &[u8], k: usize) -> CPart
+pub fn alderflute_subbytes(s: CState, in_force: &[u8], block: &[u8], k: usize) -> CPart
     ensures { handing result block.now ≡ sub_bytes_c s in_force.now block.now k }
 {
     let t = cform::states::state_of(s);

@@ -5,8 +5,7 @@ ghost use Rattle.capi.specs.Calls.{left, open_c, feed_c, finish_c, stage_c, with
 
 use cform::{CReply, CSettings, CState};
 
-#[unsafe(no_mangle)]
-pub extern "C" fn alderflute_open(
+pub fn alderflute_open(
     s: CState,
     settings: CSettings,
     in_force: &mut [u8],
@@ -22,8 +21,7 @@ pub extern "C" fn alderflute_open(
     cform::replies::reply(s, next, cform::replies::opened_c(answer))
 }
 
-#[unsafe(no_mangle)]
-pub extern "C" fn alderflute_feed(s: CState, hold: &mut [u8], piece: &[u8]) -> CReply
+pub fn alderflute_feed(s: CState, hold: &mut [u8], piece: &[u8]) -> CReply
     ensures { left result hold.new ≡ feed_c s hold.old piece.now }
 {
     let t = cform::states::state_of(s);
@@ -33,8 +31,7 @@ pub extern "C" fn alderflute_feed(s: CState, hold: &mut [u8], piece: &[u8]) -> C
     cform::replies::reply(s, next, cform::replies::fed_c(answer))
 }
 
-#[unsafe(no_mangle)]
-pub extern "C" fn alderflute_finish(s: CState, hold: &mut [u8]) -> CReply
+pub fn alderflute_finish(s: CState, hold: &mut [u8]) -> CReply
     ensures { left result hold.new ≡ finish_c s hold.old }
 {
     let t = cform::states::state_of(s);
@@ -44,8 +41,7 @@ pub extern "C" fn alderflute_finish(s: CState, hold: &mut [u8]) -> CReply
     cform::replies::reply(s, next, cform::replies::finished_c(answer))
 }
 
-#[unsafe(no_mangle)]
-pub extern "C" fn alderflute_stage(s: CState, waiting: &mut [u8], table: &[u8]) -> CReply
+pub fn alderflute_stage(s: CState, waiting: &mut [u8], table: &[u8]) -> CReply
     ensures { left result waiting.new ≡ stage_c s waiting.old table.now }
 {
     let t = cform::states::state_of(s);
@@ -55,8 +51,7 @@ pub extern "C" fn alderflute_stage(s: CState, waiting: &mut [u8], table: &[u8]) 
     cform::replies::reply(s, next, cform::replies::staged_c(answer))
 }
 
-#[unsafe(no_mangle)]
-pub extern "C" fn alderflute_withdraw(s: CState) -> CReply
+pub fn alderflute_withdraw(s: CState) -> CReply
     ensures { left result [] ≡ withdraw_c s }
 {
     let t = cform::states::state_of(s);

@@ -1,7 +1,7 @@
 -- The rows shipped, as a person writes them (rules T30 to T37). Written by tools/table from samples/shipped-v1.table.txt.
 -- Assumes nothing.
-use Rattle.std.specs.Prelude.{List, [], ◌∷◌}
-use Rattle.kinds.specs.Types.{u1, u2, u4, u8, i1, i2, i4, i8, f4, f8}
+use Rattle.std.specs.Prelude.{[], ◌∷◌}
+use Rattle.kinds.specs.Types.{u1, u2, u4, i1, i2, i4, f4, f8}
 use Rattle.kinds.specs.Marks.{unmarked, ones, zeroes, minus2e10, least, seed}
 use Rattle.table.specs.Rows.{Table}
 use Rattle.shipped.specs.Words.{NamedBlock, block, two_levels, field, table_of}
