@@ -15,18 +15,15 @@ pub sizes-z-requires : goal.sizes-z-requires
 sizes-z-requires c = (c.requires.0, told_few 0 _ _ c.accepts-a.ensures (not-false _ c.if-not-a.false))
 
 pub returns-then-not-all-out : goal.returns-then-not-all-out
-returns-then-not-all-out c = told_12 _ _ _ c.accepts-a.ensures (not-false _ c.if-not-a.false) c.sizes-z.ensures _ (not-true _ c.if-not-all-out.true)
+returns-then-not-all-out c = told_12 _ _ _ c.accepts-a.ensures (not-false _ c.if-not-a.false) c.sizes-z.ensures _ c.if-not-all-out.true
 
 pub put_block-requires : goal.put_block-requires
 put_block-requires c =
     let a = c.args in
-    let p = c.requires in (
-      (p.0, p.3),
-      told_writable a.ceiling _ _ c.accepts-a.ensures (not-false _ c.if-not-a.false) c.sizes-z.ensures a.out.now (not-false _ c.if-not-all-out.false) p.1 (one_seen a.table.now a.row p.2),
-    )
+    let p = c.requires in record { subs_bound = (p.0, p.3); writable = told_writable a.ceiling _ _ c.accepts-a.ensures (not-false _ c.if-not-a.false) c.sizes-z.ensures a.out.now c.if-not-all-out.false p.1 (one_seen a.table.now a.row p.2) }
 
 pub returns : goal.returns
 returns c =
     let a = c.args in
-    told_length _ _ _ c.accepts-a.ensures (not-false _ c.if-not-a.false) c.sizes-z.ensures a.out.now (not-false _ c.if-not-all-out.false)
+    told_length _ _ _ c.accepts-a.ensures (not-false _ c.if-not-a.false) c.sizes-z.ensures a.out.now c.if-not-all-out.false
     c.put_block.ensures

@@ -9,31 +9,31 @@ use Rattle.writer.proofs.put_block.Goals as goal
 
 pub put_stamps-requires : goal.put_stamps-requires
 put_stamps-requires c =
-    let w = c.requires.1 in
+    let w = c.requires.writable in
     (omega (arith, given_all _ _ _ w, w.fits), given_stamps _ _ _ w)
 
 pub overflow_cast-h : goal.overflow_cast-h
-overflow_cast-h c = omega (arith, given_revision _ _ _ c.requires.1)
+overflow_cast-h c = omega (arith, given_revision _ _ _ c.requires.writable)
 
 pub put_lists-requires : goal.put_lists-requires
 put_lists-requires c =
     let n = simp length-sets at (ap length c.put_stamps.ensures) in
-    (c.requires.0.0, given_lists _ _ _ c.requires.1 n)
+    record { subs_bound = c.requires.subs_bound.0; ready = given_lists _ _ _ c.requires.writable n }
 
 pub overflow_sub-all : goal.overflow_sub-all
-overflow_sub-all c = omega (arith, given_all _ _ _ c.requires.1)
+overflow_sub-all c = omega (arith, given_all _ _ _ c.requires.writable)
 
 pub overflow_mul-h : goal.overflow_mul-h
-overflow_mul-h c = omega (arith, given_revision _ _ _ c.requires.1)
+overflow_mul-h c = omega (arith, given_revision _ _ _ c.requires.writable)
 
 pub overflow_add-h : goal.overflow_add-h
-overflow_add-h c = omega (arith, given_revision _ _ _ c.requires.1, c.requires.0.1)
+overflow_add-h c = omega (arith, given_revision _ _ _ c.requires.writable, c.requires.subs_bound.1)
 
 pub seal-requires : goal.seal-requires
-seal-requires c = let n = given_all _ _ _ c.requires.1 in (omega arith, omega (arith, c.requires.1.fits))
+seal-requires c = let n = given_all _ _ _ c.requires.writable in (omega arith, omega (arith, c.requires.writable.fits))
 
 pub returns : goal.returns
 returns c =
     let a = c.args in
-    given_stores _ _ _ c.requires.1 a.out.now refl c.put_stamps.ensures c.put_lists.ensures c.zeros.ensures
+    given_stores _ _ _ c.requires.writable a.out.now refl c.put_stamps.ensures c.put_lists.ensures c.zeros.ensures
     c.seal.ensures

@@ -10,26 +10,26 @@ use Rattle.writer.proofs.put_lists.Goals as goal
 pub fields-requires : goal.fields-requires
 fields-requires c =
     let a = c.args in
-    let r = c.requires.1 in
-    ((omega arith, omega arith), ((body_ordered a.table.now a.row r, body-allowed a.table.now a.row r c.if-m-eq0.true), body_fits_lem a.table.now a.row r))
+    let r = c.requires.ready in
+    record { count_bound = (omega arith, omega arith); count_value = (body_ordered a.table.now a.row r, body-allowed a.table.now a.row r c.if-m-eq0.true); count_in_bounds = body_fits_lem a.table.now a.row r }
 
 pub returns-then-m-eq0 : goal.returns-then-m-eq0
 returns-then-m-eq0 c =
     let a = c.args in
-    c.fields.ensures.1.1 ∙ ap (sets a.out.now 14) (body_out a.table.now a.row c.requires.1 c.if-m-eq0.true)
+    c.fields.ensures.out_after ∙ ap (sets a.out.now 14) (body_out a.table.now a.row c.requires.ready c.if-m-eq0.true)
 
 pub subs-requires : goal.subs-requires
 subs-requires c =
     let a = c.args in
-    let r = c.requires.1 in
+    let r = c.requires.ready in
     let q = c.list_end-p.ensures a.bits.now in
     let z = c.if-m-eq0.false in
     let fits = subs_fit_lem a.table.now a.row r z q.subs in
     let n = simp length-sets at (ap length c.little.ensures) in
-    ((omega arith, q.within, q.stops), ((subs_ordered a.table.now a.row r z, subs_allowed_lem a.table.now a.row r z c.list_end-p.result q.subs), omega (arith, fits, n)))
+    record { count_bound = (omega arith, q.within, q.stops); count_value = (subs_ordered a.table.now a.row r z, subs_allowed_lem a.table.now a.row r z c.list_end-p.result q.subs); count_in_bounds = omega (arith, fits, n) }
 
 pub returns : goal.returns
 returns c =
     let a = c.args in
     let q = c.list_end-p.ensures a.bits.now in
-    subs_out a.table.now a.row c.requires.1 c.if-m-eq0.false q.subs a.out.now c.little.ensures c.subs.ensures
+    subs_out a.table.now a.row c.requires.ready c.if-m-eq0.false q.subs a.out.now c.little.ensures c.subs.ensures
