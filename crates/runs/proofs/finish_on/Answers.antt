@@ -130,7 +130,7 @@ report_at-block-requires c =
 
 pub returns : goal.returns
 returns c =
-    let d = fed c.before.before.before.before.before.before in
+    let d = fed c.before.before.before.before in
     let n = d.finish-f.result.standing in
     let r = run_on (phase_after (meaning d).standing) (entry d).args.s.run (meaning d) in
     let es : (meaning d).standing ≡ some d.finish-f.result.standing =
@@ -139,6 +139,6 @@ returns c =
     (ap found
     (c.report_at-block.ensures ∙ ap (λ (h : List ℕ). report_at h (front c.went_on-next.result) n) (left d)
     ∙ report_is (meaning d).held (drop (length (meaning d).held) (entry d).args.hold.now) (front c.went_on-next.result) n (whole_some (meaning d).standing (meaning d).held n (whole d) es)
-    ∙ ap (λ (x : Run). reported (front x) n (meaning d).held) (run_is c.before.before.before.before.before))
+    ∙ ap (λ (x : Run). reported (front x) n (meaning d).held) (run_is c.before.before.before.before))
     ∙ sym (ap (λ (o : Option ℕ). finish_said o r (meaning d).held) es))
-    (state_is c.before.before.before.before) (left d)
+    (state_is c.before.before.before) (left d)
