@@ -8,8 +8,8 @@ use Rattle.desk.proofs.lent.Goals as goal
 
 pub returns-then-n-buffer : goal.returns-then-n-buffer
 returns-then-n-buffer c =
-    ((omega arith, sym (length-take-le c.args.n c.args.buffer.now (omega arith))), omega arith)
+    record { prefix_len = (omega arith, sym (length-take-le c.args.n c.args.buffer.now (omega arith))); value = omega arith }
 
 pub returns-else-n-buffer : goal.returns-else-n-buffer
 returns-else-n-buffer c =
-    ((omega arith, sym (length-take-le (length c.args.buffer.now) c.args.buffer.now (omega arith))), omega arith)
+    record { prefix_len = (omega arith, sym (length-take-le (length c.args.buffer.now) c.args.buffer.now (omega arith))); value = omega arith }

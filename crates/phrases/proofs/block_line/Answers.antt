@@ -9,7 +9,4 @@ use Rattle.phrases.proofs.block_line.Goals as goal
 
 pub returns : goal.returns
 returns c =
-    let w = c.block_words-words.ensures in (
-      omega (arith, c.requires, w.0, c.put.ensures.0),
-      joined (take c.args.at c.args.out.now) (block_words (report_of c.args.b)) newline w.1 c.put.ensures.1,
-    )
+    let w = c.block_words-words.ensures in record { upper_bound = omega (arith, c.requires, w.upper_bound, c.put.ensures.value); out_after = joined (take c.args.at c.args.out.now) (block_words (report_of c.args.b)) newline w.out_after c.put.ensures.out_after }

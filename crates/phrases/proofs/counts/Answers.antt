@@ -13,7 +13,4 @@ returns c =
     let n2 = c.number-blocks.ensures in
     let x = take c.args.at c.args.out.now in
     let a = c.args.c in
-    let y = spaced a.taken in (
-      omega (arith, c.requires, n.0, n2.0, c.number.ensures.0),
-      joined x (y ++ spaced a.blocks) (spaced a.skipped) (joined x y (spaced a.blocks) n.1 n2.1) c.number.ensures.1,
-    )
+    let y = spaced a.taken in record { upper_bound = omega (arith, c.requires, n.upper_bound, n2.upper_bound, c.number.ensures.upper_bound); out_after = joined x (y ++ spaced a.blocks) (spaced a.skipped) (joined x y (spaced a.blocks) n.out_after n2.out_after) c.number.ensures.out_after }

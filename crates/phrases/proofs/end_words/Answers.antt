@@ -8,7 +8,4 @@ use Rattle.phrases.proofs.end_words.Goals as goal
 
 pub returns : goal.returns
 returns c =
-    let w = c.put-word.ensures in (
-      omega (arith, c.requires, w.0, c.counts.ensures.0),
-      joined (take c.args.at c.args.out.now) word_end (counts_text c.args.c) w.1 c.counts.ensures.1,
-    )
+    let w = c.put-word.ensures in record { upper_bound = omega (arith, c.requires, w.value, c.counts.ensures.upper_bound); out_after = joined (take c.args.at c.args.out.now) word_end (counts_text c.args.c) w.out_after c.counts.ensures.out_after }

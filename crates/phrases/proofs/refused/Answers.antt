@@ -12,4 +12,4 @@ use Rattle.phrases.proofs.refused.Goals as goal
 pub returns : goal.returns
 returns c =
     let n = c.number in
-    (omega (arith, c.word_number.ensures.0, c.requires), c.word_number.ensures.1 ∙ ap (λ (m : ℕ). take c.args.at c.args.out.now ++ (word_refused ++ spaced m)) n.ensures)
+    record { upper_bound = omega (arith, c.word_number.ensures.upper_bound, c.requires); out_after = c.word_number.ensures.out_after ∙ ap (λ (m : ℕ). take c.args.at c.args.out.now ++ (word_refused ++ spaced m)) n.ensures }

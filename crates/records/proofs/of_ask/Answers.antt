@@ -35,7 +35,7 @@ one : (c : AfterIsSound) {b : Bool} → (c.is_sound.result && long_store c.args.
 one c e = ap (λ (x : Bool). x && long_store c.args.in_force.now) (sym c.is_sound.ensures) ∙ e
 
 long : (c : Else1) → (sound c.args.s && long_store c.args.in_force.now) ≡ true
-long c = one c.before (not-false _ c.if-not-is_sound-in_force.false)
+long c = one c.before (c.if-not-is_sound-in_force.false)
 
 none_in : (c : Then2) → ltb 0 c.args.s.in_force ≡ false
 none_in c = le-ltb 0 c.args.s.in_force (omega (arith, c.if-n-eq0.true))
@@ -45,7 +45,7 @@ some_in c = omega (arith, c.if-n-eq0.false)
 
 pub returns-then-not-is_sound-in_force : goal.returns-then-not-is_sound-in_force
 unfolding ask_refusal
-returns-then-not-is_sound-in_force c = simp (one c.before.before (not-true _ c.if-not-is_sound-in_force.true))
+returns-then-not-is_sound-in_force c = simp (one c.before.before (c.if-not-is_sound-in_force.true))
 
 pub returns-then-n-eq0 : goal.returns-then-n-eq0
 unfolding ask_refusal
@@ -54,15 +54,15 @@ returns-then-n-eq0 c = simp (long c.before.before, none_in c.before)
 pub slice_bounds-check-end : goal.slice_bounds-check-end
 slice_bounds-check-end c =
     let a = c.args in
-    let f = with_store a.s a.in_force.now (long c.before.before.before) in
+    let f = with_store a.s a.in_force.now (long c.before.before) in
     sym (length-take-le _ _ (omega (arith, f.0.in_force, f.1)))
 
 pub returns-in-Version : goal.returns-in-Version
 unfolding ask_refusal
 returns-in-Version c =
-    simp (long c.before.before.before.before.before, lt-ltb 0 _ (some_in c.before.before.before.before), (version_passes _ c.check-c.ensures c.in-Version.is).0)
+    simp (long c.before.before.before.before, lt-ltb 0 _ (some_in c.before.before.before), (version_passes _ c.check-c.ensures c.in-Version.is).0)
 
 pub returns-in-Broken : goal.returns-in-Broken
 unfolding ask_refusal
 returns-in-Broken c =
-    simp (long c.before.before.before.before.before, lt-ltb 0 _ (some_in c.before.before.before.before), broken_breaks _ c.check-c.ensures c.in-Broken.is)
+    simp (long c.before.before.before.before, lt-ltb 0 _ (some_in c.before.before.before), broken_breaks _ c.check-c.ensures c.in-Broken.is)

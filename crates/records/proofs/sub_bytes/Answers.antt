@@ -20,7 +20,7 @@ use Rattle.records.proofs.sub_bytes.Reads
 use Rattle.records.proofs.sub_bytes.Tie as tie
 
 abbrev AfterEnumTold2 : Type 0
-AfterEnumTold2 = Lts.Past-After-enum_told2 tie.the-claims Reads.Pre Reads.Post
+AfterEnumTold2 = Lts.Past-After-enum_told2 tie.the-claims Reads.Pre Reads.Post tie.handed_clauses
 
 free : (e : AfterEnumTold2) → ask_refusal e.args.s e.args.in_force.now ≡ none
 free e = sym e.of_ask-c.ensures ∙ ap refusal_of e.in-Passed.is
@@ -54,11 +54,8 @@ pub returns-in-Refused : goal.returns-in-Refused
 returns-in-Refused c =
     let a = c.args in
     let refused = sym c.of_ask-c.ensures ∙ ap refusal_of c.in-Refused.is in
-    (c.part.ensures.0.0 ∙ none_of a.block.now _ ∙ bytes_by a.s a.in_force.now a.block.now a.k refused, c.part.ensures.1 ∙ ap (λ (x : Span). offset_by a.block.ref_ptr x.at) (place_by_lem a.s a.in_force.now a.block.now a.k refused))
+    record { result_value = c.part.ensures.result_value.0 ∙ none_of a.block.now _ ∙ bytes_by a.s a.in_force.now a.block.now a.k refused; ref_ptr_value = c.part.ensures.ref_ptr_value ∙ ap (λ (x : Span). offset_by a.block.ref_ptr x.at) (place_by_lem a.s a.in_force.now a.block.now a.k refused) }
 
 pub returns-in-Passed : goal.returns-in-Passed
 returns-in-Passed c =
-    let a = c.args in (
-      c.sub_block.ensures.0 ∙ bytes_by a.s a.in_force.now a.block.now a.k (free c.before.before),
-      c.sub_block.ensures.1 ∙ ap (λ (x : Span). offset_by a.block.ref_ptr x.at) (place_by_lem a.s a.in_force.now a.block.now a.k (free c.before.before)),
-    )
+    let a = c.args in record { result_value = c.sub_block.ensures.result_value ∙ bytes_by a.s a.in_force.now a.block.now a.k (free c.before.before); ref_ptr_value = c.sub_block.ensures.ref_ptr_value ∙ ap (λ (x : Span). offset_by a.block.ref_ptr x.at) (place_by_lem a.s a.in_force.now a.block.now a.k (free c.before.before)) }

@@ -16,7 +16,7 @@ use Rattle.records.proofs.sub_place.Reads
 use Rattle.records.proofs.sub_place.Tie as tie
 
 abbrev AfterEnumTold : Type 0
-AfterEnumTold = Lts.Past-After-enum_told tie.the-claims Reads.Pre Reads.Post
+AfterEnumTold = Lts.Past-After-enum_told tie.the-claims Reads.Pre Reads.Post tie.handed_clauses
 
 free : (e : AfterEnumTold) → ask_refusal e.args.s e.args.in_force.now ≡ none
 free e = sym e.of_ask-c.ensures ∙ ap refusal_of e.in-Passed.is
@@ -36,17 +36,11 @@ unfolding sub_bytes_refusal sub_place_of
 returns-in-Refused c =
     let a = c.args in
     let tab = decode (table_in_force a.s a.in_force.now) in
-    let r = sym c.of_ask-c.ensures ∙ ap refusal_of c.in-Refused.is in (
-      sym (ap (λ (x : Option ℕ). first_of x (sub_block_refusal tab a.block.now a.k)) r),
-      (sym (ap (λ (x : Option ℕ). place_unless x (sub_place tab a.block.now a.k)) r), omega arith),
-    )
+    let r = sym c.of_ask-c.ensures ∙ ap refusal_of c.in-Refused.is in record { handed_value = sym (ap (λ (x : Option ℕ). first_of x (sub_block_refusal tab a.block.now a.k)) r); span_value = sym (ap (λ (x : Option ℕ). place_unless x (sub_place tab a.block.now a.k)) r); size_in_bounds = omega arith }
 
 pub returns-in-Passed : goal.returns-in-Passed
 unfolding sub_bytes_refusal sub_place_of
 returns-in-Passed c =
     let a = c.args in
     let tab = decode (table_in_force a.s a.in_force.now) in
-    let p = c.sub_place.ensures in (
-      p.0 ∙ sym (ap (λ (x : Option ℕ). first_of x (sub_block_refusal tab a.block.now a.k)) (free c.before.before)),
-      (p.1.0 ∙ sym (ap (λ (x : Option ℕ). place_unless x (sub_place tab a.block.now a.k)) (free c.before.before)), p.1.1),
-    )
+    let p = c.sub_place.ensures in record { handed_value = p.handed_value ∙ sym (ap (λ (x : Option ℕ). first_of x (sub_block_refusal tab a.block.now a.k)) (free c.before.before)); span_value = p.span_value ∙ sym (ap (λ (x : Option ℕ). place_unless x (sub_place tab a.block.now a.k)) (free c.before.before)); size_in_bounds = p.size_in_bounds }
