@@ -34,7 +34,7 @@ pub returns-in-Refused : goal.returns-in-Refused
 unfolding sub2_of
 returns-in-Refused c =
     let a = c.args in
-    unless_refused_lem (ask_refusal a.s a.in_force.now) c.in-Refused.PAYLOAD (second_field (decode (table_in_force a.s a.in_force.now)) a.block.now a.k a.m a.j) (sym c.of_ask-c.ensures ∙ ap refusal_of c.in-Refused.is)
+    unless_refused_lem (ask_refusal a.s a.in_force.now) c.in-Refused.why (second_field (decode (table_in_force a.s a.in_force.now)) a.block.now a.k a.m a.j) (sym c.of_ask-c.ensures ∙ ap refusal_of c.in-Refused.is)
 
 pub returns-in-Passed : goal.returns-in-Passed
 unfolding sub2_of
