@@ -5,4 +5,4 @@ use Rattle.benchface.specs.Four.{four_of}
 use Rattle.benchface.proofs.alderflute_bench_feed.Goals as goal
 
 pub returns : goal.returns
-returns c = (c.four.ensures ∙ ap four_of c.feed.ensures.0, c.feed.ensures.1.0)
+returns c = record { out_after = c.four.ensures ∙ ap four_of c.feed.ensures.value; hold_after = c.feed.ensures.hold_after }

@@ -5,4 +5,4 @@ use Rattle.benchface.specs.Four.{four_of}
 use Rattle.benchface.proofs.alderflute_bench_finish.Goals as goal
 
 pub returns : goal.returns
-returns c = (c.four.ensures ∙ ap four_of c.finish.ensures.0, c.finish.ensures.1.0)
+returns c = record { out_after = c.four.ensures ∙ ap four_of c.finish.ensures.value; hold_after = c.finish.ensures.hold_after }

@@ -6,9 +6,9 @@ use Rattle.benchface.proofs.alderflute_bench_write.Goals as goal
 pub returns-in-Length : goal.returns-in-Length
 returns-in-Length c =
     let e = c.write-w.ensures in
-    (told_length c.write-w.result e c.in-Length.PAYLOAD c.in-Length.is, told_buffer c.write-w.result e)
+    record { value = told_length c.write-w.result e c.in-Length.n c.in-Length.is; out_after = told_buffer c.write-w.result e }
 
 pub returns-in-Refused : goal.returns-in-Refused
 returns-in-Refused c =
     let e = c.write-w.ensures in
-    (told_none c.write-w.result e c.in-Refused.PAYLOAD c.in-Refused.is, told_buffer c.write-w.result e)
+    record { value = told_none c.write-w.result e c.in-Refused.field-0 c.in-Refused.is; out_after = told_buffer c.write-w.result e }

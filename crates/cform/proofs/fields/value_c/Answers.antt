@@ -21,7 +21,7 @@ pub returns-in-Unsigned : goal.returns-in-Unsigned
 returns-in-Unsigned c = c.tell_c.ensures ∙ sym (ap (λ (x : Value). field_c (value_says x)) c.in-Unsigned.is)
 
 pub returns-in-Signed : goal.returns-in-Signed
-returns-in-Signed c = c.tell_c-in-Signed.ensures ∙ ap (λ (z : ℤ). tell 0 2 0 z 0) (to_z-of_z w64 c.in-Signed.PAYLOAD (record { sfits = c.known_told-in-Signed-1.given.0.1 })) ∙ sym (ap (λ (x : Value). field_c (value_says x)) c.in-Signed.is)
+returns-in-Signed c = c.tell_c-in-Signed.ensures ∙ ap (λ (z : ℤ). tell 0 2 0 z 0) (to_z-of_z w64 c.in-Signed.z (record { sfits = c.in-Signed.known_told-in-Signed-1-own.given.0.1 })) ∙ sym (ap (λ (x : Value). field_c (value_says x)) c.in-Signed.is)
 
 pub returns-in-Single : goal.returns-in-Single
 returns-in-Single c = c.tell_c-in-Single.ensures ∙ ap (tell 0 3 0 (pos 0)) c.single_bits.ensures ∙ sym (ap (λ (x : Value). field_c (value_says x)) c.in-Single.is)
