@@ -19,4 +19,4 @@ returns c =
     let b = c.args.b in
     let y = word_block ++ spaced b.place in
     let z = y ++ spaced b.number in
-    let v = z ++ spaced b.revision in record { upper_bound = omega (arith, c.requires, w.value, n.upper_bound, n2.upper_bound, n3.upper_bound, n4.0); out_after = joined x v (spaced b.length) (joined x z (spaced b.revision) (joined x y (spaced b.number) (joined x word_block (spaced b.place) w.out_after n.out_after) n2.out_after) n3.out_after) n4.1 }
+    let v = z ++ spaced b.revision in record { upper_bound = omega (arith, c.requires, w.value, n.upper_bound, n2.upper_bound, n3.upper_bound, n4.upper_bound); out_after = joined x v (spaced b.length) (joined x z (spaced b.revision) (joined x y (spaced b.number) (joined x word_block (spaced b.place) w.out_after n.out_after) n2.out_after) n3.out_after) n4.out_after }

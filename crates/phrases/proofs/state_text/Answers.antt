@@ -31,7 +31,4 @@ returns c =
     let standing = held ++ spaced s.run.standing in
     let e = ap (λ (n : ℕ). x ++ (word_bar ++ spaced n)) p in
     let f = joined x waiting (spaced s.run.held) (joined x force (spaced s.waiting) (joined x bar (spaced s.in_force) (w.out_after ∙ e) n.out_after) n2.out_after) n3.out_after in
-    let g = joined x standing (counts_text s.run.counts) (joined x held (spaced s.run.standing) f n4.out_after) k.1 in (
-      omega (arith, c.number.ensures.0, k.0, n4.0, n3.0, n2.0, n.0, w.0, c.requires),
-      joined x (standing ++ counts_text s.run.counts) (spaced s.run.settings.ceiling) g c.number.ensures.1,
-    )
+    let g = joined x standing (counts_text s.run.counts) (joined x held (spaced s.run.standing) f n4.out_after) k.out_after in record { upper_bound = omega (arith, c.number.ensures.upper_bound, k.upper_bound, n4.upper_bound, n3.upper_bound, n2.upper_bound, n.upper_bound, w.upper_bound, c.requires); out_after = joined x (standing ++ counts_text s.run.counts) (spaced s.run.settings.ceiling) g c.number.ensures.out_after }

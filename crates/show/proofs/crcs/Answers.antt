@@ -18,9 +18,9 @@ returns c =
     let f = c.crc-second.ensures in
     let g = c.crc-third.ensures in
     let y = word_bar ++ crc_text a.c.hold in
-    let z = y ++ crc_text a.c.in_force in (
-      omega (arith, c.put.ensures.0, g.0, f.0, h.0, w.0, c.requires),
-      joined x (z ++ crc_text a.c.waiting) newline
-          (joined x z (crc_text a.c.waiting) (joined x y (crc_text a.c.in_force) (joined x word_bar (crc_text a.c.hold) w.1 h.1) f.1) g.1)
-          c.put.ensures.1,
-    )
+    let z = y ++ crc_text a.c.in_force in record {
+      upper_bound = omega (arith, c.put.ensures.value, g.value, f.value, h.value, w.value, c.requires);
+      out_after = joined x (z ++ crc_text a.c.waiting) newline
+          (joined x z (crc_text a.c.waiting) (joined x y (crc_text a.c.in_force) (joined x word_bar (crc_text a.c.hold) w.out_after h.out_after) f.out_after) g.out_after)
+          c.put.ensures.out_after;
+    }

@@ -14,8 +14,8 @@ returns c =
     let g = c.put-gap.ensures in
     let w = c.word_number-count.ensures in
     let x = take c.args.at c.args.out.now in
-    let f = fed_text c.args.n in (
-      omega (arith, c.block_words.ensures.0, g.0, w.0, c.requires),
-      joined x (f ++ word_gap) (block_words (report_of c.args.b)) (joined x f word_gap w.1 g.1)
-          c.block_words.ensures.1,
-    )
+    let f = fed_text c.args.n in record {
+      upper_bound = omega (arith, c.block_words.ensures.upper_bound, g.value, w.upper_bound, c.requires);
+      out_after = joined x (f ++ word_gap) (block_words (report_of c.args.b)) (joined x f word_gap w.out_after g.out_after)
+          c.block_words.ensures.out_after;
+    }

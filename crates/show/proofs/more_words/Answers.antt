@@ -10,4 +10,4 @@ pub returns : goal.returns
 returns c =
     let w = c.word_number-count.ensures in
     let x = take c.args.at c.args.out.now in
-    (omega (arith, c.put.ensures.0, w.0, c.requires), joined x (fed_text c.args.n) word_more w.1 c.put.ensures.1)
+    record { upper_bound = omega (arith, c.put.ensures.value, w.upper_bound, c.requires); out_after = joined x (fed_text c.args.n) word_more w.out_after c.put.ensures.out_after }

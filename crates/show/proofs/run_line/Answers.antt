@@ -14,7 +14,4 @@ returns c =
     let x = take a.at a.out.now in
     let w = c.print-said.ensures in
     let n = c.state_text-numbers.ensures in
-    let y = run_text a.reply in (
-      omega (arith, c.crcs.ensures.0, n.0, w.0, c.requires),
-      joined x (y ++ state_text a.state) (crcs_text a.c) (joined x y (state_text a.state) w.1 n.1) c.crcs.ensures.1,
-    )
+    let y = run_text a.reply in record { upper_bound = omega (arith, c.crcs.ensures.upper_bound, n.upper_bound, w.upper_bound, c.requires); out_after = joined x (y ++ state_text a.state) (crcs_text a.c) (joined x y (state_text a.state) w.out_after n.out_after) c.crcs.ensures.out_after }

@@ -14,7 +14,4 @@ returns c =
     let w = c.ask_reply-said.ensures in
     let n = c.state_text-numbers.ensures in
     let x = take a.at a.out.now in
-    let y = ask_text a.reply in (
-      omega (arith, c.put.ensures.0, n.0, w.0, c.requires),
-      joined x (y ++ state_text a.state) word_no_crcs (joined x y (state_text a.state) w.1 n.1) c.put.ensures.1,
-    )
+    let y = ask_text a.reply in record { upper_bound = omega (arith, c.put.ensures.0, n.0, w.0, c.requires); out_after = joined x (y ++ state_text a.state) word_no_crcs (joined x y (state_text a.state) w.1 n.1) c.put.ensures.1; }

@@ -11,4 +11,4 @@ pub returns : goal.returns
 returns c =
     let w = c.word_number-count.ensures in
     let s = c.args.b in
-    (omega (arith, c.crc.ensures.0, w.0, c.requires), joined (take c.args.at c.args.out.now) (c.args.word.now ++ spaced s.count) (crc_text s.crc) w.1 c.crc.ensures.1)
+    record { upper_bound = omega (arith, c.crc.ensures.0, w.0, c.requires); out_after = joined (take c.args.at c.args.out.now) (c.args.word.now ++ spaced s.count) (crc_text s.crc) w.1 c.crc.ensures.1; }

@@ -15,4 +15,4 @@ use Rattle.wording.proofs.signed.Goals as goal
 pub returns : goal.returns
 returns c =
     let w = c.put-word.ensures in
-    (omega (arith, c.integer.ensures.0, w.0, c.requires), joined (take c.args.at c.args.out.now) word_signed (integer_text c.args.z) w.1 (c.integer.ensures.1 ∙ ap (λ (z : ℤ). take c.put-word.result c.put-word.new.out ++ integer_text z) (to_z-of_z w64 c.args.z c.ranges.z)))
+    record { upper_bound = omega (arith, c.integer.ensures.0, w.0, c.requires); out_after = joined (take c.args.at c.args.out.now) word_signed (integer_text c.args.z) w.1 (c.integer.ensures.1 ∙ ap (λ (z : ℤ). take c.put-word.result c.put-word.new.out ++ integer_text z) (to_z-of_z w64 c.args.z c.ranges.z)); }

@@ -4,7 +4,7 @@ use mathlib.Core.Path.{refl}
 use Rattle.play.proofs.replies.written.Goals as goal
 
 pub returns-in-Length : goal.returns-in-Length
-returns-in-Length c = (tt, (rw c.in-Length.is, refl))
+returns-in-Length c = record { t = tt; result_value = (rw c.in-Length.is, refl) }
 
 pub returns-in-Refused : goal.returns-in-Refused
-returns-in-Refused c = (tt, (rw c.in-Refused.is, refl))
+returns-in-Refused c = record { t = tt; result_value = (rw c.in-Refused.is, refl) }
