@@ -11,13 +11,7 @@ pub fn alderflute_body(s: CState, in_force: &[u8], block: &[u8], i: usize) -> CF
     cform::fields::field_c(records::body(t, in_force, block, i))
 }
 
-pub fn alderflute_sub(
-    s: CState,
-    in_force: &[u8],
-    block: &[u8],
-    k: usize,
-    j: usize,
-) -> CField
+pub fn alderflute_sub(s: CState, in_force: &[u8], block: &[u8], k: usize, j: usize) -> CField
     ensures { result ≡ sub_c s in_force.now block.now k j }
 {
     let t = cform::states::state_of(s);

@@ -25,13 +25,7 @@ pub fn alderflute_range(s: CState, in_force: &[u8], block: &[u8], k: usize) -> C
     cform::fields::field_c(epochs::range(t, in_force, block, k))
 }
 
-pub fn alderflute_range2(
-    s: CState,
-    in_force: &[u8],
-    block: &[u8],
-    k: usize,
-    m: usize,
-) -> CField
+pub fn alderflute_range2(s: CState, in_force: &[u8], block: &[u8], k: usize, m: usize) -> CField
     ensures { result ≡ range2_c s in_force.now block.now k m }
 {
     let t = cform::states::state_of(s);

@@ -23,7 +23,7 @@ returns-in-Refused c =
     let hold = a.hold.now in
     let t = c.state_of-t.result in
     let r = sym c.bytes_refused-c.ensures ∙ ap refusal_of c.in-Refused.is in
-    hands_none (λ (t : State). bytes_refusal t hold) (λ (t : State). 0) (λ (t : State). bytes_of t hold) hold (λ (t : State) (e : sound t ≡ false). bytes_one t e hold) (state_of a.s) t (number_for c.in-Refused.PAYLOAD) c.state_of-t.ensures r (bytes_empty t hold _ r) c.no_part.ensures
+    hands_none (λ (t : State). bytes_refusal t hold) (λ (t : State). 0) (λ (t : State). bytes_of t hold) hold (λ (t : State) (e : sound t ≡ false). bytes_one t e hold) (state_of a.s) t (number_for c.in-Refused.x) c.state_of-t.ensures r (bytes_empty t hold _ r) c.no_part.ensures
 
 pub returns-in-Passed : goal.returns-in-Passed
 unfolding bytes_c
@@ -32,5 +32,5 @@ returns-in-Passed c =
     let hold = a.hold.now in
     let t = c.state_of-t.result in
     let r = sym c.bytes_refused-c.ensures ∙ ap refusal_of c.in-Passed.is in
-    let l = ap length c.bytes-part.ensures.0 in
+    let l = ap length c.bytes-part.ensures.result_value in
     hands_it (λ (t : State). bytes_refusal t hold) (λ (t : State). 0) (λ (t : State). bytes_of t hold) hold (λ (t : State) (e : sound t ≡ false). bytes_one t e hold) (state_of a.s) t (length c.bytes-part.result.now) c.state_of-t.ensures r refl l (rw l (bytes_cut t hold r))

@@ -24,9 +24,9 @@ returns-in-Refused c =
     let force = a.in_force.now in
     let block = a.block.now in
     let t = c.state_of-t.result in
-    let r = sym c.sub_place-p.ensures.0 ∙ ap handed_says c.in-Refused.is in
+    let r = sym c.sub_place-p.ensures.handed_value ∙ ap handed_says c.in-Refused.is in
     handing.hands_none (λ (t : State). sub_bytes_refusal t force block a.k) (λ (t : State). (sub_place_of t force block a.k).at) (λ (t : State). sub_bytes_of t force block a.k) block
-    (λ (t : State) (e : sound t ≡ false). sub_bytes_one t e force block a.k) (state_of a.s) t (number_for c.in-Refused.PAYLOAD) c.state_of-t.ensures r
+    (λ (t : State) (e : sound t ≡ false). sub_bytes_one t e force block a.k) (state_of a.s) t (number_for c.in-Refused.x) c.state_of-t.ensures r
     (sub_bytes_empty t force block a.k _ r) c.no_part.ensures
 
 pub returns-in-Given : goal.returns-in-Given
@@ -36,10 +36,10 @@ returns-in-Given c =
     let force = a.in_force.now in
     let block = a.block.now in
     let t = c.state_of-t.result in
-    let r = sym c.sub_place-p.ensures.0 ∙ ap handed_says c.in-Given.is in
-    let p = c.sub_place-p.ensures.1 in
+    let r = sym c.sub_place-p.ensures.handed_value ∙ ap handed_says c.in-Given.is in
+    let p = c.sub_place-p.ensures in
     handing.hands_it (λ (t : State). sub_bytes_refusal t force block a.k) (λ (t : State). (sub_place_of t force block a.k).at) (λ (t : State). sub_bytes_of t force block a.k) block
     (λ (t : State) (e : sound t ≡ false). sub_bytes_one t e force block a.k) (state_of a.s) t (sub_place_of t force block a.k).size c.state_of-t.ensures r
-    (ap (λ (x : Span). part_c none x.at x.size) p.0)
-    (handing.sub-length t force block a.k p.0 p.1)
+    (ap (λ (x : Span). part_c none x.at x.size) p.span_value)
+    (handing.sub-length t force block a.k p.span_value p.size_in_bounds)
     (handing.sub_cut t force block a.k)
