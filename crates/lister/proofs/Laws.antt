@@ -14,7 +14,7 @@ use Rattle.feed.specs.Hold.{rest_of}
 use Rattle.reader.specs.State.{limit, ceiling_of}
 use Rattle.reader.specs.Said.{Said, refused, version, took, found, ended, waited}
 use Rattle.runs.specs.Refusals.{feed_refusal}
-use Rattle.reader.specs.Outcome.{Outcome, unless}
+use Rattle.reader.specs.Outcome.{unless}
 use Rattle.runs.specs.Calls.{feeding_by, feeding_of, feed_of}
 use Rattle.reader.specs.declared.State.{State}
 

@@ -1,6 +1,6 @@
 -- The sample of the lister's output (rule S11), as its two lines, and two numbers in decimal.
 -- Assumes nothing.
-use Rattle.std.specs.Prelude.{◌≡◌, List, [], ◌∷◌, ℕ}
+use Rattle.std.specs.Prelude.{◌≡◌, [], ◌∷◌}
 use Rattle.text.specs.Numbers.{decimal}
 use Rattle.phrases.specs.Lines.{block_line, end_line}
 

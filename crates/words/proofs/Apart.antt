@@ -7,9 +7,9 @@ use Prim.Native.Nat.{ℕ, zero, suc, ◌+◌, ◌*◌, ◌≤◌, ◌<◌}
 use native.Mathlib.Omega.{arith}
 use lib.ListN.{length, get_or}
 use lib.Dec.{ltb, eqb-suc-zero}
-use borrow.Author.Tests.{ltb-false, le-ltb}
+use borrow.Author.Tests.{ltb-false}
 use Rattle.words.specs.Words.{key_from, key_of}
-use Rattle.words.specs.Theorems.{Keyed, KeysApart}
+use Rattle.words.specs.Theorems.{KeysApart}
 use Rattle.words.proofs.Reading.{key_short}
 
 -- a byte is below 256

@@ -1,10 +1,7 @@
 -- `lister::offer` takes no more than the piece: the reader does not.
 -- Assumes nothing.
 use mathlib.Core.Path.{ap}
-use mathlib.Core.List.{List}
-use Prim.Native.Nat.{ℕ, ◌≤◌}
 use native.Mathlib.Omega.{arith}
-use lib.ListN.{length}
 use Rattle.runs.specs.Said.{saidFed}
 use Rattle.reader.specs.Outcome.{Outcome}
 use Rattle.runs.specs.declared.Fed.{Fed}

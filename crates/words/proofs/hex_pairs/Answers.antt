@@ -1,7 +1,7 @@
 -- `words::hex_pairs` meets its contract. The invariant: the bytes so far, with what is left behind them, are the whole.
 -- Assumes nothing.
 use mathlib.Core.Path.{refl, ◌∙◌}
-use Prim.Native.Nat.{◌+◌, ◌-◌, ◌*◌}
+use Prim.Native.Nat.{◌+◌, ◌*◌}
 use native.Mathlib.Omega.{arith}
 use lib.ListN.{take, length-set}
 use Rattle.words.specs.Words.{bytes_from}

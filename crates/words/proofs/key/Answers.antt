@@ -1,7 +1,6 @@
 -- `words::key` meets its contract. The invariant: what is left gives the whole, and the number so far has as many digits as bytes are read.
 -- Assumes nothing.
 use mathlib.Core.Path.{sym, ◌∙◌}
-use Prim.Native.Nat.{◌-◌}
 use native.Mathlib.Omega.{arith}
 use lib.ListN.{get_or}
 use Rattle.words.proofs.Reading.{key_room, key_grows, key_long, key_short, key_zero, key_more, key_end}

@@ -1,7 +1,6 @@
 -- `words::number` meets its contract. The invariant: what is left, behind the digits so far, gives the whole.
 -- Assumes nothing.
 use mathlib.Core.Path.{◌≡◌, sym, ap, ◌∙◌}
-use Prim.Native.Nat.{◌-◌}
 use native.Mathlib.Omega.{arith}
 use lib.ListN.{get_or}
 use mathlib.Core.Option.{none, some}

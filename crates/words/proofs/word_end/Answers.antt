@@ -1,7 +1,6 @@
 -- `words::word_end` meets its contract. The invariant: what is left gives the whole.
 -- Assumes nothing.
 use mathlib.Core.Path.{sym}
-use Prim.Native.Nat.{◌-◌}
 use native.Mathlib.Omega.{arith}
 use Rattle.words.proofs.Reading.{up_here, up_more, up_end}
 use lib.Seq.{length-take-le}
