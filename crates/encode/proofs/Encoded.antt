@@ -13,7 +13,7 @@ use Rattle.encode.proofs.Room.{Room, room}
 use Rattle.encode.proofs.Laid.{index_for, counts_for}
 use Rattle.encode.proofs.File as file
 use Rattle.encode.proofs.Small.{bytes}
-use Rattle.wire.proofs.Tests.{both, both_true}
+use Rattle.wire.proofs.Tests.{both_true}
 
 module _ (tab : Table) (r : Room tab) where
   file_is : File (encode tab)

@@ -10,7 +10,7 @@ use Rattle.rows.specs.declared.Row.{Row}
 use Rattle.table.specs.Rows.{BlockRow}
 use Rattle.table.specs.Rules.{index_ok, used_fields}
 use Rattle.encode.specs.Fits.{field_rows}
-use Rattle.wire.proofs.Tests.{both, both_true}
+use Rattle.wire.proofs.Tests.{both_true}
 
 -- a block's row, where so many field rows are before its own
 unfoldable pub row_for : ℕ → BlockRow → Row

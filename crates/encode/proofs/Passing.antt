@@ -2,7 +2,7 @@
 -- Assumes nothing.
 use mathlib.Core.Bool.{true}
 use mathlib.Core.List.{List, [], ◌∷◌, map}
-use mathlib.Core.Path.{◌≡◌, refl, ap, ◌∙◌}
+use mathlib.Core.Path.{◌≡◌, refl, ◌∙◌}
 use Prim.Native.Nat.{ℕ, zero, suc, ◌+◌, ◌-◌, ◌*◌, ◌<◌, ◌≤◌}
 use native.Mathlib.Omega.{arith}
 use lib.ListN.{length}
@@ -14,9 +14,9 @@ use Rattle.rows.specs.declared.Row.{Row}
 use Rattle.rows.specs.Places.{version_of, block_count, blocks_at, field_count, field_at, row_from, row_at}
 use Rattle.table.specs.Lists.{tabulate, every}
 use Rattle.table.specs.Decode.{rows_of, block_of, decode}
-use Rattle.table.specs.Rules.{used_fields, table_ok}
+use Rattle.table.specs.Rules.{used_fields}
 use Rattle.table.proofs.Lists.{length_tab}
-use Rattle.table.proofs.Passed.{Passed, passed}
+use Rattle.table.proofs.Passed.{passed}
 use Rattle.encode.specs.Fits.{field_rows, file_size, offset_fits, block_fits, fits}
 use Rattle.encode.specs.Theorems.{PassingFits}
 use Rattle.encode.proofs.Bytes.{length_rows}

@@ -5,7 +5,7 @@ use mathlib.Core.List.{List, [], ◌∷◌, ◌++◌}
 use mathlib.Core.Path.{◌≡◌, refl, ◌∙◌}
 use Prim.Native.Nat.{ℕ, zero, suc, ◌+◌, ◌*◌, ◌/◌, ◌%◌, ◌<◌, ◌≤◌}
 use native.Mathlib.Omega.{arith}
-use lib.Dec.{ltb, leb, eqb}
+use lib.Dec.{ltb, leb}
 use lib.ListN.{length, get_or, take, drop}
 use borrow.Author.Tests.{ltb-true, ltb-false, leb-true, eqb-true, lt-ltb}
 use Rattle.crc.specs.Crc.{crc_of}
@@ -15,7 +15,7 @@ use Rattle.table.specs.Lists.{every, neighbours}
 use Rattle.kinds.specs.Marks.{mark_fits}
 use Rattle.table.specs.Rows.{BlockRow, Table, one_level, first_rows, second_rows, nested_row}
 use Rattle.table.specs.Rules.{number_ok, highest_ok, offset_ok, apart, steady, first_ok, type_ok, mark_ok, fields_ok, block_ok}
-use Rattle.table.specs.Rules.{pair_ok, levels_ok, is_nested, is_triple, early, nest_ok, shape_ok}
+use Rattle.table.specs.Rules.{pair_ok, levels_ok, is_nested, is_triple, nest_ok, shape_ok}
 use Rattle.encode.specs.Encode.{u2_bytes, field_bytes, fields_part, rows_part, unsealed, encode}
 use Rattle.encode.specs.Fits.{field_rows, u1_numbers, count_fits, offset_fits, block_fits}
 use Rattle.kinds.proofs.Marks.{fits_none}

@@ -1,6 +1,6 @@
 -- What a call leaves: its numbers, and every byte of the hold (rule C4).
 -- Assumes nothing.
-use Rattle.std.specs.Prelude.{ℕ, ◌-◌, ◌≤◌, ◌≡◌, List, ◌++◌, length, take, drop}
+use Rattle.std.specs.Prelude.{ℕ, ◌-◌, ◌≤◌, ◌≡◌, List, length, take, drop}
 pub use Rattle.copy.specs.Over.{over}
 use Rattle.scan.specs.Feed.{Intake, size}
 use Rattle.scan.specs.Passed.{passed_of}

@@ -1,9 +1,9 @@
 -- ID, L, sync pair and CRC over a buffer that has the rest.
 -- Assumes nothing.
 use mathlib.Core.List.{List}
-use mathlib.Core.Path.{◌≡◌, refl, sym, ap, ◌∙◌}
-use Prim.Native.Nat.{ℕ, ◌+◌, ◌-◌}
-use lib.ListN.{length, take, drop}
+use mathlib.Core.Path.{◌≡◌, ap, ◌∙◌}
+use Prim.Native.Nat.{ℕ, ◌-◌}
+use lib.ListN.{take, drop}
 use lib.Seq.{sets}
 use Rattle.crc.specs.Crc.{crc_of}
 use Rattle.pen.specs.Bytes.{little_bytes}

@@ -2,13 +2,12 @@
 -- Assumes nothing.
 use mathlib.Core.Bool.{Bool, true, false, ◌&&◌}
 use mathlib.Core.List.{List, []}
-use mathlib.Core.Logic.{◌⊎◌, inl, inr}
 use mathlib.Core.Option.{some}
-use mathlib.Core.Path.{◌≡◌, refl, sym, ap, ◌∙◌}
+use mathlib.Core.Path.{◌≡◌, refl, sym, ◌∙◌}
 use Prim.Native.Nat.{ℕ, ◌+◌, ◌-◌, ◌<◌, ◌≤◌}
 use native.Mathlib.Nat.{le_refl}
 use native.Mathlib.Omega.{arith}
-use lib.Dec.{leb, eqb}
+use lib.Dec.{eqb}
 use lib.ListN.{length}
 use borrow.Author.Tests.{leb-true, eqb-true, eq-eqb, ne_eqb}
 use Rattle.rows.specs.declared.Row.{Row}
@@ -16,7 +15,7 @@ use Rattle.rows.specs.Places.{field_at}
 use Rattle.table.specs.Lists.{tabulate, every}
 use Rattle.table.specs.Rows.{BlockRow, first_rows, second_rows, nested_row}
 use Rattle.table.specs.Decode.{block_of, first_count}
-use Rattle.table.specs.Rules.{offset_ok, fields_ok, levels_ok, is_nested, is_triple, early, nest_ok, shape_ok, block_ok}
+use Rattle.table.specs.Rules.{offset_ok, fields_ok, levels_ok, is_nested, is_triple, nest_ok, shape_ok, block_ok}
 use Rattle.table.proofs.Lists.{length_tab, pick_in, take_tab, drop_tab}
 use Rattle.wire.proofs.Tests.{both}
 

@@ -2,7 +2,7 @@
 -- knows a table's bytes.
 -- Assumes nothing.
 use Rattle.std.specs.Prelude.{Bool, cond, List, [], ℕ, ◌+◌, ◌-◌, eqb, take, drop}
-use Rattle.std.proofs.Math.Option.{Option, none, some}
+use Rattle.std.proofs.Math.Option.{Option}
 use Rattle.rows.specs.declared.FieldRow.{FieldRow}
 use Rattle.kinds.specs.Types.{size_of}
 use Rattle.table.specs.Lists.{pick}

@@ -7,7 +7,6 @@ use Rattle.crc.proofs.Step.{index_lt, by_table}
 use Rattle.crc.proofs.after_byte.Goals as goal
 use Rattle.crc.proofs.after_byte.Lts
 use Rattle.crc.proofs.after_byte.Reads
-use Rattle.crc.proofs.after_byte.Tie as tie
 
 abbrev Start : Type 0
 Start = Lts.Start Reads.Pre Reads.Post

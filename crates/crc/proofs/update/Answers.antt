@@ -1,7 +1,7 @@
 -- `crc::update` meets its contract. Each loop's invariant: what is left, from the present register, gives the whole's.
 -- Assumes nothing.
 use mathlib.Core.Path.{sym, ap, ◌∙◌}
-use Prim.Native.Nat.{ℕ, ◌-◌, ◌+◌}
+use Prim.Native.Nat.{ℕ, ◌+◌}
 use native.Mathlib.Omega.{arith}
 use lib.ListN.{drop}
 use Rattle.crc.specs.Crc.{crc_from}

@@ -8,7 +8,7 @@ use native.Mathlib.Nat.{zero-add}
 use native.Mathlib.Omega.{arith}
 use lib.ListN.{length, take, drop, get_or, length-append}
 use lib.Dec.{eqb}
-use borrow.Author.Tests.{eq-eqb, ne_eqb, not-true, not-false}
+use borrow.Author.Tests.{eq-eqb, ne_eqb}
 use Rattle.crc.specs.Crc.{crc_of}
 use Rattle.frame.specs.Frame.{length_at, allowed, crc_right}
 use Rattle.frame.specs.declared.Reason.TheVariants.{CrcWrong}

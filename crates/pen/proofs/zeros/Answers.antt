@@ -1,7 +1,6 @@
 -- `pen::zeros` meets its contract. The invariant: what is left of the stores gives the whole.
 -- Assumes nothing.
 use mathlib.Core.Path.{refl}
-use Prim.Native.Nat.{◌-◌}
 use native.Mathlib.Nat.{add-zero, sub-zero}
 use native.Mathlib.Omega.{arith}
 use lib.ListN.{length-set}

@@ -1,7 +1,7 @@
 -- `scan::skip_eights` meets its contract. The invariant: no first sync byte stands in what is passed.
 -- Assumes nothing.
 use mathlib.Core.Path.{◌≡◌, subst}
-use Prim.Native.Nat.{◌-◌, ◌+◌}
+use Prim.Native.Nat.{◌+◌}
 use native.Mathlib.Omega.{arith}
 use Rattle.scan.specs.Scan.{NoDollar}
 use Rattle.scan.proofs.Eights.{no_dollar_on}

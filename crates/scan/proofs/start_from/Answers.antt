@@ -1,6 +1,5 @@
 -- `scan::start_from` meets its contract. The invariant: no start stands at the places passed.
 -- Assumes nothing.
-use Prim.Native.Nat.{◌-◌}
 use native.Mathlib.Omega.{arith}
 use Rattle.scan.proofs.Starts.{no_dollar, nothing, go_on}
 use Rattle.scan.proofs.start_from.Goals as goal

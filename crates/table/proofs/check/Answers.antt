@@ -3,7 +3,6 @@
 use mathlib.Core.Bool.{true}
 use mathlib.Core.Path.{◌≡◌, ◌∙◌, sym}
 use native.Mathlib.Omega.{arith}
-use borrow.Author.Tests.{not-true, not-false}
 use Rattle.table.specs.Rules.{file_ok}
 use Rattle.table.specs.Decode.{decode}
 use Rattle.table.proofs.Laws.{told_file, told_rows, told_version}

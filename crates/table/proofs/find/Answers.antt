@@ -1,6 +1,5 @@
 -- `table::find` meets its contract. The invariant: the first row of that number is among the rows that are left.
 -- Assumes nothing.
-use Prim.Native.Nat.{◌-◌}
 use native.Mathlib.Nat.{sub-zero}
 use native.Mathlib.Omega.{arith}
 use Rattle.table.specs.Decode.{rows_of}

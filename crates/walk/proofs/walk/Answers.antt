@@ -1,6 +1,5 @@
 -- `walk::walk` meets its contract: what is left of the sub-blocks gives the whole.
 -- Assumes nothing.
-use Prim.Native.Nat.{◌-◌}
 use mathlib.Core.Path.{ap}
 use native.Mathlib.Omega.{arith}
 use borrow.Author.Rules.{rules}

@@ -7,7 +7,6 @@ use Rattle.table.specs.Code.{row_pass}
 use Rattle.rows.specs.Places.{field_count, row_at}
 use Rattle.table.specs.Decode.{rows_of}
 use Rattle.table.specs.Lists.{tabulate}
-use Rattle.table.proofs.Loops as law
 use Rattle.table.proofs.blocks.rows_ok.Given as goal
 
 abbrev pub invariant-loop-i : goal.invariant-loop-i

@@ -1,11 +1,9 @@
 -- `table::fields::all_early` meets its contract: what is left of the rows gives the whole.
 -- Assumes nothing.
 use mathlib.Core.Path.{sym, ◌∙◌}
-use Prim.Native.Nat.{◌-◌}
 use native.Mathlib.Nat.{add-zero, sub-zero}
 use native.Mathlib.Omega.{arith}
 use borrow.Author.Rules.{rules}
-use borrow.Author.Tests.{not-true, not-false}
 use Rattle.table.proofs.Lists.{every_done, every_stop, every_go}
 use Rattle.table.proofs.fields.all_early.Goals as goal
 

@@ -1,11 +1,9 @@
 -- `table::fields::fields_ok` meets its contract. The invariant: the pass over the rows that are left gives the pass over all of them.
 -- Assumes nothing.
 use mathlib.Core.Path.{◌∙◌, sym}
-use Prim.Native.Nat.{◌-◌}
 use native.Mathlib.Nat.{add-zero, sub-zero}
 use native.Mathlib.Omega.{arith}
 use borrow.Author.Rules.{rules}
-use borrow.Author.Tests.{not-true, not-false}
 use Rattle.table.proofs.Loops.{fields_done, fields_stop, fields_go}
 use Rattle.table.proofs.fields.fields_ok.Goals as goal
 
