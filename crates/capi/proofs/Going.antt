@@ -11,7 +11,7 @@ use Rattle.reader.specs.Outcome.{Outcome, outcome}
 use Rattle.reader.specs.declared.State.{State}
 use Rattle.cform.specs.State.{Reads, state_c, back_c}
 use Rattle.cform.specs.Answer.{answer_c, reply_c}
-use Rattle.capi.specs.Calls.{Left, left, goes_on}
+use Rattle.capi.specs.Calls.{left, goes_on}
 use Rattle.cform.specs.declared.CAnswer.{CAnswer}
 use Rattle.cform.specs.declared.CState.{CState}
 use Rattle.cform.specs.declared.CReply.{CReply}

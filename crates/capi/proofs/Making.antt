@@ -12,7 +12,7 @@ use Rattle.writer.specs.Write.{WriteSaid, WriteOutcome, write_outcome, refuses_w
 use Rattle.cform.specs.State.{Reads}
 use Rattle.cform.specs.Draft.{written_c}
 use Rattle.cform.specs.declared.CWritten.{CWritten}
-use Rattle.capi.specs.Calls.{Making, making, tells_written}
+use Rattle.capi.specs.Calls.{making, tells_written}
 
 module _ (call : Head → State → WriteOutcome) (buffer : List ℕ) (refuses : (h : Head) (t : State) → sound t ≡ false → call h t ≡ refuses_write 1 buffer) where
   makes_by : (h : Head) (o : Option State) (t : State) → Reads o t → making (written_c (call h t).said) (call h t).buffer ≡ tells_written (call h) buffer o

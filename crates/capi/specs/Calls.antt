@@ -4,7 +4,7 @@ use Rattle.std.specs.Prelude.{ℕ, List, [], length, take, drop}
 use Rattle.std.proofs.Math.Option.{Option, none, some}
 use Rattle.record.specs.Answer.{FieldSaid, field_refused}
 use Rattle.reader.specs.declared.State.{State}
-use Rattle.reader.specs.Said.{Said, refused}
+use Rattle.reader.specs.Said.{refused}
 use Rattle.runs.specs.Refusals.{bytes_refusal}
 use Rattle.reader.specs.Outcome.{Outcome}
 use Rattle.tables.specs.Calls.{open_of, stage_of, withdraw_of}

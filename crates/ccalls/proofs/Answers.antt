@@ -1,15 +1,13 @@
 -- What C is answered means what the reader says, call by call.
 -- Assumes nothing.
-use Prim.Native.Nat.{ℕ, zero, suc, ◌<◌}
-use native.Mathlib.Omega.{arith}
-use mathlib.Core.Path.{◌≡◌, refl, sym, ap, ◌∙◌}
+use Prim.Native.Nat.{ℕ}
+use mathlib.Core.Path.{◌≡◌, refl}
 use mathlib.Core.Bool.{Bool, true, false}
 use mathlib.Core.List.{List, []}
 use mathlib.Core.Option.{Option, none, some}
-use Rattle.frame.specs.Judge.{judged_last}
 use Rattle.reader.specs.declared.Run.{Run}
 use Rattle.reader.specs.declared.State.{State}
-use Rattle.reader.specs.Said.{Report, Said, refused, took, found, waited}
+use Rattle.reader.specs.Said.{Report, took, waited}
 use Rattle.reader.specs.Outcome.{Outcome, unless}
 use Rattle.reader.specs.declared.Settings.{Settings}
 use Rattle.tables.specs.Calls.{open_of, opening, open_refusal, stage_of, staging, stage_refusal, withdraw_of, withdrawing, withdraw_refusal}

@@ -12,7 +12,6 @@ use borrow.Author.Tests.{ne_eqb}
 use Rattle.block.specs.Block.{Seen, refused_by, row, seen_sub, sub_span}
 use Rattle.table.specs.Decode.{decode}
 use Rattle.record.specs.Calls.{sub_slice, number_by, part_by, place_by, sub_block, sub_place, sub_block_refusal}
-use Rattle.reader.specs.declared.Phase.TheVariants.{Closed, Feeding, Finishing}
 use Rattle.reader.specs.declared.State.{State}
 use Rattle.runs.specs.Refusals.{bytes_refusal}
 use Rattle.runs.specs.Calls.{feed_of, finish_of, bytes_of}
@@ -26,21 +25,19 @@ use Rattle.draft.specs.Draft.{Draft}
 use Rattle.writer.specs.Write.{WriteSaid, wrote, write_refused, WriteOutcome, write_outcome}
 use Rattle.writes.specs.Calls.{write_of}
 use Rattle.record.specs.Answer.{FieldSaid}
-use Rattle.cform.specs.declared.CField.{CField}
 use Rattle.cform.specs.declared.CState.{CState}
-use Rattle.cform.specs.State.{settings_c, state_of, state_c, in_phase}
-use Rattle.cform.specs.Answer.{reply_c, field_c, part_c}
+use Rattle.cform.specs.State.{settings_c, state_of, state_c}
+use Rattle.cform.specs.Answer.{reply_c, part_c}
 use Rattle.cform.specs.Draft.{written_c}
 use Rattle.cform.specs.Theorems.{answer_back, field_back, written_back}
 use Rattle.cform.proofs.Phases.{closed_of, feeding-of, finishing-of, none_over}
 use Rattle.cform.proofs.Back.{nothing_lost}
-use Rattle.capi.specs.Calls.{Left, Handing, goes_on, open_c, feed_c, finish_c, stage_c, withdraw_c, tells_field, body_c, sub_c, sub2_c, range_c, range2_c, tow_c, wnc_c, hands, cut, bytes_c, sub_bytes_c, Making, tells_written, write_c}
-use Rattle.demands.specs.World.{World, stage, withdraw, Look, bytes, body, sub, sub_bytes, sub2, range, range2, tow, wnc, write, Call, open_run, feed, finish, table, look, Reply, said, part, value, penned, write_refusal, told, part_of, looked, Step, step, end, Line, ◌⇒◌, trace}
+use Rattle.capi.specs.Calls.{Left, Handing, goes_on, open_c, feed_c, finish_c, stage_c, withdraw_c, tells_field, body_c, sub_c, sub2_c, range_c, range2_c, tow_c, wnc_c, hands, cut, bytes_c, sub_bytes_c, tells_written, write_c}
+use Rattle.demands.specs.World.{World, stage, withdraw, Look, bytes, body, sub, sub_bytes, sub2, range, range2, tow, wnc, write, Call, open_run, feed, finish, table, look, Reply, said, part, value, penned, write_refusal, told, part_of, looked, step, end, Line, ◌⇒◌, trace}
 use Rattle.demands.specs.Refusals.{Order, Given, order}
-use Rattle.demands.specs.Demand1.{Demand1}
 use Rattle.demands.proofs.Listed.{nothing_there}
 use Rattle.demands.proofs.Refusing.{demand_1}
-use Rattle.ccalls.specs.ThroughC.{CWorld, world_c, CStep, looked_c, step_c, refusal_back, reply_back, world_back, step_by_c, end_c, trace_c, ThroughC}
+use Rattle.ccalls.specs.ThroughC.{CWorld, world_c, looked_c, step_c, refusal_back, reply_back, world_back, step_by_c, end_c, trace_c, ThroughC}
 use Rattle.ccalls.proofs.Answers.{open_back, feed_back, end_back, stage_back, withdraw_back}
 
 -- what the state of C's stands for

@@ -14,7 +14,7 @@ use Rattle.cform.specs.declared.CState.{CState}
 use Rattle.cform.specs.State.{settings_c, state_of, state_c}
 use Rattle.cform.specs.Theorems.{answer_back, field_back, written_back}
 use Rattle.capi.specs.Calls.{Left, open_c, feed_c, finish_c, stage_c, withdraw_c, body_c, sub_c, sub2_c, range_c, range2_c, tow_c, wnc_c, cut, bytes_c, sub_bytes_c, Making, write_c}
-use Rattle.demands.specs.World.{World, TableCall, stage, withdraw, Look, bytes, body, sub, sub_bytes, sub2, range, range2, tow, wnc, write, Call, open_run, feed, finish, table, look, Reply, said, part, value, penned, told, part_of, Step, step, end, Line, ◌⇒◌, trace}
+use Rattle.demands.specs.World.{World, stage, withdraw, Look, bytes, body, sub, sub_bytes, sub2, range, range2, tow, wnc, write, Call, open_run, feed, finish, table, look, Reply, said, part, value, penned, told, part_of, Step, step, end, Line, ◌⇒◌, trace}
 
 -- the state as C has it, and the three buffers
 pub record CWorld : Type 0 where

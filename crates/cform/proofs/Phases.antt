@@ -1,6 +1,6 @@
 -- The state that C's stands for, by the number of its phase.
 -- Assumes nothing.
-use mathlib.Core.Path.{◌≡◌, sym, ap, refl, subst}
+use mathlib.Core.Path.{◌≡◌, sym, ap, subst}
 use mathlib.Core.Bool.{false}
 use mathlib.Core.Option.{Option, none, some}
 use Prim.Native.Nat.{ℕ, zero, suc, ◌<◌, ◌≤◌}

@@ -1,12 +1,12 @@
 -- D2: after More nothing more can be decided, and records are read by the table in force.
 -- Assumes nothing.
-use Prim.Native.Nat.{ℕ, ◌+◌, ◌-◌}
+use Prim.Native.Nat.{ℕ, ◌-◌}
 use native.Mathlib.Omega.{arith}
-use mathlib.Core.Path.{◌≡◌, sym, ap, ap₂, ◌∙◌, subst, subst⁻¹}
+use mathlib.Core.Path.{◌≡◌, sym, ap, ap₂, ◌∙◌, subst⁻¹}
 use mathlib.Core.List.{List, [], ◌∷◌, ◌++◌, append-nil, append_assoc}
 use mathlib.Core.Option.{Option, none}
 use lib.ListN.{drop}
-use Rattle.scan.specs.Feed.{Intake, feed_lit, size}
+use Rattle.scan.specs.Feed.{feed_lit, size}
 use Rattle.frame.specs.Judge.{judged}
 use Rattle.frame.specs.declared.Verdict.TheVariants.{Undecided}
 use Rattle.framing.proofs.Calls.{more_decides_all}

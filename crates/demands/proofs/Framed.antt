@@ -5,7 +5,7 @@ use mathlib.Core.Path.{◌≡◌}
 use mathlib.Core.Bool.{true, ◌&&◌}
 use mathlib.Core.List.{List}
 use lib.ListN.{length, get_or, take, drop}
-use lib.Dec.{leb, eqb}
+use lib.Dec.{eqb}
 use borrow.Author.Tests.{leb-true, eqb-true, le-leb, eq-eqb}
 use Rattle.crc.specs.Crc.{crc_of}
 use Rattle.frame.specs.Frame.{greatest_ceiling, sync_at, crc_at, length_at, allowed, ends_within, crc_right, frame_at, whole_frame}

@@ -13,7 +13,6 @@ use Rattle.framing.specs.ReadRun.{ReadBlock, block_at}
 use Rattle.framing.proofs.Reading.{blocks_of}
 use Rattle.feed.specs.Hold.{rest_of, hold_of}
 use Rattle.feed.proofs.Literally.{goes_on, rest_length}
-use Rattle.reader.specs.State.{sound}
 use Rattle.runs.specs.Refusals.{bytes_refusal}
 use Rattle.reader.specs.Counting.{with_run}
 use Rattle.runs.specs.Calls.{reported, report_if, front, run_on, finish_said, bytes_of}

@@ -6,7 +6,6 @@ use mathlib.Core.Path.{◌≡◌, subst}
 use mathlib.Core.Bool.{◌&&◌}
 use mathlib.Core.List.{List}
 use mathlib.Core.Option.{none}
-use lib.ListN.{length}
 use Rattle.frame.proofs.View.{waits_short, ceilings}
 use Rattle.framing.proofs.Calls.{more_decides_all}
 use Rattle.scan.specs.Feed.{feed_lit}

@@ -31,7 +31,6 @@ use Rattle.lay.proofs.Laying.{length_sub}
 use Rattle.writer.proofs.Rows.{body_sixteen}
 use Rattle.writer.proofs.Lengths.{length_fields}
 use Rattle.writing.proofs.Values.{never_refused}
-use Rattle.writing.proofs.Making.{making}
 use Rattle.writing.proofs.Picks.{pick_below, pick_past}
 use Rattle.writing.proofs.Wanting.{wanted_bits_lem, wanted_at}
 use Rattle.writing.proofs.Offsets.{laid_reads}
