@@ -6,7 +6,7 @@ use Prim.Native.Nat.{◌<◌}
 use native.Mathlib.Omega.{arith}
 use lib.Dec.{ltb}
 use lib.Seq.{length-take-le}
-use borrow.Author.Tests.{not-true, not-false, lt-ltb, le-ltb}
+use borrow.Author.Tests.{lt-ltb, le-ltb}
 use Rattle.table.proofs.Told.{version_passes, broken_breaks}
 use Rattle.reader.specs.State.{sound}
 use Rattle.reader.specs.Refusals.{long_store}

@@ -2,7 +2,6 @@
 -- Assumes nothing.
 use mathlib.Core.Path.{◌≡◌, sym, ap, ◌∙◌}
 use mathlib.Core.Bool.{Bool, ◌&&◌}
-use borrow.Author.Tests.{not-true, not-false}
 use Rattle.reader.specs.State.{sound}
 use Rattle.reader.specs.Refusals.{long_store}
 use Rattle.tables.proofs.Checking.{check_version_lem, check_broken}

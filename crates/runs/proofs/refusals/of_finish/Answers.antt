@@ -7,7 +7,6 @@ use mathlib.Core.Option.{none}
 use Prim.Native.Nat.{ℕ}
 use lib.Dec.{leb}
 use lib.ListN.{length}
-use borrow.Author.Tests.{not-true, not-false}
 use Rattle.reader.specs.State.{sound}
 use Rattle.reader.specs.Refusals.{need, is_closed, long_hold}
 use Rattle.reader.specs.declared.State.{State}

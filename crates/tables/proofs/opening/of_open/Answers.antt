@@ -6,7 +6,6 @@ use native.Mathlib.Omega.{arith}
 use Prim.Native.Nat.{◌≤◌}
 use lib.ListN.{length}
 use lib.Seq.{length-take-le}
-use borrow.Author.Tests.{not-true, not-false}
 use Rattle.frame.specs.Frame.{ceiling_ok}
 use Rattle.reader.specs.State.{sound}
 use Rattle.reader.specs.Refusals.{long_store, is_closed}
