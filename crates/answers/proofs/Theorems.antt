@@ -13,7 +13,7 @@ use Rattle.record.specs.declared.Answer.{Answer}
 use Rattle.record.specs.declared.Handed.{Handed}
 use Rattle.record.specs.declared.Handed.TheVariants.{Refused, Given}
 use Rattle.value.specs.Said.{FieldSaid, single, double}
-use Rattle.record.specs.Answer.{answerSays, case_for, Answers, handed_says}
+use Rattle.record.specs.Answer.{answer_says, case_for, Answers, handed_says}
 use Rattle.record.specs.Calls.{body_field, sub_field, sub_block, sub_place, sub_block_refusal}
 use Rattle.answers.specs.Theorems.{OneAnswer, AllByMeaning, FloatsKept}
 use Rattle.value.proofs.Floats.{float_not_nan}
@@ -41,11 +41,11 @@ by_meaning t u e b =
       twin = λ k. ap (λ (x : Table). sub_block_refusal x b k) e;
     }
 
-single_by : (b : ℕ) → b < 256 ^ 4 → (x : Bool) → nan_bits binary32 b ≡ x → answerSays (case_for (single b)) ≡ single b
+single_by : (b : ℕ) → b < 256 ^ 4 → (x : Bool) → nan_bits binary32 b ≡ x → answer_says (case_for (single b)) ≡ single b
 single_by b h true e = rw e
 single_by b h false e = rw e (ap single (to_bits-of_bits binary32 b h (float_not_nan binary32 b e)))
 
-double_by : (b : ℕ) → b < 256 ^ 8 → (x : Bool) → nan_bits binary64 b ≡ x → answerSays (case_for (double b)) ≡ double b
+double_by : (b : ℕ) → b < 256 ^ 8 → (x : Bool) → nan_bits binary64 b ≡ x → answer_says (case_for (double b)) ≡ double b
 double_by b h true e = rw e
 double_by b h false e = rw e (ap double (to_bits-of_bits binary64 b h (float_not_nan binary64 b e)))
 

@@ -9,7 +9,7 @@ use Rattle.record.specs.declared.Answer.{Answer}
 use Rattle.record.specs.declared.Answer.TheVariants.{Field}
 use Rattle.record.specs.declared.Handed.{Handed}
 use Rattle.value.specs.Said.{FieldSaid, single, double}
-use Rattle.record.specs.Answer.{answerSays, case_for, Answers, handed_says}
+use Rattle.record.specs.Answer.{answer_says, case_for, Answers, handed_says}
 use Rattle.record.specs.Calls.{body_field, sub_field, sub_block, sub_place, sub_block_refusal}
 
 -- D4: what is to be said fixes the answer, its case too
@@ -30,8 +30,8 @@ AllByMeaning = (t u : List ℕ) → decode t ≡ decode u → (b : List ℕ) →
 
 -- V2: the case for any bits says these bits; it is the case with a float exactly where they are no NaN's
 pub record FloatsKept : Type 0 where
-  pub single_bits : (b : ℕ) → b < 256 ^ 4 → answerSays (case_for (single b)) ≡ single b
-  pub double_bits : (b : ℕ) → b < 256 ^ 8 → answerSays (case_for (double b)) ≡ double b
+  pub single_bits : (b : ℕ) → b < 256 ^ 4 → answer_says (case_for (single b)) ≡ single b
+  pub double_bits : (b : ℕ) → b < 256 ^ 8 → answer_says (case_for (double b)) ≡ double b
   pub single_nan : (b : ℕ) (r : Answer) → Answers r (single b) → nan_bits binary32 b ≡ true → r ≡ Field (SingleNan b)
   pub single_float : (b : ℕ) (r : Answer) → Answers r (single b) → nan_bits binary32 b ≡ false → r ≡ Field (Single (of_bits binary32 b))
   pub double_nan : (b : ℕ) (r : Answer) → Answers r (double b) → nan_bits binary64 b ≡ true → r ≡ Field (DoubleNan b)

@@ -25,8 +25,8 @@ use Rattle.writer.specs.Write.{write_refused, written_says}
 use Rattle.refusal.specs.Numbers.{number_for}
 use Rattle.refusal.specs.declared.Refusal.{Refusal}
 use Rattle.refusal.specs.declared.Refusal.TheVariants.{BadBuffer, OutOfTurn, RunFull, BadTable, NoTable, NoRow, TooShort, BadSubBlocks, NoSuchField, NotOneFrame, BadValues, NoRoom, BadCeiling}
-use Rattle.tables.specs.Said.{saidOpened, said_staged, said_withdrawn}
-use Rattle.runs.specs.Said.{saidFed, said_finished}
+use Rattle.tables.specs.Said.{said_opened, said_staged, said_withdrawn}
+use Rattle.runs.specs.Said.{said_fed, said_finished}
 use Rattle.reader.specs.State.{phase_number}
 use Rattle.cform.specs.State.{phase_of, in_phase_if_any, state_of, state_c}
 use Rattle.cform.specs.Answer.{answer_c, field_c}
@@ -51,11 +51,11 @@ by_number s (suc zero) e h = absurd (some-ne-none _ (sym (feeding-of s e) ∙ h)
 by_number s (suc (suc zero)) e h = absurd (some-ne-none _ (sym (finishing-of s e) ∙ h))
 by_number s (suc (suc (suc n))) e h = omega arith
 
-opened_back : (a : Opened) → answer_back false (answer_c (saidOpened a)) ≡ saidOpened a
+opened_back : (a : Opened) → answer_back false (answer_c (said_opened a)) ≡ said_opened a
 opened_back (opened.Version v) = refl
 opened_back (opened.Refused x) = refl
 
-fed_back : (a : Fed) → answer_back false (answer_c (saidFed a)) ≡ saidFed a
+fed_back : (a : Fed) → answer_back false (answer_c (said_fed a)) ≡ said_fed a
 fed_back (fed.Block n b) = refl
 fed_back (fed.More n) = refl
 fed_back (fed.Refused x) = refl

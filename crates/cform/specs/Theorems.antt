@@ -12,8 +12,8 @@ use Rattle.runs.specs.declared.Finished.{Finished}
 use Rattle.tables.specs.declared.Staged.{Staged}
 use Rattle.tables.specs.declared.Withdrawn.{Withdrawn}
 use Rattle.reader.specs.Said.{Report, Said, refused, version, took, found, ended, waited}
-use Rattle.tables.specs.Said.{saidOpened, said_staged, said_withdrawn}
-use Rattle.runs.specs.Said.{saidFed, said_finished}
+use Rattle.tables.specs.Said.{said_opened, said_staged, said_withdrawn}
+use Rattle.runs.specs.Said.{said_fed, said_finished}
 use Rattle.writer.specs.declared.Written.{Written}
 use Rattle.writer.specs.Write.{WriteSaid, wrote, write_refused, written_says}
 use Rattle.cform.specs.State.{counts_back, settings_c, settings_back, state_of, state_c}
@@ -59,8 +59,8 @@ pub record NothingLost : Type 0 where
   -- any settings of the reader's, and any of C's, a bad ceiling too: it is for Open to refuse it
   pub settings : (x : Settings) → settings_back (settings_c x) ≡ x
   pub settings_of_c : (x : CSettings) → settings_c (settings_back x) ≡ x
-  pub opened : (a : Opened) → answer_back false (answer_c (saidOpened a)) ≡ saidOpened a
-  pub fed : (a : Fed) → answer_back false (answer_c (saidFed a)) ≡ saidFed a
+  pub opened : (a : Opened) → answer_back false (answer_c (said_opened a)) ≡ said_opened a
+  pub fed : (a : Fed) → answer_back false (answer_c (said_fed a)) ≡ said_fed a
   pub finished : (a : Finished) → answer_back true (answer_c (said_finished a)) ≡ said_finished a
   pub staged : (a : Staged) → answer_back false (answer_c (said_staged a)) ≡ said_staged a
   pub withdrawn : (a : Withdrawn) → answer_back false (answer_c (said_withdrawn a)) ≡ said_withdrawn a

@@ -1,7 +1,7 @@
 // A field's answer as C has it, from the record reader's. Floats go over as their bits, so that a NaN keeps its own.
 ghost use Rattle.std.specs.Prelude.{◌≡◌, T};
 ghost use Rattle.value.specs.Said.{no_nan};
-ghost use Rattle.record.specs.Answer.{value_says, answerSays, no_nan_in};
+ghost use Rattle.record.specs.Answer.{value_says, answer_says, no_nan_in};
 ghost use Rattle.cform.specs.Answer.{tell, field_c};
 
 use crate::CField;
@@ -39,7 +39,7 @@ fn value_c(v: Value) -> CField
 // Of an answer that the record reader gave: a float in it is no NaN.
 pub fn field_c(a: Answer) -> CField
     requires { T (no_nan_in a) }
-    ensures { result ≡ field_c (answerSays a) }
+    ensures { result ≡ field_c (answer_says a) }
 {
     match a {
         Answer::Field(v) => value_c(v),

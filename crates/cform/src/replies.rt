@@ -1,7 +1,7 @@
 // What a call that goes on with the state answers, and the reply that it makes with the state, as C has them.
 ghost use Rattle.std.specs.Prelude.{◌≡◌};
-ghost use Rattle.tables.specs.Said.{saidOpened, said_staged, said_withdrawn};
-ghost use Rattle.runs.specs.Said.{saidFed, said_finished};
+ghost use Rattle.tables.specs.Said.{said_opened, said_staged, said_withdrawn};
+ghost use Rattle.runs.specs.Said.{said_fed, said_finished};
 ghost use Rattle.cform.specs.State.{state_of, back_c};
 ghost use Rattle.cform.specs.Answer.{answer_c};
 
@@ -11,7 +11,7 @@ use runs::{Fed, Finished};
 use tables::{Opened, Staged, Withdrawn};
 
 pub fn opened_c(a: Opened) -> CAnswer
-    ensures { result ≡ answer_c (saidOpened a) }
+    ensures { result ≡ answer_c (said_opened a) }
 {
     match a {
         Opened::Version(v) => answers::no_block(0, 1, v, 0, 0),
@@ -20,7 +20,7 @@ pub fn opened_c(a: Opened) -> CAnswer
 }
 
 pub fn fed_c(a: Fed) -> CAnswer
-    ensures { result ≡ answer_c (saidFed a) }
+    ensures { result ≡ answer_c (said_fed a) }
 {
     match a {
         Fed::Block(n, b) => answers::block_c(n, b),

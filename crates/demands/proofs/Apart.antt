@@ -6,8 +6,8 @@ use mathlib.Core.Path.{◌≡◌, refl, ap, ap₂, ◌∙◌}
 use Rattle.refusal.specs.Numbers.{number_for}
 use Rattle.refusal.proofs.Numbers.{same_refusal}
 use Rattle.reader.specs.Said.{Report, report_of, refusal_of}
-use Rattle.runs.specs.Said.{saidFed, said_finished}
-use Rattle.tables.specs.Said.{saidOpened, said_staged, said_withdrawn}
+use Rattle.runs.specs.Said.{said_fed, said_finished}
+use Rattle.tables.specs.Said.{said_opened, said_staged, said_withdrawn}
 use Rattle.reader.specs.declared.Block.{Block}
 use Rattle.reader.specs.declared.Check.{Check}
 use Rattle.reader.specs.declared.Check.TheVariants as check
@@ -36,13 +36,13 @@ checks check.Passed (check.Refused y) e = let z : ◌≡◌ {A = ℕ} 0 1 = cc i
 checks (check.Refused x) check.Passed e = let z : ◌≡◌ {A = ℕ} 0 1 = cc in let f : ⊥ = omega arith in absurd f
 checks (check.Refused x) (check.Refused y) e = let q : number_for x ≡ number_for y = cc in ap check.Refused (same_refusal x y q)
 
-pub opens : (a b : Opened) → saidOpened a ≡ saidOpened b → a ≡ b
+pub opens : (a b : Opened) → said_opened a ≡ said_opened b → a ≡ b
 opens (opened.Version v) (opened.Version w) e = let q : v ≡ w = cc in ap opened.Version q
 opens (opened.Version v) (opened.Refused y) e = let z : ◌≡◌ {A = ℕ} 0 1 = cc in let f : ⊥ = omega arith in absurd f
 opens (opened.Refused x) (opened.Version w) e = let z : ◌≡◌ {A = ℕ} 0 1 = cc in let f : ⊥ = omega arith in absurd f
 opens (opened.Refused x) (opened.Refused y) e = let q : number_for x ≡ number_for y = cc in ap opened.Refused (same_refusal x y q)
 
-pub feeds : (a b : Fed) → saidFed a ≡ saidFed b → a ≡ b
+pub feeds : (a b : Fed) → said_fed a ≡ said_fed b → a ≡ b
 feeds (fed.Block t a) (fed.Block u b) e =
     let p : t ≡ u = cc in
     let q : report_of a ≡ report_of b = cc in

@@ -9,8 +9,8 @@ use Rattle.walk.specs.declared.Span.{Span}
 use Rattle.record.specs.Answer.{FieldSaid}
 use Rattle.answers.proofs.Theorems.{one_answer}
 use Rattle.reader.specs.Said.{Said}
-use Rattle.tables.specs.Said.{saidOpened, said_staged, said_withdrawn}
-use Rattle.runs.specs.Said.{saidFed, said_finished}
+use Rattle.tables.specs.Said.{said_opened, said_staged, said_withdrawn}
+use Rattle.runs.specs.Said.{said_fed, said_finished}
 use Rattle.reader.specs.Outcome.{Outcome, outcome}
 use Rattle.tables.specs.Calls.{open_of, stage_of, withdraw_of}
 use Rattle.runs.specs.Calls.{feed_of, finish_of, bytes_of}
@@ -46,8 +46,8 @@ one_write o a b l m p q =
 pub one : OneOutcome
 one =
     record {
-      opens = λ s x force wait. one_by_lem saidOpened opens (open_of s x force wait);
-      feeds = λ s hold piece. one_by_lem saidFed feeds (feed_of s hold piece);
+      opens = λ s x force wait. one_by_lem said_opened opens (open_of s x force wait);
+      feeds = λ s hold piece. one_by_lem said_fed feeds (feed_of s hold piece);
       finishes = λ s hold. one_by_lem said_finished finishes (finish_of s hold);
       stages = λ s wait t. one_by_lem said_staged stages (stage_of s wait t);
       withdraws = λ s. one_by_lem said_withdrawn withdraws (withdraw_of s);

@@ -2,7 +2,7 @@
 -- the language's: each function of the code is total, and each public call has no `requires`.
 -- Assumes nothing.
 use Rattle.std.specs.Prelude.{ℕ, ◌≤◌, ◌≡◌, true, List, [], length, drop}
-use Rattle.std.proofs.Math.Option.{some}
+use Rattle.std.proofs.Math.Option.{none, some}
 use Rattle.draft.specs.Draft.{Draft}
 use Rattle.reader.specs.State.{sound}
 use Rattle.demands.specs.World.{World, write, Call, look, told, part_of, step, end}

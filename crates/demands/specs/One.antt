@@ -11,8 +11,8 @@ use Rattle.record.specs.declared.Handed.{Handed}
 use Rattle.record.specs.declared.Placed.{Placed}
 use Rattle.walk.specs.declared.Span.{Span}
 use Rattle.reader.specs.Said.{Said, refusal_of}
-use Rattle.tables.specs.Said.{saidOpened, said_staged, said_withdrawn}
-use Rattle.runs.specs.Said.{saidFed, said_finished}
+use Rattle.tables.specs.Said.{said_opened, said_staged, said_withdrawn}
+use Rattle.runs.specs.Said.{said_fed, said_finished}
 use Rattle.runs.specs.Refusals.{bytes_refusal}
 use Rattle.reader.specs.Outcome.{Outcome, outcome}
 use Rattle.tables.specs.Calls.{open_of, stage_of, withdraw_of}
@@ -48,8 +48,8 @@ abbrev pub OneWrite : WriteOutcome → Type 0
 OneWrite o = (a b : Written) (l m : List ℕ) → write_outcome (written_says a) l ≡ o → write_outcome (written_says b) m ≡ o → (a ≡ b) × (l ≡ m)
 
 pub record OneOutcome : Type 0 where
-  pub opens : (s : State) (x : Settings) (force wait : List ℕ) → One saidOpened (open_of s x force wait)
-  pub feeds : (s : State) (hold piece : List ℕ) → One saidFed (feed_of s hold piece)
+  pub opens : (s : State) (x : Settings) (force wait : List ℕ) → One said_opened (open_of s x force wait)
+  pub feeds : (s : State) (hold piece : List ℕ) → One said_fed (feed_of s hold piece)
   pub finishes : (s : State) (hold : List ℕ) → One said_finished (finish_of s hold)
   pub stages : (s : State) (wait t : List ℕ) → One said_staged (stage_of s wait t)
   pub withdraws : (s : State) → One said_withdrawn (withdraw_of s)

@@ -331,7 +331,7 @@ record_order w b Nine =
 abbrev pub stamp_order : World → List ℕ → Order
 stamp_order w b = 1 when BadState w.state ∷ 10 when NoWholeFrame b ∷ 7 when (L b < 14) ∷ []
 
--- R20: Write, which is lent the in_force store; it writes by a row of one level alone; of the buffer that it writes 1 asks nothing
+-- R20: Write, which is lent the in-force store; it writes by a row of one level alone; of the buffer that it writes 1 asks nothing
 abbrev pub write_order : World → Draft → List ℕ → Order
 write_order w d buffer =
     let t = decode (table_in_force w.state w.force) in

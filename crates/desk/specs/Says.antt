@@ -7,15 +7,15 @@ use Rattle.reader.specs.Said.{Said, report_of, refused, version, took, found, en
 use Rattle.desk.specs.declared.RunReply.{RunReply}
 use Rattle.desk.specs.declared.RunReply.TheVariants as run
 
-abbrev pub replySays : RunReply → Said
-replySays (run.Opened v) = version v
-replySays (run.Staged v) = version v
-replySays (run.Withdrawn b) = waited b
-replySays (run.More t) = took t none
-replySays (run.FedBlock t b) = took t (some (report_of b))
-replySays (run.Found b) = found (report_of b)
-replySays (run.End c) = ended c
-replySays (run.Refused r) = refused (number_for r)
+abbrev pub reply_says : RunReply → Said
+reply_says (run.Opened v) = version v
+reply_says (run.Staged v) = version v
+reply_says (run.Withdrawn b) = waited b
+reply_says (run.More t) = took t none
+reply_says (run.FedBlock t b) = took t (some (report_of b))
+reply_says (run.Found b) = found (report_of b)
+reply_says (run.End c) = ended c
+reply_says (run.Refused r) = refused (number_for r)
 
 -- Open and Stage both answer a version: whether it is Stage's
 abbrev pub is_staged : RunReply → Bool

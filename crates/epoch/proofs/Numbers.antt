@@ -20,7 +20,7 @@ use Rattle.table.proofs.Lists.{pick_in, pick_out}
 use Rattle.value.specs.Said.{unsigned, do_not_use, not_in_revision}
 use Rattle.value.specs.Bits.{read_as, value_of, field_value}
 use Rattle.record.specs.declared.Answer.{Answer}
-use Rattle.record.specs.Answer.{Answers, answerSays}
+use Rattle.record.specs.Answer.{Answers, answer_says}
 use Rattle.record.specs.Calls.{field_said}
 use Rattle.pseudorange.specs.declared.Pair.TheVariants as pair
 use Rattle.pseudorange.specs.Code.{pair_says}
@@ -70,11 +70,11 @@ module _ (t s : List ℕ) (at count j kind v : ℕ) where
     number_is : f.kind ≡ kind → unsigned_of (field_said v s f) ≡ unsigned_at v s kind (pick (tabulate (field_at t) at count) j)
     number_is g = rw (pick_in (field_at t) at count j h, ← e, eq-eqb f.kind kind g)
 
-    pub number_says_lem : f.kind ≡ kind → (r : Number) (a : Answer) → Answers a (field_said v s f) → number_says r ≡ unsigned_of (answerSays a)
+    pub number_says_lem : f.kind ≡ kind → (r : Number) (a : Answer) → Answers a (field_said v s f) → number_says r ≡ unsigned_of (answer_says a)
         → number_says r ≡ unsigned_at v s kind (pick (tabulate (field_at t) at count) j)
     number_says_lem g r x a b = b ∙ ap unsigned_of a.says ∙ number_is g
 
-    pub number_below : f.kind ≡ kind → kind ≤ 4 → Bytes s → (r : Number) (a : Answer) → Answers a (field_said v s f) → number_says r ≡ unsigned_of (answerSays a)
+    pub number_below : f.kind ≡ kind → kind ≤ 4 → Bytes s → (r : Number) (a : Answer) → Answers a (field_said v s f) → number_says r ≡ unsigned_of (answer_says a)
         → NumberBelow (256 ^ size_of kind) r
     number_below g k bytes r x a b =
         below_by r (256 ^ size_of kind)

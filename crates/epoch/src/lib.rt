@@ -10,7 +10,7 @@ ghost use Rattle.table.specs.Rules.{table_ok};
 ghost use Rattle.std.proofs.Math.Option.{some};
 ghost use Rattle.walk.specs.Walk.{nest_end, second_at};
 ghost use Rattle.block.specs.Block.{number_in, ends_by, SubFine};
-ghost use Rattle.record.specs.Answer.{Answers, answerSays};
+ghost use Rattle.record.specs.Answer.{Answers, answer_says};
 ghost use Rattle.pseudorange.specs.Code.{pair_says, PairBelow};
 ghost use Rattle.epoch.specs.Second.{second_field};
 ghost use Rattle.epoch.specs.Ranges.{unsigned_of, unsigned_at, pair_at, first_pair, second_pair, range_field, range2_field};
@@ -69,7 +69,7 @@ pub fn second_field(table: &[u8], block: &[u8], k: usize, m: usize, j: usize) ->
 }
 
 fn number_of(a: Answer) -> Number
-    ensures { number_says result ≡ unsigned_of (answerSays a) }
+    ensures { number_says result ≡ unsigned_of (answer_says a) }
 {
     match a {
         Answer::Field(v) => match v {

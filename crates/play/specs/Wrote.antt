@@ -7,11 +7,11 @@ use Rattle.writer.specs.Write.{WriteSaid, wrote, write_refused}
 use Rattle.desk.specs.declared.AskReply.{AskReply}
 use Rattle.desk.specs.declared.AskReply.TheVariants as reply
 
-abbrev pub wroteSays : AskReply → Option WriteSaid
-wroteSays (reply.Field a) = none
-wroteSays (reply.Bytes b) = none
-wroteSays (reply.Written b) = some (wrote b.count)
-wroteSays (reply.Refused r) = some (write_refused (number_for r))
+abbrev pub wrote_says : AskReply → Option WriteSaid
+wrote_says (reply.Field a) = none
+wrote_says (reply.Bytes b) = none
+wrote_says (reply.Written b) = some (wrote b.count)
+wrote_says (reply.Refused r) = some (write_refused (number_for r))
 
 -- the CRC that a reply of Write tells; where it tells none, the other one
 abbrev pub crc_told : AskReply → ℕ → ℕ

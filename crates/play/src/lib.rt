@@ -5,7 +5,7 @@ ghost use Rattle.std.specs.Prelude.{◌≤◌, ◌≡◌, T, length};
 ghost use Rattle.crc.specs.Crc.{crc_of};
 ghost use Rattle.desk.specs.Plain.{plainly};
 ghost use Rattle.reader.specs.Outcome.{outcome};
-ghost use Rattle.tables.specs.Said.{saidOpened};
+ghost use Rattle.tables.specs.Said.{said_opened};
 ghost use Rattle.tables.specs.Calls.{open_of};
 ghost use Rattle.play.specs.Turns.{plain};
 ghost use Rattle.play.specs.Opening.{settings_by};
@@ -74,7 +74,7 @@ fn settings_by(word: CeilingWord) -> Settings
 }
 
 fn open(s: State, word: CeilingWord, force: &mut [u8], waiting: &[u8]) -> OpenAnswer
-    ensures { outcome (saidOpened result.answer) result.state force.new ≡ open_of s (settings_by word) force.old waiting.now }
+    ensures { outcome (said_opened result.answer) result.state force.new ≡ open_of s (settings_by word) force.old waiting.now }
 {
     tables::open(s, settings_by(word), force, waiting)
 }

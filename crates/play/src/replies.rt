@@ -2,12 +2,12 @@
 // Write.
 ghost use Rattle.std.specs.Prelude.{◌≡◌, false, T};
 ghost use Rattle.std.proofs.Math.Option.{some};
-ghost use Rattle.tables.specs.Said.{saidOpened, said_staged, said_withdrawn};
-ghost use Rattle.runs.specs.Said.{saidFed, said_finished};
+ghost use Rattle.tables.specs.Said.{said_opened, said_staged, said_withdrawn};
+ghost use Rattle.runs.specs.Said.{said_fed, said_finished};
 ghost use Rattle.writer.specs.Write.{written_says};
-ghost use Rattle.desk.specs.Says.{replySays, is_staged, is_version};
+ghost use Rattle.desk.specs.Says.{reply_says, is_staged, is_version};
 ghost use Rattle.desk.specs.Plain.{plainly};
-ghost use Rattle.play.specs.Wrote.{wroteSays, crc_told};
+ghost use Rattle.play.specs.Wrote.{wrote_says, crc_told};
 
 use desk::{AskReply, PartCrc, RunReply};
 use runs::{Fed, Finished};
@@ -15,7 +15,7 @@ use tables::{Opened, Staged, Withdrawn};
 use writer::Written;
 
 pub fn opened(a: Opened) -> RunReply
-    ensures result_value { replySays result ≡ saidOpened a }
+    ensures result_value { reply_says result ≡ said_opened a }
     ensures result_value_2 { is_staged result ≡ false }
 {
     match a {
@@ -25,7 +25,7 @@ pub fn opened(a: Opened) -> RunReply
 }
 
 pub fn fed(a: Fed) -> RunReply
-    ensures { replySays result ≡ saidFed a }
+    ensures { reply_says result ≡ said_fed a }
 {
     match a {
         Fed::Block(taken, b) => RunReply::FedBlock(taken, b),
@@ -35,7 +35,7 @@ pub fn fed(a: Fed) -> RunReply
 }
 
 pub fn finished(a: Finished) -> RunReply
-    ensures { replySays result ≡ said_finished a }
+    ensures { reply_says result ≡ said_finished a }
 {
     match a {
         Finished::Block(b) => RunReply::Found(b),
@@ -45,7 +45,7 @@ pub fn finished(a: Finished) -> RunReply
 }
 
 pub fn staged(a: Staged) -> RunReply
-    ensures result_value { replySays result ≡ said_staged a }
+    ensures result_value { reply_says result ≡ said_staged a }
     ensures result_value_2 { is_staged result ≡ is_version (said_staged a) }
 {
     match a {
@@ -55,7 +55,7 @@ pub fn staged(a: Staged) -> RunReply
 }
 
 pub fn withdrawn(a: Withdrawn) -> RunReply
-    ensures { replySays result ≡ said_withdrawn a }
+    ensures { reply_says result ≡ said_withdrawn a }
 {
     match a {
         Withdrawn::Waited(one) => RunReply::Withdrawn(one),
@@ -66,7 +66,7 @@ pub fn withdrawn(a: Withdrawn) -> RunReply
 // The CRC is told where a block was written.
 pub fn written(a: Written, crc: u16) -> AskReply
     ensures t { T (plainly result) }
-    ensures result_value { (wroteSays result ≡ some (written_says a)) × (crc_told result crc ≡ crc) }
+    ensures result_value { (wrote_says result ≡ some (written_says a)) × (crc_told result crc ≡ crc) }
 {
     match a {
         Written::Length(count) => AskReply::Written(PartCrc { count, crc }),

@@ -12,9 +12,9 @@ use Rattle.record.specs.declared.Handed.{Handed}
 use Rattle.record.specs.declared.Handed.TheVariants as handed
 
 -- what each case of the code's answer says
-abbrev pub answerSays : Answer → FieldSaid
-answerSays (answer.Field v) = value_says v
-answerSays (answer.Refused r) = field_refused (number_for r)
+abbrev pub answer_says : Answer → FieldSaid
+answer_says (answer.Field v) = value_says v
+answer_says (answer.Refused r) = field_refused (number_for r)
 
 -- the case for what is to be said; for a float's bits it is that of the value
 abbrev pub case_for : FieldSaid → Answer
@@ -28,7 +28,7 @@ case_for (field_refused n) = answer.Refused (refusal_numbered n)
 
 -- an answer that says what is to be said, in the case for it
 pub record Answers (r : Answer) (said : FieldSaid) : Type 0 where
-  pub says : answerSays r ≡ said
+  pub says : answer_says r ≡ said
   pub case : r ≡ case_for said
 
 -- a float that an answer carries is no NaN

@@ -8,10 +8,10 @@ use Rattle.runs.specs.declared.Fed.TheVariants as fed
 use Rattle.runs.specs.declared.Finished.{Finished}
 use Rattle.runs.specs.declared.Finished.TheVariants as finished
 
-abbrev pub saidFed : Fed → Said
-saidFed (fed.Block t b) = took t (some (report_of b))
-saidFed (fed.More t) = took t none
-saidFed (fed.Refused r) = refused (number_for r)
+abbrev pub said_fed : Fed → Said
+said_fed (fed.Block t b) = took t (some (report_of b))
+said_fed (fed.More t) = took t none
+said_fed (fed.Refused r) = refused (number_for r)
 
 abbrev pub said_finished : Finished → Said
 said_finished (finished.Block b) = found (report_of b)

@@ -5,7 +5,7 @@ ghost use Rattle.std.specs.Prelude.{◌≡◌};
 ghost use Rattle.std.proofs.Math.Option.{none};
 ghost use Rattle.reader.specs.Said.{refusal_of};
 ghost use Rattle.reader.specs.Outcome.{outcome};
-ghost use Rattle.runs.specs.Said.{saidFed, said_finished};
+ghost use Rattle.runs.specs.Said.{said_fed, said_finished};
 ghost use Rattle.runs.specs.Refusals.{feed_refusal, finish_refusal, bytes_refusal};
 ghost use Rattle.runs.specs.Calls.{feeding_of, feeding_by, feed_of, finishing_of, finishing_by, finish_of, bytes_of};
 
@@ -44,7 +44,7 @@ pub struct FinishAnswer {
 
 fn feed_on(s: State, hold: &mut [u8], piece: &[u8]) -> FeedAnswer
     requires { feed_refusal s hold.old piece.now ≡ none }
-    ensures { outcome (saidFed result.answer) result.state hold.new ≡ feeding_by (feeding_of s hold.old piece.now) s hold.old }
+    ensures { outcome (said_fed result.answer) result.state hold.new ≡ feeding_by (feeding_of s hold.old piece.now) s hold.old }
 {
     let run = s.run;
     let held = run.held;
@@ -71,7 +71,7 @@ fn feed_on(s: State, hold: &mut [u8], piece: &[u8]) -> FeedAnswer
 
 // C6, C7.
 pub fn feed(s: State, hold: &mut [u8], piece: &[u8]) -> FeedAnswer
-    ensures { outcome (saidFed result.answer) result.state hold.new ≡ feed_of s hold.old piece.now }
+    ensures { outcome (said_fed result.answer) result.state hold.new ≡ feed_of s hold.old piece.now }
 {
     let c = refusals::of_feed(s, hold, piece.len());
     match c {

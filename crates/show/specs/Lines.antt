@@ -8,7 +8,7 @@ use Rattle.phrases.specs.Replies.{refused_text, word_bar}
 use Rattle.reader.specs.Said.{Said, refused, version, took, found, ended, waited}
 use Rattle.desk.specs.declared.Crcs.{Crcs}
 use Rattle.desk.specs.declared.RunReply.{RunReply}
-use Rattle.desk.specs.Says.{replySays, is_staged}
+use Rattle.desk.specs.Says.{reply_says, is_staged}
 
 -- `opened`
 abbrev pub word_opened : List ℕ
@@ -57,4 +57,4 @@ crcs_text c = word_bar ++ crc_text c.hold ++ crc_text c.in_force ++ crc_text c.w
 
 -- what the call replies
 abbrev pub run_text : RunReply → List ℕ
-run_text r = said_text (cond (is_staged r) word_staged word_opened) (replySays r)
+run_text r = said_text (cond (is_staged r) word_staged word_opened) (reply_says r)

@@ -9,9 +9,9 @@ use Rattle.tables.specs.declared.Staged.TheVariants as staged
 use Rattle.tables.specs.declared.Withdrawn.{Withdrawn}
 use Rattle.tables.specs.declared.Withdrawn.TheVariants as withdrawn
 
-abbrev pub saidOpened : Opened → Said
-saidOpened (opened.Version v) = version v
-saidOpened (opened.Refused r) = refused (number_for r)
+abbrev pub said_opened : Opened → Said
+said_opened (opened.Version v) = version v
+said_opened (opened.Refused r) = refused (number_for r)
 
 abbrev pub said_staged : Staged → Said
 said_staged (staged.Version v) = version v

@@ -4,7 +4,7 @@
 
 ghost use Rattle.std.specs.Prelude.{◌≡◌, []};
 ghost use Rattle.reader.specs.Outcome.{outcome};
-ghost use Rattle.tables.specs.Said.{saidOpened, said_staged, said_withdrawn};
+ghost use Rattle.tables.specs.Said.{said_opened, said_staged, said_withdrawn};
 ghost use Rattle.tables.specs.Calls.{open_of, stage_of, withdraw_of};
 
 mod opening; // opening.rt: what Open answers, and the run that it opens
@@ -52,7 +52,7 @@ pub struct WithdrawAnswer {
 
 // C5, C17.
 pub fn open(s: State, settings: Settings, in_force: &mut [u8], waiting: &[u8]) -> OpenAnswer
-    ensures { outcome (saidOpened result.answer) result.state in_force.new ≡ open_of s settings in_force.old waiting.now }
+    ensures { outcome (said_opened result.answer) result.state in_force.new ≡ open_of s settings in_force.old waiting.now }
 {
     let a = opening::of_open(s, settings, in_force, waiting);
     match a {

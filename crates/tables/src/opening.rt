@@ -1,6 +1,6 @@
 // Open (rule C5): its refusals in R20's order, each tested once, or a version; and the run that it opens.
 ghost use Rattle.std.specs.Prelude.{◌≡◌};
-ghost use Rattle.tables.specs.Said.{saidOpened};
+ghost use Rattle.tables.specs.Said.{said_opened};
 ghost use Rattle.tables.specs.Calls.{fresh_run, open_of};
 ghost use Rattle.tables.specs.Code.{version_or4};
 
@@ -11,7 +11,7 @@ use table::Checked;
 
 // 1, 2, 13, 5, 4, or the version of the table to be opened.
 pub fn of_open(s: State, settings: Settings, in_force: &[u8], waiting: &[u8]) -> Opened
-    ensures { saidOpened result ≡ (open_of s settings in_force.now waiting.now).said }
+    ensures { said_opened result ≡ (open_of s settings in_force.now waiting.now).said }
 {
     if !(reader::is_sound(s) & (8192 <= in_force.len()) & (8192 <= waiting.len())) {
         return Opened::Refused(Refusal::BadBuffer);
@@ -37,7 +37,7 @@ pub fn of_open(s: State, settings: Settings, in_force: &[u8], waiting: &[u8]) ->
 
 // 4, or the version.
 fn version_or_four(t: &[u8]) -> Opened
-    ensures { saidOpened result ≡ version_or4 t.now }
+    ensures { said_opened result ≡ version_or4 t.now }
 {
     let c = table::check(t);
     match c {

@@ -4,7 +4,7 @@ use Rattle.std.specs.Prelude.{ℕ, List, [], ◌∷◌, ◌++◌}
 use Rattle.text.specs.Numbers.{spaced, crc_text}
 use Rattle.phrases.specs.Replies.{refused_text}
 use Rattle.refusal.specs.Numbers.{number_for}
-use Rattle.record.specs.Answer.{answerSays}
+use Rattle.record.specs.Answer.{answer_says}
 use Rattle.wording.specs.Values.{field_text}
 use Rattle.desk.specs.declared.PartCrc.{PartCrc}
 use Rattle.desk.specs.declared.AskReply.{AskReply}
@@ -28,7 +28,7 @@ bytes_text w b = w ++ spaced b.count ++ crc_text b.crc
 
 -- what such a call replies
 abbrev pub ask_text : AskReply → List ℕ
-ask_text (ask.Field a) = field_text (answerSays a)
+ask_text (ask.Field a) = field_text (answer_says a)
 ask_text (ask.Bytes b) = bytes_text word_part b
 ask_text (ask.Written b) = bytes_text word_written b
 ask_text (ask.Refused r) = refused_text (number_for r)

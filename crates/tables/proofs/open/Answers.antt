@@ -8,7 +8,7 @@ use native.Mathlib.Omega.{arith}
 use lib.ListN.{take}
 use borrow.Author.Tests.{lt-ltb, le-ltb}
 use Rattle.refusal.specs.Numbers.{number_for}
-use Rattle.tables.specs.Said.{saidOpened}
+use Rattle.tables.specs.Said.{said_opened}
 use Rattle.tables.specs.Calls.{open_refusal, fresh_run, opening, open_of}
 use Rattle.reader.specs.Outcome.{Outcome}
 use Rattle.feed.specs.Hold.{over}
@@ -34,7 +34,7 @@ unfolding open_of
 free m e =
     let a = (entry m).args in
     accepted_by a.s a.in_force.now (opening a.s a.settings a.in_force.now a.waiting.now) (open_refusal a.s a.settings a.in_force.now a.waiting.now)
-    (sym m.of_open-a.ensures ∙ ap saidOpened e)
+    (sym m.of_open-a.ensures ∙ ap said_opened e)
 
 passed : (m : AfterOfOpen) {v : ℕ} → m.of_open-a.result ≡ Version v → OpenPassed (entry m).args.s (entry m).args.in_force.now (entry m).args.waiting.now
 passed m e = open_passed (entry m).args.s (entry m).args.settings (entry m).args.in_force.now (entry m).args.waiting.now (free m e)
@@ -57,7 +57,7 @@ returns-then-w-gt0 c =
     let p = passed c.before.before.before.before.before.before.before.before c.in-Version.is in
     let l = lt-ltb 0 a.s.waiting c.if-w-gt0.true in
     let q = c.open_state.ensures in
-    same_outcome (sym (ap saidOpened c.in-Version.is) ∙ c.of_open-a.ensures ∙ ap (λ (x : Outcome). x.said) (done c.before.before.before.before.before.before.before.before c.in-Version.is))
+    same_outcome (sym (ap said_opened c.in-Version.is) ∙ c.of_open-a.ensures ∙ ap (λ (x : Outcome). x.said) (done c.before.before.before.before.before.before.before.before c.in-Version.is))
     (same_state c.open_state.result q.0 q.1 q.2
     ∙ sym (ap (λ (b : Bool). record { run = fresh_run a.settings; in_force = cond b a.s.waiting a.s.in_force; waiting = 0 }) l))
     (c.copy_in.ensures ∙ copied a.in_force.now a.waiting.now a.s.waiting (omega (arith, p.facts.waiting, p.long_wait))
@@ -70,14 +70,14 @@ returns-in-Refused c =
     let a = (entry c.before.before).args in
     sym
     (refused_by_lem a.s a.in_force.now (opening a.s a.settings a.in_force.now a.waiting.now) (open_refusal a.s a.settings a.in_force.now a.waiting.now) (number_for c.in-Refused.why) refl
-    (sym c.of_open-a.ensures ∙ ap saidOpened c.in-Refused.is))
+    (sym c.of_open-a.ensures ∙ ap said_opened c.in-Refused.is))
 
 pub returns-else-w-gt0 : goal.returns-else-w-gt0
 returns-else-w-gt0 c =
     let a = (entry c.before.before.before.before).args in
     let l = le-ltb 0 a.s.waiting c.if-w-gt0.false in
     let q = c.open_state-in-Version.ensures in
-    same_outcome (sym (ap saidOpened c.in-Version.is) ∙ c.of_open-a.ensures ∙ ap (λ (x : Outcome). x.said) (done c.before.before.before.before c.in-Version.is))
+    same_outcome (sym (ap said_opened c.in-Version.is) ∙ c.of_open-a.ensures ∙ ap (λ (x : Outcome). x.said) (done c.before.before.before.before c.in-Version.is))
     (same_state c.open_state-in-Version.result q.0 q.1 q.2
     ∙ sym (ap (λ (b : Bool). record { run = fresh_run a.settings; in_force = cond b a.s.waiting a.s.in_force; waiting = 0 }) l))
     (sym (ap (λ (b : Bool). cond b (over (take a.s.waiting a.waiting.now) a.in_force.now) a.in_force.now) l))

@@ -4,7 +4,7 @@ use mathlib.Core.Path.{sym, ap, ◌∙◌, subst}
 use Prim.Native.Nat.{ℕ}
 use lib.Dec.{T}
 use lib.IntN.{pos}
-use Rattle.record.specs.Answer.{answerSays, no_nan_in}
+use Rattle.record.specs.Answer.{answer_says, no_nan_in}
 use Rattle.record.specs.declared.Answer.{Answer}
 use Rattle.cform.specs.Answer.{tell, field_c}
 use Rattle.cform.proofs.fields.field_c.Goals as goal
@@ -15,4 +15,4 @@ value_c-requires c = subst (λ (x : Answer). T (no_nan_in x)) c.in-Field.is c.re
 pub returns-in-Refused : goal.returns-in-Refused
 returns-in-Refused c =
     c.tell_c.ensures ∙ ap (λ (n : ℕ). tell n 0 0 (pos 0) 0) c.number.ensures
-    ∙ sym (ap (λ (x : Answer). field_c (answerSays x)) c.in-Refused.is)
+    ∙ sym (ap (λ (x : Answer). field_c (answer_says x)) c.in-Refused.is)
