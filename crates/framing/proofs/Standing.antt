@@ -27,6 +27,22 @@ module _ (w : List ℕ) (p : ℕ) (l : p ≤ length w) where
   pub length_drops : length_at (drop p w) 0 ≡ length_at w p
   length_drops = little_drop 2 w p 6
 
+  -- each test of a frame says at a place what it says at the front of the rest
+  pub sync_drops : sync_at (drop p w) 0 ≡ sync_at w p
+  unfolding sync_at
+  sync_drops = ap₂ (λ (x y : ℕ). eqb x 0x24 && eqb y 0x40) (byte0 w p) (byte w p 1)
+
+  pub ends_drops : ends_within (drop p w) 0 ≡ ends_within w p
+  unfolding ends_within
+  ends_drops = ap₂ (λ (x y : ℕ). leb (0 + x) y) length_drops (length-drop p w) ∙ sym (within_drop (length_at w p) (length w) p l)
+
+  pub crc_drops : crc_right (drop p w) 0 ≡ crc_right w p
+  unfolding crc_right
+  crc_drops =
+      let z : 0 + length_at (drop p w) 0 ≡ length_at w p = zero-add (length_at (drop p w) 0) ∙ length_drops in
+      ap₂ (λ (x y : ℕ). eqb x y) (little_drop 2 w p 2)
+      (ap (λ (x : ℕ). crc_of (drop 4 (take x (drop p w)))) z ∙ ap crc_of (body w p (length_at w p) l))
+
   -- a frame at a place is one at the front of the rest
   pub frame_drops : (c : ℕ) → frame_at c (drop p w) 0 ≡ frame_at c w p
   unfolding frame_at sync_at ends_within crc_right

@@ -1,3 +1,4 @@
 pub mod ReadRun
+pub mod Why
 pub mod Before
 pub mod Theorems

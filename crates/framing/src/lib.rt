@@ -3,6 +3,7 @@
 
 ghost use Rattle.std.specs.Prelude.{ℕ};
 ghost use Rattle.framing.specs.Before.{GreatestAsBefore};
+ghost use Rattle.framing.specs.Why.{WhyRight, CausesSum};
 ghost use Rattle.framing.specs.Theorems.{JudgedRight, DecidedExactly, DecidedStays, LastRight, ReadByTheRule, MoreDecidesAll, BlockDecidesNoMore};
 
 // A place is judged a frame exactly where one stands.
@@ -28,6 +29,16 @@ pub fn last_right()
 // A run is read by F11.
 pub fn read_by_the_rule()
     ensures { (c : ℕ) → ReadByTheRule c }
+{}
+
+// Each place that is no frame has its reason by the order of F18, and the judges find no other.
+pub fn why_right()
+    ensures { (c : ℕ) → WhyRight c }
+{}
+
+// The four counts of a run add up to its skipped places that carry the sync pair.
+pub fn causes_sum()
+    ensures { (c : ℕ) → CausesSum c }
 {}
 
 // Where Feed answers More, all that can be decided has been.
