@@ -163,7 +163,7 @@
  * The others look at no bytes.
  *
  * MEMORY. A reader has 81,920 bytes of buffers, and 72 of state. Nothing is called back and nothing recurs, so a call's stack
- * does not grow with its input. The deepest measured is feed's, 1,408 bytes, with what its caller has there for arguments and
+ * does not grow with its input. The deepest measured is stage's, 1,240 bytes, with what its caller has there for arguments and
  * reply: tests/capi/stack.c paints the stack and looks how far down the paint is gone.
  *
  * EXAMPLE (samples/example.c)
