@@ -144,8 +144,8 @@
  * What is written reads back: by the same table body, sub, tow and wnc answer what was given, DO_NOT_USE where it was unset.
  *
  * TIME. No call waits, and every call ends. How long it takes is measured and not promised: x86-64 instructions, counted by
- * bench/worst and bench/record of the repository with the kit that its README names; by the table shipped as it was before it
- * had MeasEpoch, 380 bytes long.
+ * bench/worst and bench/record of the repository with rattle-kit-5b, the kit before the one that its README names; by the table
+ * shipped as it was before it had MeasEpoch, 380 bytes long.
  *   feed            1,300 for a block of 44 bytes in one piece, 525,000 for the last byte of a block of 65,532.
  *                   A header in noise holds back as many bytes as its length says, up to the ceiling, and the feed that ends
  *                   it decides all of them. Of 65,532: 600,000 where they are zeros, but 4,570,000,000 where they are full
