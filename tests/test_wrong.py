@@ -49,6 +49,7 @@ REFUSALS = [
     ("a name that is not in scope", error("`size` is not in scope"), False),
     ("a name that is not in scope, told with its function", error("`f_spec`: `size` is not in scope"), False),
     ("a step that the edited code has no more", error("record `x.Lts.After-if` has no field `if2`"), False),
+    ("what depends on a lemma that was rejected", error("4 declarations that depend on `head`, which was rejected, were not checked: returns"), False),
     ("goals in another order", error("expected type `x.Goals.add`, but this has type `x.Goals.returns`"), False),
     ("unfit behind the name of a lemma", error("`f_spec`: it has no goal that can be named from here"), False),
     ("unfit in every error", f"{REFUSED}{AWAY}: proofs/f/Answers.antt:9:13: error: `f`: module `x.Goals` has no `add`", False),
