@@ -3,7 +3,7 @@
 use mathlib.Core.Path.{◌≡◌, refl, sym, ap, ap₂, ◌∙◌}
 use mathlib.Core.List.{List, [], ◌∷◌, map}
 use mathlib.Core.Bool.{Bool, true, false, not, ◌&&◌, cond}
-use mathlib.Core.Option.{Option, none, some}
+use Rattle.std.proofs.Common.{Option, None, Some}
 use Prim.Native.Nat.{ℕ}
 use native.Mathlib.Omega.{arith}
 use lib.Dec.{ltb, eqb}
@@ -61,15 +61,15 @@ abbrev refusal : Seen → FieldSaid
 refusal s = field_refused (or9 (number_by s))
 
 module _ (b : List ℕ) where
-  found_one : (o : Option BlockRow) → ((r : BlockRow) → o ≡ some r → r.firsts ≡ 0) → One (seen_row b o)
+  found_one : (o : Option BlockRow) → ((r : BlockRow) → o ≡ Some r → r.firsts ≡ 0) → One (seen_row b o)
   unfolding seen_row
-  found_one none h = tt
-  found_one (some r) h = one_if (body_fits b r) _ _ (one_if (subs_fit b r) _ _ (h r refl) tt) tt
+  found_one None h = tt
+  found_one (Some r) h = one_if (body_fits b r) _ _ (one_if (subs_fit b r) _ _ (h r refl) tt) tt
 
-  found_same : (o : Option BlockRow) → ((r : BlockRow) → o ≡ some r → r.firsts ≡ 0) → seen_row b o ≡ seen_row_before b o
+  found_same : (o : Option BlockRow) → ((r : BlockRow) → o ≡ Some r → r.firsts ≡ 0) → seen_row b o ≡ seen_row_before b o
   unfolding seen_row seen_row_before
-  found_same none h = refl
-  found_same (some r) h = rw (fits b r (h r refl))
+  found_same None h = refl
+  found_same (Some r) h = rw (fits b r (h r refl))
 
   sub_one : (k : ℕ) (s : Seen) → One s → One (seen_sub_row b k s)
   unfolding seen_sub_row
@@ -91,7 +91,7 @@ module _ (b : List ℕ) where
   place_by_lem k (refused_by n) p = refl
   place_by_lem k (row r) p = stands b r p k
 
-  none_nested : (k m : ℕ) → pick (seconds (alone (one_span b k))) m ≡ none
+  none_nested : (k m : ℕ) → pick (seconds (alone (one_span b k))) m ≡ None
   unfolding seconds tabulate pick
   none_nested k m = refl
 
@@ -156,7 +156,7 @@ unfolding block_ok shape_ok block_ok_before
 rules-same r one =
     rw (one_first r one, one_second r one, no_fields r.highest, eq-eqb r.firsts 0 one, and-true (every offset_ok r.body && fields_ok r.highest r.body && fields_ok r.highest r.subs))
 
-this_or : (x : Bool) (s : BlockRow) (o : Option BlockRow) (r : BlockRow) → s.firsts ≡ 0 → (o ≡ some r → r.firsts ≡ 0) → cond x (some s) o ≡ some r
+this_or : (x : Bool) (s : BlockRow) (o : Option BlockRow) (r : BlockRow) → s.firsts ≡ 0 → (o ≡ Some r → r.firsts ≡ 0) → cond x (Some s) o ≡ Some r
     → r.firsts ≡ 0
 this_or true s o r p q h = let e : s ≡ r = cc in sym (ap (λ (y : BlockRow). y.firsts) e) ∙ p
 this_or false s o r p q h = q h
@@ -173,7 +173,7 @@ module _ (t : List ℕ) where
       let p = both (zero_ok_before r) (every zero_ok_before rs) e in
       ap₂ (λ (x y : Bool). x && y) (rules-same (block_of t r) (block_one r p.0)) (blocks-same rs p.1)
 
-  first_one : (p : BlockRow → Bool) (rs : List Row) → every zero_ok_before rs ≡ true → (r : BlockRow) → first_that p (map (block_of t) rs) ≡ some r → r.firsts ≡ 0
+  first_one : (p : BlockRow → Bool) (rs : List Row) → every zero_ok_before rs ≡ true → (r : BlockRow) → first_that p (map (block_of t) rs) ≡ Some r → r.firsts ≡ 0
   unfolding every first_that
   first_one p [] e r h = let z : ◌≡◌ {A = ℕ} 0 1 = cc in let f : ⊥ = omega arith in absurd f
   first_one p (x ∷ xs) e r h =

@@ -3,7 +3,7 @@
 use mathlib.Core.Path.{◌≡◌, refl, subst}
 use mathlib.Core.List.{List}
 use mathlib.Core.Bool.{Bool, true, false, ◌&&◌, ◌||◌, cond}
-use mathlib.Core.Option.{Option, none, some}
+use Rattle.std.proofs.Common.{Option, None, Some}
 use Prim.Native.Nat.{ℕ, ◌≤◌}
 use native.Mathlib.Omega.{arith}
 use lib.Dec.{leb, eqb}
@@ -31,8 +31,8 @@ module _ (b : List ℕ) (r : BlockRow) where
 
   by_found : (o : Option BlockRow) → seen_row b o ≡ row r → subs_fit b r ≡ true
   unfolding seen_row
-  by_found none e = no_row e
-  by_found (some q) e = by_row q (body_fits b q) (subs_fit b q) refl e
+  by_found None e = no_row e
+  by_found (Some q) e = by_row q (body_fits b q) (subs_fit b q) refl e
 
   by_frame : (c : Bool) (o : Option BlockRow) → cond c (seen_row b o) (refused_by 10) ≡ row r → subs_fit b r ≡ true
   by_frame true o e = by_found o e

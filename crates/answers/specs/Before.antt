@@ -1,8 +1,7 @@
 -- What record calls answered before there were two levels (request M-102), kept to state that rows of one level answer so still; and the
 -- rules of a table then. The words are those of that time, each name with Before behind it; a row's last byte is called `firsts` now.
 -- Assumes nothing.
-use Rattle.std.specs.Prelude.{ℕ, ◌+◌, ◌*◌, List, [], Bool, not, ◌&&◌, ◌||◌, cond, leb, eqb}
-use Rattle.std.proofs.Math.Option.{Option, none, some}
+use Rattle.std.specs.Prelude.{ℕ, ◌+◌, ◌*◌, List, [], Bool, not, ◌&&◌, ◌||◌, cond, leb, eqb, Option, None, Some}
 use Rattle.frame.specs.Frame.{whole_frame}
 use Rattle.rows.specs.declared.Row.{Row}
 use Rattle.rows.specs.Places.{field_count}
@@ -28,8 +27,8 @@ subs_fit_before b r =
 
 -- R20: 6, 7, 8
 unfoldable pub seen_row_before : List ℕ → Option BlockRow → Seen
-seen_row_before b none = refused_by 6
-seen_row_before b (some r) = cond (body_fits b r) (cond (subs_fit_before b r) (row r) (refused_by 8)) (refused_by 7)
+seen_row_before b None = refused_by 6
+seen_row_before b (Some r) = cond (body_fits b r) (cond (subs_fit_before b r) (row r) (refused_by 8)) (refused_by 7)
 
 -- R20: 10 comes first
 unfoldable pub seen_before : Table → List ℕ → Seen

@@ -1,7 +1,6 @@
 -- Rows of one level answer as before there were two (request M-102).
 -- Assumes nothing.
-use Rattle.std.specs.Prelude.{ℕ, ◌≡◌, List, true}
-use Rattle.std.proofs.Math.Option.{Option, none, some}
+use Rattle.std.specs.Prelude.{ℕ, ◌≡◌, List, true, Option, None, Some}
 use Rattle.table.specs.Lists.{every}
 use Rattle.table.specs.Rows.{BlockRow, Table}
 use Rattle.table.specs.Decode.{rows_of, decode}
@@ -16,12 +15,12 @@ use Rattle.answers.specs.Before.{body_field_before, sub_field_before, sub_block_
 
 -- T17: the row that the block is read by, if any, is of one level
 abbrev pub OneLevel : Table → List ℕ → Type 0
-OneLevel tab b = (r : BlockRow) → find_row tab (number_in b) ≡ some r → r.firsts ≡ 0
+OneLevel tab b = (r : BlockRow) → find_row tab (number_in b) ≡ Some r → r.firsts ≡ 0
 
 -- R9: the number that a sub-block was refused with, else 9
 abbrev pub or9 : Option ℕ → ℕ
-or9 none = 9
-or9 (some n) = n
+or9 None = 9
+or9 (Some n) = n
 
 -- C13: each record call answers as before; C16: each new one refuses as Sub did, and with 9 where the sub-block is there
 pub record AsBefore (tab : Table) (b : List ℕ) : Type 0 where

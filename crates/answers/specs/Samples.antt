@@ -1,7 +1,6 @@
 -- The samples of records, S4, S8 to S10 and the values of S13, and the limits of the rules, as one table of cases.
 -- Assumes nothing.
-use Rattle.std.specs.Prelude.{ℕ, ◌≡◌, List, [], ◌∷◌, map, pos, negsuc}
-use Rattle.std.proofs.Math.Option.{Option, none, some}
+use Rattle.std.specs.Prelude.{ℕ, ◌≡◌, List, [], ◌∷◌, map, pos, negsuc, Option, None, Some}
 use Rattle.wire.specs.Little.{little_at}
 use Rattle.frame.specs.Frame.{number_of, revision_of}
 use Rattle.kinds.specs.Types.{u1, u2, u4, u8, i1, i2, i4, i8, f4, f8}
@@ -171,7 +170,7 @@ record_cases =
     ∷ case (of_body old 3) (says not_in_revision)
     ∷ case (of_body old 4) (says (field_refused 9))
     ∷ case (of_sub old 0 0) (says (field_refused 9))
-    ∷ case (of_bytes old 0) (part_said [] (some 9))
+    ∷ case (of_bytes old 0) (part_said [] (Some 9))
     ∷ case (says (stamp tow_row old)) (says do_not_use)
     ∷ case (says (stamp wnc_row old)) (says (unsigned 0x0102))
     -- R20: 7 comes before 9; V6: a revision above the row's highest
@@ -189,29 +188,29 @@ record_cases =
     ∷ case (of_sub two_subs 1 1) (says not_in_revision)
     ∷ case (of_sub two_subs 1 2) (says (field_refused 9))
     ∷ case (of_sub two_subs 2 0) (says (field_refused 9))
-    ∷ case (of_bytes two_subs 1) (part_said (0x55 ∷ 0x66 ∷ 0x77 ∷ 0x88 ∷ []) none)
-    ∷ case (of_bytes two_subs 2) (part_said [] (some 9))
+    ∷ case (of_bytes two_subs 1) (part_said (0x55 ∷ 0x66 ∷ 0x77 ∷ 0x88 ∷ []) None)
+    ∷ case (of_bytes two_subs 2) (part_said [] (Some 9))
     ∷ case (of_body two_subs 0) (says (unsigned 2))
     ∷ case (of_body narrow 0) (says (field_refused 8))
-    ∷ case (of_bytes narrow 0) (part_said [] (some 8))
+    ∷ case (of_bytes narrow 0) (part_said [] (Some 8))
     ∷ case (of_sub overlong 0 0) (says (field_refused 8))
     -- R20: 7 comes before 8
     ∷ case (of_body countless 0) (says (field_refused 7))
     ∷ case (of_sub countless 0 0) (says (field_refused 7))
-    ∷ case (of_bytes countless 0) (part_said [] (some 7))
+    ∷ case (of_bytes countless 0) (part_said [] (Some 7))
     -- T18, R8: N zero, and SBLength zero
     ∷ case (of_body nosubs 1) (says (unsigned 255))
     ∷ case (of_sub nosubs 0 0) (says (field_refused 9))
     ∷ case (of_body none_of_zero 1) (says (unsigned 0))
     ∷ case (of_sub none_of_zero 0 0) (says (field_refused 9))
-    ∷ case (of_bytes none_of_zero 0) (part_said [] (some 9))
+    ∷ case (of_bytes none_of_zero 0) (part_said [] (Some 9))
     ∷ case (of_body none_of_one 1) (says (unsigned 1))
     ∷ case (of_sub none_of_one 0 0) (says (field_refused 9))
-    ∷ case (of_bytes none_of_one 0) (part_said [] (some 9))
-    ∷ case (of_bytes flat 0) (part_said [] (some 8))
-    ∷ case (of_bytes hollow 4) (part_said [] none)
+    ∷ case (of_bytes none_of_one 0) (part_said [] (Some 9))
+    ∷ case (of_bytes flat 0) (part_said [] (Some 8))
+    ∷ case (of_bytes hollow 4) (part_said [] None)
     ∷ case (of_sub hollow 4 0) (says not_in_revision)
-    ∷ case (of_bytes hollow 5) (part_said [] (some 9))
+    ∷ case (of_bytes hollow 5) (part_said [] (Some 9))
     ∷ []
 
 abbrev pub RecordSamplesHold : Type 0

@@ -1,7 +1,6 @@
 -- A block against a table: its row, or why it is refused (rule R20: 10, 6, 7, 8, and 9 of a sub-block), and where its sub-blocks stand.
 -- Assumes nothing.
-use Rattle.std.specs.Prelude.{ℕ, ◌+◌, ◌*◌, ◌≤◌, ◌<◌, ◌≡◌, List, Bool, true, not, ◌&&◌, ◌||◌, cond, length, ltb, leb, eqb}
-use Rattle.std.proofs.Math.Option.{Option, none, some}
+use Rattle.std.specs.Prelude.{ℕ, ◌+◌, ◌*◌, ◌≤◌, ◌<◌, ◌≡◌, List, Bool, true, not, ◌&&◌, ◌||◌, cond, length, ltb, leb, eqb, Option, None, Some}
 use Rattle.frame.specs.Frame.{id_at, number_of, revision_of, whole_frame}
 use Rattle.refusal.specs.Numbers.{number_for}
 use Rattle.rows.specs.declared.FieldRow.{FieldRow}
@@ -55,8 +54,8 @@ one_fits b r =
 
 -- T20, T21: where N2 stands in a first-level sub-block
 abbrev pub offset_of : Option FieldRow → ℕ
-offset_of none = 0
-offset_of (some f) = f.offset
+offset_of None = 0
+offset_of (Some f) = f.offset
 
 -- T21: the walk over a block of two levels. Of its row it uses N2's offset alone (D6)
 abbrev pub walk_of : BlockRow → List ℕ → List Nest
@@ -93,8 +92,8 @@ pub data Seen : Type 0 where
 
 -- R20: 6, 7, 8
 unfoldable pub seen_row : List ℕ → Option BlockRow → Seen
-seen_row b none = refused_by 6
-seen_row b (some r) = cond (body_fits b r) (cond (subs_fit b r) (row r) (refused_by 8)) (refused_by 7)
+seen_row b None = refused_by 6
+seen_row b (Some r) = cond (body_fits b r) (cond (subs_fit b r) (row r) (refused_by 8)) (refused_by 7)
 
 -- R20: 10 comes first
 unfoldable pub seen : Table → List ℕ → Seen

@@ -1,7 +1,6 @@
 -- Working definitions that only contracts inside the crate cite.
 -- Assumes nothing.
-use Rattle.std.specs.Prelude.{ℕ, ◌<◌, ◌≡◌, List}
-use Rattle.std.proofs.Math.Option.{some}
+use Rattle.std.specs.Prelude.{ℕ, ◌<◌, ◌≡◌, List, Some}
 use Rattle.rows.specs.declared.Row.{Row}
 use Rattle.table.specs.Decode.{block_of, decode}
 use Rattle.walk.specs.declared.Nest.{Nest}
@@ -20,7 +19,7 @@ LookedIfAny t b k (subMatched.Refused x) = Unit
 
 -- of a row whose block is a whole frame: what refusals 7 and 8 make of it
 pub record Fitting (t b : List ℕ) (k : ℕ) (r : Row) (l : SubMatched) : Type 0 where
-  pub is : sub_matched_says t l ≡ seen_row b (some (block_of t r))
+  pub is : sub_matched_says t l ≡ seen_row b (Some (block_of t r))
   pub fine : LookedIfAny t b k l
 
 -- and 10 and 6 before them

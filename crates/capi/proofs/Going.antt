@@ -3,7 +3,7 @@
 use mathlib.Core.Path.{◌≡◌, ap, ◌∙◌}
 use mathlib.Core.Bool.{false}
 use mathlib.Core.List.{List}
-use mathlib.Core.Option.{Option, none, some}
+use Rattle.std.proofs.Common.{Option, None, Some}
 use Prim.Native.Nat.{ℕ}
 use Rattle.reader.specs.State.{sound}
 use Rattle.reader.specs.Said.{Said, refused}
@@ -19,8 +19,8 @@ use Rattle.cform.specs.declared.CReply.{CReply}
 module _ (call : State → Outcome) (s : CState) (lent : List ℕ) (refuses : (t : State) → sound t ≡ false → call t ≡ outcome (refused 1) t lent) where
   -- the call was made with t, left u and l, and said a
   goes_by : (o : Option State) (t u : State) (a : Said) (l : List ℕ) → Reads o t → outcome a u l ≡ call t → left (reply_c a (back_c s o u)) l ≡ goes_on call s lent o
-  goes_by none t u a l k e = ap (λ (x : Outcome). left (reply_c x.said s) x.lent) (e ∙ refuses t k)
-  goes_by (some v) t u a l k e = ap (λ (x : Outcome). left (reply_c x.said (state_c x.state)) x.lent) (e ∙ ap call k)
+  goes_by None t u a l k e = ap (λ (x : Outcome). left (reply_c x.said s) x.lent) (e ∙ refuses t k)
+  goes_by (Some v) t u a l k e = ap (λ (x : Outcome). left (reply_c x.said (state_c x.state)) x.lent) (e ∙ ap call k)
 
   pub goes_on_lem : (o : Option State) {t u : State} {a : Said} {l : List ℕ} {x : CAnswer} {r : CReply} → Reads o t → outcome a u l ≡ call t → x ≡ answer_c a
       → ◌≡◌ {A = CReply} r (record { state = back_c s o u; answer = x }) → left r l ≡ goes_on call s lent o

@@ -3,7 +3,8 @@
 use mathlib.Core.Path.{◌≡◌, sym, ap, ap₂, ◌∙◌, subst}
 use mathlib.Core.Bool.{false}
 use mathlib.Core.List.{List, []}
-use mathlib.Core.Option.{Option, none, some, none-ne-some}
+use Rattle.std.proofs.Common.{Option, None, Some}
+use Rattle.std.proofs.lemmas.Option.{none-some}
 use Prim.Native.Nat.{ℕ, ◌+◌, ◌≤◌}
 use native.Mathlib.Omega.{arith}
 use lib.ListN.{length, take, drop}
@@ -28,37 +29,37 @@ same_part : {p q : CPart} {a b : List ℕ} → p ≡ q → a ≡ b → ◌≡◌
 same_part {p} {q} {a} {b} e f = ap₂ (λ (x : CPart) (y : List ℕ). record { part = x; bytes = y }) e f
 
 -- a refused call's part is empty
-empty : (buffer : List ℕ) (n : ℕ) {p : CPart} → p ≡ part_c (some n) 0 0 → handing p buffer ≡ record { part = part_c (some n) 0 0; bytes = [] }
+empty : (buffer : List ℕ) (n : ℕ) {p : CPart} → p ≡ part_c (Some n) 0 0 → handing p buffer ≡ record { part = part_c (Some n) 0 0; bytes = [] }
 empty buffer n e = ap (λ (x : CPart). handing x buffer) e
 
-module _ (refusal : State → Option ℕ) (offset : State → ℕ) (bytes : State → List ℕ) (buffer : List ℕ) (refuses : (t : State) → sound t ≡ false → refusal t ≡ some 1) where
+module _ (refusal : State → Option ℕ) (offset : State → ℕ) (bytes : State → List ℕ) (buffer : List ℕ) (refuses : (t : State) → sound t ≡ false → refusal t ≡ Some 1) where
   -- the call was made with t, and is refused with n
-  pub hands_none : (o : Option State) (t : State) (n : ℕ) {p : CPart} → Reads o t → refusal t ≡ some n → bytes t ≡ [] → p ≡ part_c (some n) 0 0
+  pub hands_none : (o : Option State) (t : State) (n : ℕ) {p : CPart} → Reads o t → refusal t ≡ Some n → bytes t ≡ [] → p ≡ part_c (Some n) 0 0
       → handing p buffer ≡ hands refusal offset bytes o
-  hands_none none t n k r b e = empty buffer 1 (e ∙ ap (λ (x : Option ℕ). part_c x 0 0) (sym r ∙ refuses t k))
-  hands_none (some u) t n k r b e =
+  hands_none None t n k r b e = empty buffer 1 (e ∙ ap (λ (x : Option ℕ). part_c x 0 0) (sym r ∙ refuses t k))
+  hands_none (Some u) t n k r b e =
       empty buffer n e
       ∙ sym (same_part (ap (λ (x : Option ℕ). part_c x (offset u) (length (bytes u))) (ap refusal (sym k) ∙ r)) (ap bytes (sym k) ∙ b))
 
-  pub hands_it : (o : Option State) (t : State) (n : ℕ) {p : CPart} → Reads o t → refusal t ≡ none → p ≡ part_c none (offset t) n → n ≡ length (bytes t)
+  pub hands_it : (o : Option State) (t : State) (n : ℕ) {p : CPart} → Reads o t → refusal t ≡ None → p ≡ part_c None (offset t) n → n ≡ length (bytes t)
       → take n (drop (offset t) buffer) ≡ bytes t → handing p buffer ≡ hands refusal offset bytes o
-  hands_it none t n k r e l b = absurd (none-ne-some 1 (sym r ∙ refuses t k))
-  hands_it (some u) t n k r e l b =
+  hands_it None t n k r e l b = absurd (none-some 1 (sym r ∙ refuses t k))
+  hands_it (Some u) t n k r e l b =
       ap (λ (x : CPart). handing x buffer) e
       ∙ same_part
-      (ap (part_c none (offset t)) l
-      ∙ ap (λ (v : State). part_c none (offset v) (length (bytes v))) k
+      (ap (part_c None (offset t)) l
+      ∙ ap (λ (v : State). part_c None (offset v) (length (bytes v))) k
       ∙ sym (ap (λ (x : Option ℕ). part_c x (offset u) (length (bytes u))) (ap refusal (sym k) ∙ r)))
       (b ∙ ap bytes k)
 
-module _ (t : State) (hold : List ℕ) (e : bytes_refusal t hold ≡ none) where
+module _ (t : State) (hold : List ℕ) (e : bytes_refusal t hold ≡ None) where
   bytes_are : bytes_of t hold ≡ take t.run.standing hold
   unfolding bytes_of
   bytes_are = ap (λ (o : Option ℕ). part_unless o (take t.run.standing hold)) e
 
   few : t.run.standing ≤ length hold
   unfolding bytes_refusal
-  few = let f = with_hold t hold (passes _ 1 none e).0 in omega (arith, f.0.front, f.0.held, f.1)
+  few = let f = with_hold t hold (passes _ 1 None e).0 in omega (arith, f.0.front, f.0.held, f.1)
 
   pub bytes_cut : take (length (bytes_of t hold)) (drop 0 hold) ≡ bytes_of t hold
   bytes_cut =

@@ -3,7 +3,7 @@
 use mathlib.Core.Path.{◌≡◌}
 use mathlib.Core.Bool.{false}
 use mathlib.Core.List.{List, []}
-use mathlib.Core.Option.{some}
+use Rattle.std.proofs.Common.{Some}
 use Prim.Native.Nat.{ℕ}
 use Rattle.record.specs.Answer.{field_refused}
 use Rattle.reader.specs.declared.Settings.{Settings}
@@ -41,11 +41,11 @@ module _ (t : State) (e : sound t ≡ false) where
   unfolding finish_of finish_refusal
   finish-one hold = rw e
 
-  pub bytes_one : (hold : List ℕ) → bytes_refusal t hold ≡ some 1
+  pub bytes_one : (hold : List ℕ) → bytes_refusal t hold ≡ Some 1
   unfolding bytes_refusal
   bytes_one hold = rw e
 
-  ask-one : (force : List ℕ) → ask_refusal t force ≡ some 1
+  ask-one : (force : List ℕ) → ask_refusal t force ≡ Some 1
   unfolding ask_refusal
   ask-one force = rw e
 
@@ -57,7 +57,7 @@ module _ (t : State) (e : sound t ≡ false) where
   unfolding sub_of
   sub_one force block k j = rw (ask-one force)
 
-  pub sub_bytes_one : (force block : List ℕ) (k : ℕ) → sub_bytes_refusal t force block k ≡ some 1
+  pub sub_bytes_one : (force block : List ℕ) (k : ℕ) → sub_bytes_refusal t force block k ≡ Some 1
   unfolding sub_bytes_refusal
   sub_bytes_one force block k = rw (ask-one force)
 

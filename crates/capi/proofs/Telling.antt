@@ -2,7 +2,7 @@
 -- Assumes nothing.
 use mathlib.Core.Path.{◌≡◌, ap, ◌∙◌}
 use mathlib.Core.Bool.{false}
-use mathlib.Core.Option.{Option, none, some}
+use Rattle.std.proofs.Common.{Option, None, Some}
 use Rattle.record.specs.Answer.{FieldSaid, field_refused, answer_says, Answers}
 use Rattle.record.specs.declared.Answer.{Answer}
 use Rattle.reader.specs.State.{sound}
@@ -14,8 +14,8 @@ use Rattle.capi.specs.Calls.{tells_field}
 
 module _ (call : State → FieldSaid) (refuses : (t : State) → sound t ≡ false → call t ≡ field_refused 1) where
   tells_by : (o : Option State) (t : State) → Reads o t → field_c (call t) ≡ tells_field call o
-  tells_by none t k = ap field_c (refuses t k)
-  tells_by (some u) t k = ap (λ (v : State). field_c (call v)) k
+  tells_by None t k = ap field_c (refuses t k)
+  tells_by (Some u) t k = ap (λ (v : State). field_c (call v)) k
 
   pub tells_it : (o : Option State) {t : State} {r : Answer} {x : CField} → Reads o t → Answers r (call t) → x ≡ field_c (answer_says r) → x ≡ tells_field call o
   tells_it o {t} k h e = e ∙ ap field_c h.says ∙ tells_by o t k

@@ -1,7 +1,6 @@
 -- What each exported call answers and leaves: the reader's outcome as C has it, and refusal 1 for a state whose phase is none.
 -- Assumes nothing.
-use Rattle.std.specs.Prelude.{ℕ, List, [], length, take, drop}
-use Rattle.std.proofs.Math.Option.{Option, none, some}
+use Rattle.std.specs.Prelude.{ℕ, List, [], length, take, drop, Option, None, Some}
 use Rattle.record.specs.Answer.{FieldSaid, field_refused}
 use Rattle.reader.specs.declared.State.{State}
 use Rattle.reader.specs.Said.{refused}
@@ -36,8 +35,8 @@ left r l = record { reply = r; lent = l }
 
 -- a phase that is none: refused with 1, and then R21 holds as of any refusal
 abbrev pub goes_on : (State → Outcome) → CState → List ℕ → Option State → Left
-goes_on call s lent none = left (reply_c (refused 1) s) lent
-goes_on call s lent (some t) = left (reply_c (call t).said (state_c (call t).state)) (call t).lent
+goes_on call s lent None = left (reply_c (refused 1) s) lent
+goes_on call s lent (Some t) = left (reply_c (call t).said (state_c (call t).state)) (call t).lent
 
 -- C17: with the settings that C gave, whatever they are
 unfoldable pub open_c : CState → CSettings → List ℕ → List ℕ → Left
@@ -59,8 +58,8 @@ withdraw_c s = goes_on withdraw_of s [] (state_of s)
 -- ---- fields
 
 abbrev pub tells_field : (State → FieldSaid) → Option State → CField
-tells_field call none = field_c (field_refused 1)
-tells_field call (some t) = field_c (call t)
+tells_field call None = field_c (field_refused 1)
+tells_field call (Some t) = field_c (call t)
 
 unfoldable pub body_c : CState → List ℕ → List ℕ → ℕ → CField
 body_c s force block i = tells_field (λ t. body_of t force block i) (state_of s)
@@ -99,8 +98,8 @@ handing p buffer = record { part = p; bytes = cut p buffer }
 
 -- a call that hands back so many bytes from an offset, or is refused
 abbrev pub hands : (State → Option ℕ) → (State → ℕ) → (State → List ℕ) → Option State → Handing
-hands refusal offset bytes none = record { part = part_c (some 1) 0 0; bytes = [] }
-hands refusal offset bytes (some t) = record { part = part_c (refusal t) (offset t) (length (bytes t)); bytes = bytes t }
+hands refusal offset bytes None = record { part = part_c (Some 1) 0 0; bytes = [] }
+hands refusal offset bytes (Some t) = record { part = part_c (refusal t) (offset t) (length (bytes t)); bytes = bytes t }
 
 -- C9: the part starts where the hold starts
 unfoldable pub bytes_c : CState → List ℕ → Handing
@@ -122,8 +121,8 @@ abbrev pub making : CWritten → List ℕ → Making
 making w b = record { written = w; buffer = b }
 
 abbrev pub tells_written : (State → WriteOutcome) → List ℕ → Option State → Making
-tells_written call buffer none = making (written_c (write_refused 1)) buffer
-tells_written call buffer (some t) = making (written_c (call t).said) (call t).buffer
+tells_written call buffer None = making (written_c (write_refused 1)) buffer
+tells_written call buffer (Some t) = making (written_c (call t).said) (call t).buffer
 
 -- W1
 unfoldable pub write_c : CState → List ℕ → Draft → List ℕ → Making

@@ -4,7 +4,7 @@ use Prim.Native.Nat.{ℕ}
 use mathlib.Core.Path.{◌≡◌, refl}
 use mathlib.Core.Bool.{Bool, true, false}
 use mathlib.Core.List.{List, []}
-use mathlib.Core.Option.{Option, none, some}
+use Rattle.std.proofs.Common.{Option, None, Some}
 use Rattle.reader.specs.declared.Run.{Run}
 use Rattle.reader.specs.declared.State.{State}
 use Rattle.reader.specs.Said.{Report, took, waited}
@@ -20,16 +20,16 @@ module _ (finish : Bool) where
   -- refused, or what the call would have said
   unless_back : (x : Option ℕ) (s : State) (l : List ℕ) (o : Outcome) → answer_back finish (answer_c o.said) ≡ o.said
       → answer_back finish (answer_c (unless x s l o).said) ≡ (unless x s l o).said
-  unless_back none s l o e = e
-  unless_back (some n) s l o e = refl
+  unless_back None s l o e = e
+  unless_back (Some n) s l o e = refl
 
 took_back : (n : ℕ) (r : Option Report) → answer_back false (answer_c (took n r)) ≡ took n r
-took_back n none = refl
-took_back n (some r) = refl
+took_back n None = refl
+took_back n (Some r) = refl
 
 finish_back : (o : Option ℕ) (r : Run) (v : List ℕ) → answer_back true (answer_c (finish_said o r v)) ≡ finish_said o r v
-finish_back none r v = refl
-finish_back (some n) r v = refl
+finish_back None r v = refl
+finish_back (Some n) r v = refl
 
 waited_back : (b : Bool) → answer_back false (answer_c (waited b)) ≡ waited b
 waited_back true = refl

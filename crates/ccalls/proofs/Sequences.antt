@@ -6,7 +6,7 @@ use mathlib.Core.Path.{◌≡◌, refl, sym, ap, ap₂, ◌∙◌}
 use mathlib.Core.Bool.{true, false}
 use mathlib.Core.List.{List, [], ◌∷◌}
 use mathlib.Core.Logic.{inl, inr}
-use mathlib.Core.Option.{Option, none, some, get_or}
+use Rattle.std.proofs.Common.{Option, None, Some, unwrap_or}
 use lib.ListN.{length, take, drop}
 use borrow.Author.Tests.{ne_eqb}
 use Rattle.block.specs.Block.{Seen, refused_by, row, seen_sub, sub_span}
@@ -41,12 +41,12 @@ use Rattle.ccalls.specs.ThroughC.{CWorld, world_c, looked_c, step_c, refusal_bac
 use Rattle.ccalls.proofs.Answers.{open_back, feed_back, end_back, stage_back, withdraw_back}
 
 -- what the state of C's stands for
-back : (t : State) → state_of (state_c t) ≡ some t
+back : (t : State) → state_of (state_c t) ≡ Some t
 back = nothing_lost.state
 
 -- ---- a refusal's number is over 0
 
-over : (n : ℕ) → 0 < n → refusal_back n ≡ some n
+over : (n : ℕ) → 0 < n → refusal_back n ≡ Some n
 over n h = rw (ne_eqb n 0 (λ e. omega arith))
 
 abbrev AllOver : Order → Type 0
@@ -58,15 +58,15 @@ given_over [] n a g = absurd g
 given_over (d ∷ ds) n a (inl g) = omega (arith, a.0, g.0)
 given_over (d ∷ ds) n a (inr g) = given_over ds n a.1 g.1
 
-part_back_lem : (x : Option ℕ) (o l : ℕ) → ((n : ℕ) → x ≡ some n → 0 < n) → refusal_back (part_c x o l).refusal ≡ x
-part_back_lem none o l h = refl
-part_back_lem (some n) o l h = over n (h n refl)
+part_back_lem : (x : Option ℕ) (o l : ℕ) → ((n : ℕ) → x ≡ Some n → 0 < n) → refusal_back (part_c x o l).refusal ≡ x
+part_back_lem None o l h = refl
+part_back_lem (Some n) o l h = over n (h n refl)
 
-bytes_over : (w : World) (n : ℕ) → bytes_refusal w.state w.hold ≡ some n → 0 < n
+bytes_over : (w : World) (n : ℕ) → bytes_refusal w.state w.hold ≡ Some n → 0 < n
 unfolding step
 bytes_over w n e = given_over (order (look bytes) w) n (omega arith, tt) ((demand_1.refused (look bytes) w).gives n e)
 
-sub_over : (w : World) (b : List ℕ) (k n : ℕ) → sub_bytes_refusal w.state w.force b k ≡ some n → 0 < n
+sub_over : (w : World) (b : List ℕ) (k n : ℕ) → sub_bytes_refusal w.state w.force b k ≡ Some n → 0 < n
 unfolding step
 sub_over w b k n e =
     given_over (order (look (sub_bytes b k)) w) n
@@ -129,8 +129,8 @@ take_again (suc n) (x ∷ xs) = ap (λ (ys : List ℕ). x ∷ ys) (take_again n 
 -- what C cuts out of the buffer is what the reader hands back
 module _ (at n : ℕ) (v : List ℕ) where
   cut_unless : (o : Option ℕ) → cut (part_c o at (length (part_unless o (take n (drop at v))))) v ≡ part_unless o (take n (drop at v))
-  cut_unless none = take_again n (drop at v)
-  cut_unless (some m) = refl
+  cut_unless None = take_again n (drop at v)
+  cut_unless (Some m) = refl
 
 bytes_cut : (s : State) (hold : List ℕ) → cut (part_c (bytes_refusal s hold) 0 (length (bytes_of s hold))) hold ≡ bytes_of s hold
 unfolding bytes_of
@@ -139,9 +139,9 @@ bytes_cut s hold = cut_unless 0 s.run.standing hold (bytes_refusal s hold)
 sub_cut_by : (o : Option ℕ) (x : Seen) (b : List ℕ) (k : ℕ)
     → cut (part_c (first_of o (number_by x)) (place_unless o (place_by b k x)).at (length (part_unless o (part_by b k x)))) b ≡ part_unless o (part_by b k x)
 unfolding sub_slice
-sub_cut_by (some n) x b k = refl
-sub_cut_by none (refused_by n) b k = refl
-sub_cut_by none (row r) b k = take_again (sub_span r b k).size (drop (sub_span r b k).at b)
+sub_cut_by (Some n) x b k = refl
+sub_cut_by None (refused_by n) b k = refl
+sub_cut_by None (row r) b k = take_again (sub_span r b k).size (drop (sub_span r b k).at b)
 
 sub_cut : (s : State) (force b : List ℕ) (k : ℕ)
     → cut (part_c (sub_bytes_refusal s force b k) (sub_place_of s force b k).at (length (sub_bytes_of s force b k))) b ≡ sub_bytes_of s force b k
@@ -205,7 +205,7 @@ answers (c ∷ cs) w =
 -- ---- as one equation
 
 back_again : (before : State) (w : World) → world_back before (world_c w) ≡ w
-back_again before w = ap (λ (o : Option State). record { state = get_or o before; hold = w.hold; force = w.force; wait = w.wait }) (back w.state)
+back_again before w = ap (λ (o : Option State). record { state = unwrap_or o before; hold = w.hold; force = w.force; wait = w.wait }) (back w.state)
 
 same_step : (c : Call) (w : World) → step_by_c c w ≡ step c w
 unfolding step_by_c
@@ -217,7 +217,7 @@ same i c w = same_step c w i
 
 -- ---- a state that is made up
 
-unknown_look : (l : Look) (w : CWorld) → state_of w.state ≡ none → (told (reply_back (look l) w (looked_c l w))).refusal ≡ some 1
+unknown_look : (l : Look) (w : CWorld) → state_of w.state ≡ None → (told (reply_back (look l) w (looked_c l w))).refusal ≡ Some 1
 unfolding bytes_c body_c sub_c sub_bytes_c sub2_c range_c range2_c tow_c wnc_c write_c
 unknown_look bytes w e = rw e
 unknown_look (body b i) w e = rw e
@@ -230,7 +230,7 @@ unknown_look (tow b) w e = rw e
 unknown_look (wnc b) w e = rw e
 unknown_look (write d buffer) w e = rw e
 
-unknown : (c : Call) (w : CWorld) → state_of w.state ≡ none → (told (reply_back c w (step_c c w).answer)).refusal ≡ some 1
+unknown : (c : Call) (w : CWorld) → state_of w.state ≡ None → (told (reply_back c w (step_c c w).answer)).refusal ≡ Some 1
 unfolding step_c open_c feed_c finish_c stage_c withdraw_c
 unknown (open_run x) w e = rw e
 unknown (feed piece) w e = rw e
@@ -239,7 +239,7 @@ unknown (table (stage t)) w e = rw e
 unknown (table withdraw) w e = rw e
 unknown (look l) w e = unknown_look l w e
 
-empty_look : (l : Look) (w : CWorld) → state_of w.state ≡ none → part_of (reply_back (look l) w (looked_c l w)) ≡ []
+empty_look : (l : Look) (w : CWorld) → state_of w.state ≡ None → part_of (reply_back (look l) w (looked_c l w)) ≡ []
 unfolding bytes_c sub_bytes_c
 empty_look bytes w e = rw e
 empty_look (body b i) w e = refl
@@ -252,7 +252,7 @@ empty_look (tow b) w e = refl
 empty_look (wnc b) w e = refl
 empty_look (write d buffer) w e = refl
 
-empty : (c : Call) (w : CWorld) → state_of w.state ≡ none → part_of (reply_back c w (step_c c w).answer) ≡ []
+empty : (c : Call) (w : CWorld) → state_of w.state ≡ None → part_of (reply_back c w (step_c c w).answer) ≡ []
 unfolding step_c open_c feed_c finish_c stage_c withdraw_c
 empty (open_run x) w e = rw e
 empty (feed piece) w e = rw e
@@ -261,7 +261,7 @@ empty (table (stage t)) w e = rw e
 empty (table withdraw) w e = rw e
 empty (look l) w e = empty_look l w e
 
-keeps : (c : Call) (w : CWorld) → state_of w.state ≡ none → (step_c c w).world ≡ w
+keeps : (c : Call) (w : CWorld) → state_of w.state ≡ None → (step_c c w).world ≡ w
 unfolding step_c open_c feed_c finish_c stage_c withdraw_c
 keeps (open_run x) w e = rw e
 keeps (feed piece) w e = rw e
@@ -270,8 +270,8 @@ keeps (table (stage t)) w e = rw e
 keeps (table withdraw) w e = rw e
 keeps (look l) w e = refl
 
-unwritten : (d : Draft) (buffer : List ℕ) (w : CWorld) → state_of w.state ≡ none
-    → (told (reply_back (look (write d buffer)) w (step_c (look (write d buffer)) w).answer)).buffer ≡ some buffer
+unwritten : (d : Draft) (buffer : List ℕ) (w : CWorld) → state_of w.state ≡ None
+    → (told (reply_back (look (write d buffer)) w (step_c (look (write d buffer)) w).answer)).buffer ≡ Some buffer
 unfolding step_c write_c
 unwritten d buffer w e = rw e
 
@@ -280,10 +280,10 @@ unwritten d buffer w e = rw e
 in-phase : (s : CState) (n : ℕ) → s.phase ≡ n → s ≡ record { phase = n; held = s.held; standing = s.standing; counts = s.counts; settings = s.settings; in_force = s.in_force; waiting = s.waiting }
 in-phase s n e = ap (λ (x : ℕ). record { phase = x; held = s.held; standing = s.standing; counts = s.counts; settings = s.settings; in_force = s.in_force; waiting = s.waiting }) e
 
-same_state : (s : CState) {t u : State} → state_of s ≡ some t → state_of s ≡ some u → u ≡ t
-same_state s {t} {u} e f = ap (λ (o : Option State). get_or o u) (sym f ∙ e)
+same_state : (s : CState) {t u : State} → state_of s ≡ Some t → state_of s ≡ Some u → u ≡ t
+same_state s {t} {u} e f = ap (λ (o : Option State). unwrap_or o u) (sym f ∙ e)
 
-known_by : (s : CState) (t : State) (n : ℕ) → s.phase ≡ n → state_of s ≡ some t → s ≡ state_c t
+known_by : (s : CState) (t : State) (n : ℕ) → s.phase ≡ n → state_of s ≡ Some t → s ≡ state_c t
 known_by s t zero e f = in-phase s 0 e ∙ ap state_c (same_state s f (closed_of s e))
 known_by s t (suc zero) e f = in-phase s 1 e ∙ ap state_c (same_state s f (feeding-of s e))
 known_by s t (suc (suc zero)) e f = in-phase s 2 e ∙ ap state_c (same_state s f (finishing-of s e))
@@ -292,38 +292,38 @@ known_by s t (suc (suc (suc n))) e f = nothing_there (sym (none_over s (omega ar
 -- ---- where parts stand
 
 at_by : (o : Option ℕ) (x : Seen) (b : List ℕ) (k l : ℕ) → (part_c (first_of o (number_by x)) (place_unless o (place_by b k x)).at l).offset ≡ (place_unless o (place_by b k x)).at
-at_by (some n) x b k l = refl
-at_by none (refused_by n) b k l = refl
-at_by none (row r) b k l = refl
+at_by (Some n) x b k l = refl
+at_by None (refused_by n) b k l = refl
+at_by None (row r) b k l = refl
 
 start_by : (x : Option ℕ) (l : ℕ) → (part_c x 0 l).offset ≡ 0
-start_by none l = refl
-start_by (some n) l = refl
+start_by None l = refl
+start_by (Some n) l = refl
 
 long_by : (x : Option ℕ) (at : ℕ) (xs v : List ℕ) → cut (part_c x at (length xs)) v ≡ xs → length (cut (part_c x at (length xs)) v) ≡ (part_c x at (length xs)).length
-long_by none at xs v e = ap length e
-long_by (some n) at xs v e = refl
+long_by None at xs v e = ap length e
+long_by (Some n) at xs v e = refl
 
 -- of any state of C's: it stands for one, or for none
 bytes_at_by : (hold : List ℕ) (o : Option State) → (hands (λ t. bytes_refusal t hold) (λ t. 0) (λ t. bytes_of t hold) o).part.offset ≡ 0
-bytes_at_by hold none = refl
-bytes_at_by hold (some t) = start_by (bytes_refusal t hold) (length (bytes_of t hold))
+bytes_at_by hold None = refl
+bytes_at_by hold (Some t) = start_by (bytes_refusal t hold) (length (bytes_of t hold))
 
 bytes_at : (s : CState) (hold : List ℕ) → (bytes_c s hold).part.offset ≡ 0
 unfolding bytes_c
 bytes_at s hold = bytes_at_by hold (state_of s)
 
 bytes_all_by : (hold : List ℕ) (o : Option State) → let p = (hands (λ t. bytes_refusal t hold) (λ t. 0) (λ t. bytes_of t hold) o).part in length (cut p hold) ≡ p.length
-bytes_all_by hold none = refl
-bytes_all_by hold (some t) = long_by (bytes_refusal t hold) 0 (bytes_of t hold) hold (bytes_cut t hold)
+bytes_all_by hold None = refl
+bytes_all_by hold (Some t) = long_by (bytes_refusal t hold) 0 (bytes_of t hold) hold (bytes_cut t hold)
 
 bytes_all : (s : CState) (hold : List ℕ) → length (cut (bytes_c s hold).part hold) ≡ (bytes_c s hold).part.length
 unfolding bytes_c
 bytes_all s hold = bytes_all_by hold (state_of s)
 
 sub_all_by : (force b : List ℕ) (k : ℕ) (o : Option State) → let p = (hands (λ t. sub_bytes_refusal t force b k) (λ t. (sub_place_of t force b k).at) (λ t. sub_bytes_of t force b k) o).part in length (cut p b) ≡ p.length
-sub_all_by force b k none = refl
-sub_all_by force b k (some t) = long_by (sub_bytes_refusal t force b k) (sub_place_of t force b k).at (sub_bytes_of t force b k) b (sub_cut t force b k)
+sub_all_by force b k None = refl
+sub_all_by force b k (Some t) = long_by (sub_bytes_refusal t force b k) (sub_place_of t force b k).at (sub_bytes_of t force b k) b (sub_cut t force b k)
 
 sub_bytes_all : (s : CState) (force b : List ℕ) (k : ℕ) → length (cut (sub_bytes_c s force b k).part b) ≡ (sub_bytes_c s force b k).part.length
 unfolding sub_bytes_c

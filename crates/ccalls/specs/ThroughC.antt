@@ -1,8 +1,7 @@
 -- Calls through C are calls of the reader: the world of a caller in C, what an exported call does in it, and what its answer means. It is
 -- made of the very functions that the contracts of the exported calls cite.
 -- Assumes nothing.
-use Rattle.std.specs.Prelude.{ℕ, ◌≡◌, Bool, true, false, cond, List, [], ◌∷◌, length, eqb}
-use Rattle.std.proofs.Math.Option.{Option, none, some, get_or}
+use Rattle.std.specs.Prelude.{ℕ, ◌≡◌, Bool, true, false, cond, List, [], ◌∷◌, length, eqb, Option, None, Some, unwrap_or}
 use Rattle.reader.specs.declared.State.{State}
 use Rattle.records.specs.Calls.{sub_place_of}
 use Rattle.draft.specs.Draft.{Draft}
@@ -77,7 +76,7 @@ is_finish (look l) = false
 
 -- C's 0 is no refusal
 abbrev pub refusal_back : ℕ → Option ℕ
-refusal_back n = cond (eqb n 0) none (some n)
+refusal_back n = cond (eqb n 0) None (Some n)
 
 -- what C's offsets count in: the hold, or the block that was given; a call that answers no part has none
 abbrev pub looked_in : Look → CWorld → List ℕ
@@ -110,7 +109,7 @@ reply_back c w (c_made m) = penned (write_outcome (written_back m.written) m.buf
 
 -- a world of C's read back; the state before stands in where C's stands for none
 abbrev pub world_back : State → CWorld → World
-world_back before w = record { state = get_or (state_of w.state) before; hold = w.hold; force = w.force; wait = w.wait }
+world_back before w = record { state = unwrap_or (state_of w.state) before; hold = w.hold; force = w.force; wait = w.wait }
 
 -- the call made through C, its answer and what it leaves read back
 unfoldable pub step_by_c : Call → World → Step
@@ -140,12 +139,12 @@ pub record ThroughC : Type 0 where
   pub same : step_by_c ≡ step
   -- R23: every state of C's is one of the reader's, or its phase is none: then every call refuses it with 1, hands back no byte, and
   -- changes nothing
-  pub known : (s : CState) (t : State) → state_of s ≡ some t → s ≡ state_c t
-  pub unknown : (c : Call) (w : CWorld) → state_of w.state ≡ none → (told (reply_back c w (step_c c w).answer)).refusal ≡ some 1
-  pub empty : (c : Call) (w : CWorld) → state_of w.state ≡ none → part_of (reply_back c w (step_c c w).answer) ≡ []
-  pub keeps : (c : Call) (w : CWorld) → state_of w.state ≡ none → (step_c c w).world ≡ w
-  pub unwritten : (d : Draft) (buffer : List ℕ) (w : CWorld) → state_of w.state ≡ none
-      → (told (reply_back (look (write d buffer)) w (step_c (look (write d buffer)) w).answer)).buffer ≡ some buffer
+  pub known : (s : CState) (t : State) → state_of s ≡ Some t → s ≡ state_c t
+  pub unknown : (c : Call) (w : CWorld) → state_of w.state ≡ None → (told (reply_back c w (step_c c w).answer)).refusal ≡ Some 1
+  pub empty : (c : Call) (w : CWorld) → state_of w.state ≡ None → part_of (reply_back c w (step_c c w).answer) ≡ []
+  pub keeps : (c : Call) (w : CWorld) → state_of w.state ≡ None → (step_c c w).world ≡ w
+  pub unwritten : (d : Draft) (buffer : List ℕ) (w : CWorld) → state_of w.state ≡ None
+      → (told (reply_back (look (write d buffer)) w (step_c (look (write d buffer)) w).answer)).buffer ≡ Some buffer
   -- C9, C13: C's parts stand where the reader's do, and all their bytes are in the buffer
   pub bytes_at : (s : CState) (hold : List ℕ) → (bytes_c s hold).part.offset ≡ 0
   pub bytes_all : (s : CState) (hold : List ℕ) → length (cut (bytes_c s hold).part hold) ≡ (bytes_c s hold).part.length

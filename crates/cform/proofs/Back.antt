@@ -2,7 +2,8 @@
 -- Assumes nothing.
 use mathlib.Core.Path.{◌≡◌, refl, sym, ap, ◌∙◌}
 use mathlib.Core.Bool.{true, false}
-use mathlib.Core.Option.{none, some, some-ne-none}
+use Rattle.std.proofs.Common.{None, Some}
+use Rattle.std.proofs.lemmas.Option.{none-some}
 use Prim.Native.Nat.{ℕ, zero, suc, ◌<◌}
 use native.Mathlib.Omega.{arith}
 use Rattle.record.specs.Answer.{FieldSaid, do_not_use, double, field_refused, not_in_revision, signed, single, unsigned}
@@ -35,20 +36,20 @@ use Rattle.cform.specs.Theorems.{answer_back, field_back, written_back, NothingL
 use Rattle.cform.specs.declared.CState.{CState}
 use Rattle.cform.proofs.Phases.{none_over, closed_of, feeding-of, finishing-of}
 
-phase_back : (p : Phase) → phase_of (phase_number p) ≡ some p
+phase_back : (p : Phase) → phase_of (phase_number p) ≡ Some p
 unfolding phase_of
 phase_back Closed = refl
 phase_back Feeding = refl
 phase_back Finishing = refl
 
-state-back : (t : State) → state_of (state_c t) ≡ some t
+state-back : (t : State) → state_of (state_c t) ≡ Some t
 unfolding state_of
 state-back t = ap (in_phase_if_any (state_c t)) (phase_back t.run.phase)
 
-by_number : (s : CState) (n : ℕ) → s.phase ≡ n → state_of s ≡ none → 2 < n
-by_number s zero e h = absurd (some-ne-none _ (sym (closed_of s e) ∙ h))
-by_number s (suc zero) e h = absurd (some-ne-none _ (sym (feeding-of s e) ∙ h))
-by_number s (suc (suc zero)) e h = absurd (some-ne-none _ (sym (finishing-of s e) ∙ h))
+by_number : (s : CState) (n : ℕ) → s.phase ≡ n → state_of s ≡ None → 2 < n
+by_number s zero e h = absurd (none-some _ (sym h ∙ closed_of s e))
+by_number s (suc zero) e h = absurd (none-some _ (sym h ∙ feeding-of s e))
+by_number s (suc (suc zero)) e h = absurd (none-some _ (sym h ∙ finishing-of s e))
 by_number s (suc (suc (suc n))) e h = omega arith
 
 opened_back : (a : Opened) → answer_back false (answer_c (said_opened a)) ≡ said_opened a

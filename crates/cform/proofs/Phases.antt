@@ -2,7 +2,7 @@
 -- Assumes nothing.
 use mathlib.Core.Path.{◌≡◌, sym, ap, subst}
 use mathlib.Core.Bool.{false}
-use mathlib.Core.Option.{Option, none, some}
+use Rattle.std.proofs.Common.{Option, None, Some}
 use Prim.Native.Nat.{ℕ, zero, suc, ◌<◌, ◌≤◌}
 use native.Mathlib.Omega.{arith}
 use borrow.Author.Tests.{ne_eqb}
@@ -13,23 +13,23 @@ use Rattle.cform.specs.State.{phase_of, in_phase, state_of, Reads, state_c, back
 use Rattle.cform.specs.declared.CState.{CState}
 
 module _ (s : CState) where
-  pub closed_of : s.phase ≡ 0 → state_of s ≡ some (in_phase s Closed)
+  pub closed_of : s.phase ≡ 0 → state_of s ≡ Some (in_phase s Closed)
   unfolding state_of phase_of
   closed_of e = rw e
 
-  pub feeding-of : s.phase ≡ 1 → state_of s ≡ some (in_phase s Feeding)
+  pub feeding-of : s.phase ≡ 1 → state_of s ≡ Some (in_phase s Feeding)
   unfolding state_of phase_of
   feeding-of e = rw e
 
-  pub finishing-of : s.phase ≡ 2 → state_of s ≡ some (in_phase s Finishing)
+  pub finishing-of : s.phase ≡ 2 → state_of s ≡ Some (in_phase s Finishing)
   unfolding state_of phase_of
   finishing-of e = rw e
 
-  pub unknown-of : (s.phase ≡ 0 → ⊥) → (s.phase ≡ 1 → ⊥) → (s.phase ≡ 2 → ⊥) → state_of s ≡ none
+  pub unknown-of : (s.phase ≡ 0 → ⊥) → (s.phase ≡ 1 → ⊥) → (s.phase ≡ 2 → ⊥) → state_of s ≡ None
   unfolding state_of phase_of
   unknown-of a b c = rw (ne_eqb s.phase 0 a, ne_eqb s.phase 1 b, ne_eqb s.phase 2 c)
 
-  pub none_over : 2 < s.phase → state_of s ≡ none
+  pub none_over : 2 < s.phase → state_of s ≡ None
   none_over h = unknown-of (λ e. omega arith) (λ e. omega arith) (λ e. omega arith)
 
   -- C's own state back, or the one that the call left
@@ -44,10 +44,10 @@ module _ (s : CState) where
     back_next (suc (suc (suc n))) e h = let f : ⊥ = omega arith in absurd f
 
 -- what a call is made with
-pub reads_known : {o : Option State} {u t : State} → o ≡ some u → t ≡ u → Reads o t
+pub reads_known : {o : Option State} {u t : State} → o ≡ Some u → t ≡ u → Reads o t
 reads_known {o} {u} {t} e f = subst (λ (x : Option State). Reads x t) (sym e) f
 
-pub reads_none : {o : Option State} → o ≡ none → (t : State) → sound t ≡ false → Reads o t
+pub reads_none : {o : Option State} → o ≡ None → (t : State) → sound t ≡ false → Reads o t
 reads_none {o} e t f = subst (λ (x : Option State). Reads x t) (sym e) f
 
 -- more held bytes than refusal 1 allows

@@ -1,7 +1,6 @@
 -- The answers as C has them: each of the reader's answers, with its number, kind and values. What a kind does not have is 0.
 -- Assumes nothing.
-use Rattle.std.specs.Prelude.{ℕ, cond, ℤ, pos}
-use Rattle.std.proofs.Math.Option.{Option, none, some}
+use Rattle.std.specs.Prelude.{ℕ, cond, ℤ, pos, Option, None, Some}
 use Rattle.record.specs.Answer.{FieldSaid, do_not_use, double, field_refused, not_in_revision, signed, single, unsigned}
 use Rattle.reader.specs.State.{no_counts}
 use Rattle.reader.specs.Said.{Report, Said, refused, version, took, found, ended, waited}
@@ -33,8 +32,8 @@ say n k v w t b e = record { refusal = n; kind = k; version = v; waited = w; tak
 abbrev pub answer_c : Said → CAnswer
 answer_c (refused n) = say n 0 0 0 0 no_block no_end
 answer_c (version v) = say 0 1 v 0 0 no_block no_end
-answer_c (took t (some b)) = say 0 2 0 0 t (block_c b) no_end
-answer_c (took t none) = say 0 3 0 0 t no_block no_end
+answer_c (took t (Some b)) = say 0 2 0 0 t (block_c b) no_end
+answer_c (took t None) = say 0 3 0 0 t no_block no_end
 answer_c (found b) = say 0 2 0 0 0 (block_c b) no_end
 answer_c (ended c) = say 0 4 0 0 0 no_block (counts_c c)
 answer_c (waited w) = say 0 5 0 (cond w 1 0) 0 no_block no_end
@@ -63,5 +62,5 @@ field_c (field_refused n) = tell n 0 0 (pos 0) 0
 
 -- R22: the refusal's number and an empty part, or the part from an offset
 abbrev pub part_c : Option ℕ → ℕ → ℕ → CPart
-part_c (some n) o l = record { refusal = n; offset = 0; length = 0 }
-part_c none o l = record { refusal = 0; offset = o; length = l }
+part_c (Some n) o l = record { refusal = n; offset = 0; length = 0 }
+part_c None o l = record { refusal = 0; offset = o; length = l }

@@ -1,7 +1,6 @@
 -- The state and the settings as C has them, and the reader's that they stand for.
 -- Assumes nothing.
-use Rattle.std.specs.Prelude.{ℕ, ◌≡◌, false, cond, eqb}
-use Rattle.std.proofs.Math.Option.{Option, none, some}
+use Rattle.std.specs.Prelude.{ℕ, ◌≡◌, false, cond, eqb, Option, None, Some}
 use Rattle.reader.specs.declared.Phase.{Phase}
 use Rattle.reader.specs.declared.Phase.TheVariants.{Closed, Feeding, Finishing}
 use Rattle.reader.specs.declared.Counts.{Counts}
@@ -14,7 +13,7 @@ use Rattle.cform.specs.declared.CState.{CState}
 
 -- the phase of a number: any other is none
 unfoldable pub phase_of : ℕ → Option Phase
-phase_of n = cond (eqb n 0) (some Closed) (cond (eqb n 1) (some Feeding) (cond (eqb n 2) (some Finishing) none))
+phase_of n = cond (eqb n 0) (Some Closed) (cond (eqb n 1) (Some Feeding) (cond (eqb n 2) (Some Finishing) None))
 
 -- the counts of a run, there and back
 abbrev pub counts_c : Counts → CCounts
@@ -46,8 +45,8 @@ in_phase s p =
     }
 
 abbrev pub in_phase_if_any : CState → Option Phase → Option State
-in_phase_if_any s none = none
-in_phase_if_any s (some p) = some (in_phase s p)
+in_phase_if_any s None = None
+in_phase_if_any s (Some p) = Some (in_phase s p)
 
 -- the state that C's stands for: none where the phase is none
 unfoldable pub state_of : CState → Option State
@@ -68,10 +67,10 @@ state_c t =
 
 -- what a call is made with: the state that C's stands for; where it stands for none, any that refusal 1 names
 abbrev pub Reads : Option State → State → Type 0
-Reads none t = sound t ≡ false
-Reads (some u) t = t ≡ u
+Reads None t = sound t ≡ false
+Reads (Some u) t = t ≡ u
 
 -- what a call gives back: the state that it left; where C's stands for none, C's own
 abbrev pub back_c : CState → Option State → State → CState
-back_c s none next = s
-back_c s (some t) next = state_c next
+back_c s None next = s
+back_c s (Some t) next = state_c next

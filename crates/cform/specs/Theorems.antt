@@ -1,8 +1,7 @@
 -- Nothing is lost on the way to C: a state, settings, an answer, a field and what Write answers can be read back from the plain
 -- structs.
 -- Assumes nothing.
-use Rattle.std.specs.Prelude.{◌<◌, ◌≡◌, Bool, true, false, cond, eqb}
-use Rattle.std.proofs.Math.Option.{none, some}
+use Rattle.std.specs.Prelude.{◌<◌, ◌≡◌, Bool, true, false, cond, eqb, None, Some}
 use Rattle.record.specs.Answer.{FieldSaid, do_not_use, double, field_refused, not_in_revision, signed, single, unsigned}
 use Rattle.reader.specs.declared.State.{State}
 use Rattle.reader.specs.declared.Settings.{Settings}
@@ -34,8 +33,8 @@ abbrev pub answer_back : Bool → CAnswer → Said
 answer_back finish a =
     cond (eqb a.kind 0) (refused a.refusal)
     (cond (eqb a.kind 1) (version a.version)
-    (cond (eqb a.kind 2) (cond finish (found (report_back a.block)) (took a.taken (some (report_back a.block))))
-    (cond (eqb a.kind 3) (took a.taken none)
+    (cond (eqb a.kind 2) (cond finish (found (report_back a.block)) (took a.taken (Some (report_back a.block))))
+    (cond (eqb a.kind 3) (took a.taken None)
     (cond (eqb a.kind 4) (ended (counts_back a.end)) (waited (eqb a.waited 1))))))
 
 -- a field's answer by its kind
@@ -53,9 +52,9 @@ written_back w = cond (eqb w.refusal 0) (wrote w.length) (write_refused w.refusa
 
 pub record NothingLost : Type 0 where
   -- the next call goes on with the state that this one left; a state stands for none exactly where its phase is over 2
-  pub state : (t : State) → state_of (state_c t) ≡ some t
-  pub unknown : (s : CState) → 2 < s.phase → state_of s ≡ none
-  pub only_over_2 : (s : CState) → state_of s ≡ none → 2 < s.phase
+  pub state : (t : State) → state_of (state_c t) ≡ Some t
+  pub unknown : (s : CState) → 2 < s.phase → state_of s ≡ None
+  pub only_over_2 : (s : CState) → state_of s ≡ None → 2 < s.phase
   -- any settings of the reader's, and any of C's, a bad ceiling too: it is for Open to refuse it
   pub settings : (x : Settings) → settings_back (settings_c x) ≡ x
   pub settings_of_c : (x : CSettings) → settings_c (settings_back x) ≡ x

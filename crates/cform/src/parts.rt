@@ -1,6 +1,5 @@
 // Parts of buffers as C has them.
 ghost use Rattle.std.specs.Prelude.{◌≡◌};
-ghost use Rattle.std.proofs.Math.Option.{some};
 ghost use Rattle.refusal.specs.Numbers.{number_for};
 ghost use Rattle.cform.specs.Answer.{part_c};
 
@@ -9,7 +8,7 @@ use refusal::Refusal;
 
 // The empty part of a refused call.
 pub fn no_part(x: Refusal) -> CPart
-    ensures { result ≡ part_c (some (number_for x)) 0 0 }
+    ensures { result ≡ part_c (Some (number_for x)) 0 0 }
 {
     CPart {
         refusal: refusal::number(x),

@@ -5,7 +5,7 @@ use mathlib.Core.Path.{◌≡◌, refl, sym, ap, ◌∙◌, subst}
 use mathlib.Core.Bool.{Bool, true, false, ◌&&◌}
 use mathlib.Core.List.{List, [], ◌∷◌}
 use mathlib.Core.Logic.{◌⊎◌, inl, inr, ⊎_elim}
-use mathlib.Core.Option.{Option, none, some}
+use Rattle.std.proofs.Common.{Option, None, Some}
 use lib.ListN.{length}
 use lib.Dec.{ltb}
 use Rattle.frame.specs.Frame.{whole_frame}
@@ -43,20 +43,20 @@ passed_by true m o t x =
 passed_by false m o t x =
     record {
       gives = λ n e. let q : m ≡ n = cc in inl (q, t.holds refl);
-      given = λ n g. ⊎_elim (λ q. ap some q.0) (λ q. absurd (q.0 (t.holds refl))) g;
+      given = λ n g. ⊎_elim (λ q. ap Some q.0) (λ q. absurd (q.0 (t.holds refl))) g;
     }
 
 pub same : {o p : Option ℕ} {r : Order} → o ≡ p → Exactly p r → Exactly o r
 same {r = r} e x = subst (λ (o : Option ℕ). Exactly o r) (sym e) x
 
-pub last : {c : Bool} {P : Type 0} (m : ℕ) → Tells c P → Exactly (need c m none) (m when P ∷ [])
-last {c} m t = passed_by c m none t (λ _. exactly_none)
+pub last : {c : Bool} {P : Type 0} (m : ℕ) → Tells c P → Exactly (need c m None) (m when P ∷ [])
+last {c} m t = passed_by c m None t (λ _. exactly_none)
 
 -- ---- 10, 6, 7, 8, and then 9, of a table that passes
 
 -- 9's test on the block's row
 abbrev nine_of : (BlockRow → Bool) → BlockRow → Option ℕ
-nine_of test r = need (test r) 9 none
+nine_of test r = need (test r) 9 None
 
 module _ (t b : List ℕ) (ok : table_ok t ≡ true) (test : BlockRow → Bool) (Nine : BlockRow → Type 0) (tells : (r : BlockRow) → block_ok r ≡ true → Tells (test r) (Nine r)) where
   fits_exact : (r : BlockRow) → OneFrame b → RowOf (decode t) (block_number b) r
@@ -68,9 +68,9 @@ module _ (t b : List ℕ) (ok : table_ok t ≡ true) (test : BlockRow → Bool) 
 
   row_exact : OneFrame b → (o : Option BlockRow) → find_row (decode t) (number_in b) ≡ o
       → Exactly (then_of (seen_row b o) (nine_of test)) (6 when NotInTable (decode t) (block_number b) ∷ (7 when BodyDoesNotFit (decode t) b ∷ 8 when SubsDoNotFit (decode t) b ∷ 9 when OfRow (decode t) (block_number b) Nine ∷ []))
-  row_exact f none e =
-      same (row_less b (nine_of test)) (passed_by false 6 none (record { fine = λ z. never z refl; holds = λ _. row_none (decode t) (block_number b) e }) (λ z. never z refl))
-  row_exact f (some r) e =
+  row_exact f None e =
+      same (row_less b (nine_of test)) (passed_by false 6 None (record { fine = λ z. never z refl; holds = λ _. row_none (decode t) (block_number b) e }) (λ z. never z refl))
+  row_exact f (Some r) e =
       let h = row_there (decode t) (block_number b) e in
       same (row_need b r (nine_of test))
       (passed_by true 6 _ (record { fine = λ _ g. g r h; holds = λ z. never refl z }) (λ _. fits_exact r f h))
@@ -91,7 +91,7 @@ ask_exact w o x =
     let a = sound w.state && long_store w.force in
     let b = ltb 0 w.state.in_force in
     let c = table_ok (table_in_force w.state w.force) in
-    same (first_need a 1 (need b 5 (need c 4 none)) o ∙ ap (need a 1) (first_need b 5 (need c 4 none) o ∙ ap (need b 5) (first_need c 4 none o)))
+    same (first_need a 1 (need b 5 (need c 4 None)) o ∙ ap (need a 1) (first_need b 5 (need c 4 None) o ∙ ap (need b 5) (first_need c 4 None o)))
     (passed_by a 1 _ (store_tells w.state w.force)
     (λ _. passed_by b 5 _ (some_tells w.state.in_force) (λ _. passed_by c 4 o (table_tells (table_in_force w.state w.force)) x)))
 
@@ -146,6 +146,6 @@ module _ (w : World) (b : List ℕ) where
   unfolding stamp_of
   stamp_exact f =
       let a = sound w.state in
-      same (number_unless (need a 1 none) (stamp f b) ∙ first_need a 1 none (field_refusal (stamp f b)) ∙ ap (need a 1) (stamp_need f b))
+      same (number_unless (need a 1 None) (stamp f b) ∙ first_need a 1 None (field_refusal (stamp f b)) ∙ ap (need a 1) (stamp_need f b))
       (passed_by a 1 _ (bad_state w.state)
       (λ _. passed_by (whole_frame b) 10 _ (frame_tells b) (λ e. last 7 (of_length b (one_frame b e) (λ (n : ℕ). n < 14) (within 14 (length b))))))

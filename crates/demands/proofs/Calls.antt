@@ -5,7 +5,7 @@ use native.Mathlib.Omega.{arith}
 use mathlib.Core.Path.{◌≡◌, refl, sym, ap, ap₂, ◌∙◌, subst⁻¹}
 use mathlib.Core.Bool.{true, ◌&&◌}
 use mathlib.Core.List.{List, [], ◌++◌, append-nil, append_assoc}
-use mathlib.Core.Option.{Option, none, some}
+use Rattle.std.proofs.Common.{Option, None, Some}
 use lib.ListN.{length, take, drop, length-append}
 use lib.Seq.{length-take-le, drop-append-le, drop-drop}
 use Rattle.scan.specs.Settle.{settle}
@@ -59,8 +59,8 @@ places_count p zero = refl
 places_count p (suc n) = ap suc (places_count (p + 1) n)
 
 length_blocks : (o : Option ℕ) (p : ℕ) (v : List ℕ) → length (blocks_of o p v) ≡ one o
-length_blocks none p v = refl
-length_blocks (some n) p v = refl
+length_blocks None p v = refl
+length_blocks (Some n) p v = refl
 
 -- ---- a call that goes on in the run
 
@@ -111,7 +111,7 @@ feed_fits w piece g =
     let c = calls.call (judged (ceiling_of w.state)) (judging (ceiling_of w.state)).fits (kept w) piece (limit - w.state.run.counts.taken) in
     record { whole = fed_whole (ceiling_of w.state) (kept w) piece (limit - w.state.run.counts.taken); front = c.front; sum = omega (arith, c.sum, kept_length w g) }
 
-pub reads_feed : (w : World) {ts : List ℕ} {b : List ReadBlock} (piece : List ℕ) → Good w → refusal (feed piece) w ≡ none → ReadsAs ts b w → Next (feed piece) ts b (done (feed piece) w)
+pub reads_feed : (w : World) {ts : List ℕ} {b : List ReadBlock} (piece : List ℕ) → Good w → refusal (feed piece) w ≡ None → ReadsAs ts b w → Next (feed piece) ts b (done (feed piece) w)
 unfolding feeding_of feed_refusal
 reads_feed w piece g e r =
     let room = limit - w.state.run.counts.taken in
@@ -138,8 +138,8 @@ finish_reads c p h zs z =
     z (last_answers c p h)
 
 follow_finish : (o : Option ℕ) (zs : List ℕ) → MayFollow (phase_after o) zs → zs ≡ []
-follow_finish none zs e = e
-follow_finish (some n) zs e = e
+follow_finish None zs e = e
+follow_finish (Some n) zs e = e
 
 pub finish_fits : (w : World) → Good w → FitsHold w (finishing_of w.state w.hold)
 unfolding finishing_of
@@ -150,7 +150,7 @@ finish_fits w g =
       sum = omega (arith, kept_length w g, calls.settle_sum (judged_last (ceiling_of w.state)) (kept w));
     }
 
-pub reads_finish : (w : World) {ts : List ℕ} {b : List ReadBlock} → Good w → refusal finish w ≡ none → ReadsAs ts b w
+pub reads_finish : (w : World) {ts : List ℕ} {b : List ReadBlock} → Good w → refusal finish w ≡ None → ReadsAs ts b w
     → ReadsAs (ts ++ []) (b ++ in_hold (told (done finish w).answer).block (done finish w).world) (done finish w).world
 unfolding finishing_of
 reads_finish w g e r =

@@ -3,7 +3,7 @@
 use Prim.Native.Nat.{ℕ}
 use mathlib.Core.Path.{◌≡◌, refl, ap, ◌∙◌, subst⁻¹}
 use mathlib.Core.List.{List, [], ◌∷◌, ◌++◌}
-use mathlib.Core.Option.{Option, none, some}
+use Rattle.std.proofs.Common.{Option, None, Some}
 use lib.ListN.{length, take}
 use lib.Seq.{take-length}
 use Rattle.record.specs.Answer.{FieldSaid, do_not_use, double, field_refused, not_in_revision, signed, single, unsigned}
@@ -26,7 +26,7 @@ use Rattle.demands.proofs.Stream.{demand_3}
 
 -- ---- what is told of an answer says which it is
 
-pub said_refused : (a : Said) (n : ℕ) → (told (said a)).refusal ≡ some n → a ≡ refused n
+pub said_refused : (a : Said) (n : ℕ) → (told (said a)).refusal ≡ Some n → a ≡ refused n
 said_refused (refused m) n e = let q : m ≡ n = cc in ap refused q
 said_refused (version v) n e = nothing_there e
 said_refused (took m r) n e = nothing_there e
@@ -34,7 +34,7 @@ said_refused (found r) n e = nothing_there e
 said_refused (ended c) n e = nothing_there e
 said_refused (waited b) n e = nothing_there e
 
-pub field_refused_lem : (a : FieldSaid) (n : ℕ) → field_refusal a ≡ some n → a ≡ field_refused n
+pub field_refused_lem : (a : FieldSaid) (n : ℕ) → field_refusal a ≡ Some n → a ≡ field_refused n
 field_refused_lem (unsigned m) n e = nothing_there e
 field_refused_lem (signed z) n e = nothing_there e
 field_refused_lem (single b) n e = nothing_there e
@@ -43,7 +43,7 @@ field_refused_lem do_not_use n e = nothing_there e
 field_refused_lem not_in_revision n e = nothing_there e
 field_refused_lem (field_refused m) n e = let q : m ≡ n = cc in ap field_refused q
 
-pub said_end : (a : Reply) (c : Counts) → (told a).end ≡ some c → a ≡ said (ended c)
+pub said_end : (a : Reply) (c : Counts) → (told a).end ≡ Some c → a ≡ said (ended c)
 said_end (said (refused n)) c e = nothing_there e
 said_end (said (version v)) c e = nothing_there e
 said_end (said (took n r)) c e = nothing_there e
@@ -55,17 +55,17 @@ said_end (value v) c e = nothing_there e
 said_end (penned o) c e = nothing_there e
 
 -- a block that Finish tells is its answer Block
-finish_found : (o : Option ℕ) (r : Run) (v : List ℕ) (b : Report) → (told (said (finish_said o r v))).block ≡ some b → said (finish_said o r v) ≡ said (found b)
-finish_found none r v b e = nothing_there e
-finish_found (some n) r v b e = let q : reported (front r) n v ≡ b = cc in ap (λ (x : Report). said (found x)) q
+finish_found : (o : Option ℕ) (r : Run) (v : List ℕ) (b : Report) → (told (said (finish_said o r v))).block ≡ Some b → said (finish_said o r v) ≡ said (found b)
+finish_found None r v b e = nothing_there e
+finish_found (Some n) r v b e = let q : reported (front r) n v ≡ b = cc in ap (λ (x : Report). said (found x)) q
 
-found_by_lem : (w : World) (b : Report) {x : Step} → How finish w x → (told x.answer).block ≡ some b → x.answer ≡ said (found b)
+found_by_lem : (w : World) (b : Report) {x : Step} → How finish w x → (told x.answer).block ≡ Some b → x.answer ≡ said (found b)
 found_by_lem w b (isnt n e) f = nothing_there f
 found_by_lem w b (is e) f =
     let g = finishing_of w.state w.hold in
     finish_found g.standing (finishing_by g w.state w.hold).state.run g.held b f
 
-pub finish_block : (w : World) (b : Report) → (told (step finish w).answer).block ≡ some b → (step finish w).answer ≡ said (found b)
+pub finish_block : (w : World) (b : Report) → (told (step finish w).answer).block ≡ Some b → (step finish w).answer ≡ said (found b)
 finish_block w b e = found_by_lem w b (how finish w) e
 
 -- ---- a refused call keeps the state and the buffer that it may write: of the functions that the contracts cite
@@ -73,7 +73,7 @@ finish_block w b e = found_by_lem w b (how finish w) e
 abbrev world_of : State → List ℕ → List ℕ → List ℕ → World
 world_of s hold force wait = record { state = s; hold = hold; force = force; wait = wait }
 
-abbrev tells_number : {a : Said} {n : ℕ} → a ≡ refused n → (told (said a)).refusal ≡ some n
+abbrev tells_number : {a : Said} {n : ℕ} → a ≡ refused n → (told (said a)).refusal ≡ Some n
 tells_number e = ap (λ (x : Said). (told (said x)).refusal) e
 
 pub open_keeps : (s : State) (x : Settings) (force wait : List ℕ) (n : ℕ) → (open_of s x force wait).said ≡ refused n

@@ -4,7 +4,7 @@ use Prim.Native.Nat.{ℕ, ◌-◌}
 use native.Mathlib.Omega.{arith}
 use mathlib.Core.Path.{◌≡◌, sym, ap, ap₂, ◌∙◌, subst⁻¹}
 use mathlib.Core.List.{List, [], ◌∷◌, ◌++◌, append-nil, append_assoc}
-use mathlib.Core.Option.{Option, none}
+use Rattle.std.proofs.Common.{Option, None}
 use lib.ListN.{drop}
 use Rattle.scan.specs.Feed.{feed_lit, size}
 use Rattle.frame.specs.Judge.{judged}
@@ -44,7 +44,7 @@ unfolding end
 end_one xs c w = end_append xs (c ∷ []) w
 
 -- what More leaves held begins with an undecided place
-left_undecided : (w : World) (piece : List ℕ) (n : ℕ) → Good w → {r : Step} → How (feed piece) w r → r.answer ≡ said (took n none)
+left_undecided : (w : World) (piece : List ℕ) (n : ℕ) → Good w → {r : Step} → How (feed piece) w r → r.answer ≡ said (took n None)
     → judged (ceiling_of w.state) (kept r.world) ≡ Undecided
 unfolding feeding_of
 left_undecided w piece n g (isnt k e) f = let z : ◌≡◌ {A = ℕ} 0 1 = cc in let x : ⊥ = omega arith in absurd x
@@ -56,7 +56,7 @@ left_undecided w piece n g (is e) f =
     ∙ (more_decides_all (ceiling_of w.state) (kept w) piece room q).1
 
 more_decided : (w : World) (before : List Call) (x : Settings) (mid : List Call) (piece : List ℕ) (n : ℕ) → Within w before x mid
-    → (step (feed piece) (end mid (at_open w before x))).answer ≡ said (took n none)
+    → (step (feed piece) (end mid (at_open w before x))).answer ≡ said (took n None)
     → judged x.ceiling (drop (place_now (end (mid ++ feed piece ∷ []) (at_open w before x))) (taken (mid ++ feed piece ∷ []) (at_open w before x))) ≡ Undecided
 more_decided w before x mid piece n h e =
     let s = stands w before x mid h in

@@ -6,7 +6,7 @@ use mathlib.Core.Path.{◌≡◌, refl, sym, ap, ◌∙◌, subst, subst⁻¹}
 use mathlib.Core.Bool.{Bool, true, false, not, ◌&&◌, cond}
 use mathlib.Core.List.{List, [], ◌∷◌}
 use mathlib.Core.Logic.{◌⊎◌, inl, inr, ⊎_elim}
-use mathlib.Core.Option.{none, some, IsSome}
+use Rattle.std.proofs.Common.{None, Some, IsSome}
 use lib.ListN.{length, get_or, drop}
 use lib.Seq.{get_or-drop}
 use lib.Dec.{leb, eqb}
@@ -31,15 +31,15 @@ use Rattle.demands.proofs.Values.{wanted_tells}
 -- ---- a list of values
 
 one_tells : (w : Wanted) → Tells (is_unset w) (IsSome w)
-one_tells none = record { fine = λ _ s. s; holds = λ z. never refl z }
-one_tells (some said) = record { fine = λ z. never refl (sym z); holds = λ _. tt }
+one_tells None = record { fine = λ _ s. never s refl; holds = λ z. never refl z }
+one_tells (Some said) = record { fine = λ z. never refl (sym z); holds = λ _. refl }
 
 module _ (w : Wanted) (ws : List Wanted) where
   set_here : IsSome w ⊎ SetFrom 0 ws → SetFrom 0 (w ∷ ws)
   set_here (inl s) = (0, (omega arith, s))
   set_here (inr g) = (suc g.0, (omega arith, g.1.1))
 
-  set_which : (i : ℕ) → IsSome (get_or (w ∷ ws) i none) → IsSome w ⊎ SetFrom 0 ws
+  set_which : (i : ℕ) → IsSome (get_or (w ∷ ws) i None) → IsSome w ⊎ SetFrom 0 ws
   set_which zero s = inl s
   set_which (suc i) s = inr (i, (omega arith, s))
 
@@ -52,10 +52,10 @@ unset_tells (w ∷ ws) = retell (set_here w ws) (λ g. set_which w ws g.0 g.1.1)
 -- the first value and the first row, and then the others
 module _ (revision : ℕ) (f : FieldRow) (fs : List FieldRow) (ws : List Wanted) where
   abbrev Later : Type 0
-  Later = NotAllowed revision f (get_or ws 0 none) ⊎ ListNotAllowed revision fs (drop 1 ws)
+  Later = NotAllowed revision f (get_or ws 0 None) ⊎ ListNotAllowed revision fs (drop 1 ws)
 
-  shift : (i : ℕ) → get_or (drop 1 ws) i none ≡ get_or ws (suc i) none
-  shift i = let k : 1 + i ≡ suc i = omega arith in get_or-drop 1 ws i none ∙ ap (λ (n : ℕ). get_or ws n none) k
+  shift : (i : ℕ) → get_or (drop 1 ws) i None ≡ get_or ws (suc i) None
+  shift i = let k : 1 + i ≡ suc i = omega arith in get_or-drop 1 ws i None ∙ ap (λ (n : ℕ). get_or ws n None) k
 
   list_here : Later → ListNotAllowed revision (f ∷ fs) ws
   unfolding pick
@@ -63,12 +63,12 @@ module _ (revision : ℕ) (f : FieldRow) (fs : List FieldRow) (ws : List Wanted)
   list_here (inr (inl g)) = inl (suc g.0, (g.1.0, (g.1.1.0, subst (NotAllowed revision g.1.0) (shift g.0) g.1.1.1)))
   list_here (inr (inr g)) = inr (suc g.0, (omega (arith, g.1.0), subst IsSome (shift g.0) g.1.1))
 
-  row_which : (i : ℕ) (g : FieldRow) → pick (f ∷ fs) i ≡ some g → NotAllowed revision g (get_or ws i none) → Later
+  row_which : (i : ℕ) (g : FieldRow) → pick (f ∷ fs) i ≡ Some g → NotAllowed revision g (get_or ws i None) → Later
   unfolding pick
-  row_which zero g e n = let s : g ≡ f = cc in inl (subst (λ (x : FieldRow). NotAllowed revision x (get_or ws 0 none)) s n)
+  row_which zero g e n = let s : g ≡ f = cc in inl (subst (λ (x : FieldRow). NotAllowed revision x (get_or ws 0 None)) s n)
   row_which (suc i) g e n = inr (inl (i, (g, (e, subst⁻¹ (NotAllowed revision g) (shift i) n))))
 
-  past_which : (i : ℕ) → length (f ∷ fs) ≤ i → IsSome (get_or ws i none) → Later
+  past_which : (i : ℕ) → length (f ∷ fs) ≤ i → IsSome (get_or ws i None) → Later
   past_which zero l s = let z : ⊥ = omega arith in absurd z
   past_which (suc i) l s = inr (inr (i, (omega arith, subst⁻¹ IsSome (shift i) s)))
 
@@ -83,7 +83,7 @@ list_by revision [] k m ws =
     retell inr (⊎_elim (λ g. nothing_there g.1.1.0) (λ g. g)) (unset_tells ws)
 list_by revision (f ∷ fs) k m ws =
     retell (list_here revision f fs ws) (list_which revision f fs ws)
-    (both (wanted_tells revision f (both_left (type_ok f) _ k) (both_left (mark_ok f) _ m) (get_or ws 0 none))
+    (both (wanted_tells revision f (both_left (type_ok f) _ k) (both_left (mark_ok f) _ m) (get_or ws 0 None))
     (list_by revision fs (both_right (type_ok f) _ k) (both_right (mark_ok f) _ m) (drop 1 ws)))
 
 list_tells : (revision : ℕ) {at : ℕ} (fs : List FieldRow) → FieldsKept at fs → (ws : List Wanted) → Tells (list_ok revision fs ws) (ListNotAllowed revision fs ws)

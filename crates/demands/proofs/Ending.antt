@@ -6,7 +6,7 @@ use mathlib.Core.Path.{◌≡◌, refl, ap, ◌∙◌, subst, subst⁻¹}
 use mathlib.Core.Bool.{◌&&◌}
 use mathlib.Core.List.{List}
 use mathlib.Core.Logic.{◌⊎◌, inl, inr}
-use mathlib.Core.Option.{Option, none, some, IsSome}
+use Rattle.std.proofs.Common.{Option, None, Some, IsSome}
 use lib.ListN.{length, length-drop}
 use borrow.Author.Tests.{le-leb}
 use Rattle.scan.specs.Settle.{settle}
@@ -34,14 +34,14 @@ use Rattle.demands.proofs.Calls.{finish_fits}
 
 -- ---- More
 
-pub none_if : (o : Option ℕ) (t n p : ℕ) (v : List ℕ) → took t (report_if o p v) ≡ took n none → (o ≡ none) × (t ≡ n)
-none_if none t n p v e = let q : t ≡ n = cc in (refl, q)
-none_if (some k) t n p v e = let z : ◌≡◌ {A = ℕ} 0 1 = cc in let f : ⊥ = omega arith in absurd f
+pub none_if : (o : Option ℕ) (t n p : ℕ) (v : List ℕ) → took t (report_if o p v) ≡ took n None → (o ≡ None) × (t ≡ n)
+none_if None t n p v e = let q : t ≡ n = cc in (refl, q)
+none_if (Some k) t n p v e = let z : ◌≡◌ {A = ℕ} 0 1 = cc in let f : ⊥ = omega arith in absurd f
 
 pub said_is : (a b : Said) → said a ≡ said b → a ≡ b
 said_is a b e = cc
 
-more_by : (w : World) (piece : List ℕ) (n : ℕ) {r : Step} → How (feed piece) w r → r.answer ≡ said (took n none)
+more_by : (w : World) (piece : List ℕ) (n : ℕ) {r : Step} → How (feed piece) w r → r.answer ≡ said (took n None)
     → (n ≡ length piece) ⊎ (r.world.state.run.counts.taken ≡ limit)
 unfolding feeding_of feed_refusal
 more_by w piece n (isnt k e) f = let z : ◌≡◌ {A = ℕ} 0 1 = cc in let x : ⊥ = omega arith in absurd x
@@ -55,7 +55,7 @@ more_by w piece n (is e) f =
 
 -- ---- Finish
 
-no_refusal : (w : World) → Good w → Live w → 65536 ≤ length w.hold → refusal finish w ≡ none
+no_refusal : (w : World) → Good w → Live w → 65536 ≤ length w.hold → refusal finish w ≡ None
 unfolding finish_refusal
 no_refusal w g v l = rw (good_sound w g, le-leb 65536 (length w.hold) l, v) refl
 
@@ -63,7 +63,7 @@ finish_done : (w : World) → Good w → Live w → 65536 ≤ length w.hold → 
 finish_done w g v l = by_refusal finish w ∙ ap (λ (o : Option ℕ). unless_refused o finish w) (no_refusal w g v l)
 
 -- what Finish left is fewer bytes than before, where it reported a block
-fewer : (w : World) (m : ℕ) → Good w → (settle (judged_last (ceiling_of w.state)) (kept w)).standing ≡ some m → length (kept (done finish w).world) < length (kept w)
+fewer : (w : World) (m : ℕ) → Good w → (settle (judged_last (ceiling_of w.state)) (kept w)).standing ≡ Some m → length (kept (done finish w).world) < length (kept w)
 unfolding finishing_of
 fewer w m g q =
     let f = stop (settle (judged_last (ceiling_of w.state)) (kept w)) in
@@ -92,9 +92,9 @@ module _ (w : World) (g : Good w) (v : Live w) (l : 65536 ≤ length w.hold) whe
 abbrev Reaches : World → ℕ → Type 0
 Reaches w k = (n : ℕ) × ((n ≤ k) × EndsAfter n w)
 
-reach_now : (k : ℕ) (w : World) → (settle (judged_last (ceiling_of w.state)) (kept w)).standing ≡ none → Good w → Live w → 65536 ≤ length w.hold → Reaches w k
+reach_now : (k : ℕ) (w : World) → (settle (judged_last (ceiling_of w.state)) (kept w)).standing ≡ None → Good w → Live w → 65536 ≤ length w.hold → Reaches w k
 unfolding EndsAfter
-reach_now k w q g v l = (0, (omega arith, subst⁻¹ (λ (a : Reply). IsSome (told a).end) (said_finish w g v l none q) tt))
+reach_now k w q g v l = (0, (omega arith, subst⁻¹ (λ (a : Reply). IsSome (told a).end) (said_finish w g v l None q) refl))
 
 reach_more : (k : ℕ) (w : World) → IsSome (told (step finish w).answer).block → Reaches (step finish w).world k → Reaches w (suc k)
 unfolding EndsAfter
@@ -104,15 +104,15 @@ abbrev Reached : ℕ → Type 0
 Reached k = (w : World) → length (kept w) ≤ k → Good w → Live w → 65536 ≤ length w.hold → Reaches w k
 
 reach_zero : (w : World) (o : Option ℕ) → (settle (judged_last (ceiling_of w.state)) (kept w)).standing ≡ o → length (kept w) ≤ 0 → Good w → Live w → 65536 ≤ length w.hold → Reaches w 0
-reach_zero w none q n g v l = reach_now 0 w q g v l
-reach_zero w (some m) q n g v l = let z : ⊥ = omega (arith, fewer w m g q) in absurd z
+reach_zero w None q n g v l = reach_now 0 w q g v l
+reach_zero w (Some m) q n g v l = let z : ⊥ = omega (arith, fewer w m g q) in absurd z
 
 reach_suc : (k : ℕ) → Reached k → (w : World) (o : Option ℕ) → (settle (judged_last (ceiling_of w.state)) (kept w)).standing ≡ o → length (kept w) ≤ suc k → Good w → Live w → 65536 ≤ length w.hold → Reaches w (suc k)
-reach_suc k rec w none q n g v l = reach_now (suc k) w q g v l
-reach_suc k rec w (some m) q n g v l =
-    let e = said_finish w g v l (some m) q in
+reach_suc k rec w None q n g v l = reach_now (suc k) w q g v l
+reach_suc k rec w (Some m) q n g v l =
+    let e = said_finish w g v l (Some m) q in
     let less : length (kept (step finish w).world) < length (kept w) = subst⁻¹ (λ (r : Step). length (kept r.world) < length (kept w)) (finish_done w g v l) (fewer w m g q) in
-    reach_more k w (subst⁻¹ (λ (a : Reply). IsSome (told a).block) e tt)
+    reach_more k w (subst⁻¹ (λ (a : Reply). IsSome (told a).block) e refl)
     (rec (step finish w).world (omega arith) (good_step finish w g) (live_step finish w v (ap (λ (a : Reply). (told a).end) e)) (still_long w g v l))
 
 reach : (k : ℕ) → Reached k

@@ -6,7 +6,7 @@ use mathlib.Core.Path.{◌≡◌, refl, ap}
 use mathlib.Core.Bool.{Bool, true, false, not, ◌&&◌, ◌||◌}
 use mathlib.Core.List.{List, [], ◌∷◌}
 use mathlib.Core.Logic.{◌⊎◌, inl, inr, ⊎_elim}
-use mathlib.Core.Option.{Option, none, some}
+use Rattle.std.proofs.Common.{Option, None, Some}
 use lib.ListN.{length}
 use lib.Dec.{leb, ltb, eqb}
 use Rattle.frame.specs.Frame.{greatest_ceiling, ceiling_ok}
@@ -34,16 +34,16 @@ pub record Tells (b : Bool) (P : Type 0) : Type 0 where
   pub fine : b ≡ true → P → ⊥
   pub holds : b ≡ false → P
 
-pub exactly_none : Exactly none []
+pub exactly_none : Exactly None []
 exactly_none = record { gives = λ n e. let z : ◌≡◌ {A = ℕ} 0 1 = cc in omega arith; given = λ n g. absurd g }
 
-gives_by : (b : Bool) (m : ℕ) {P : Type 0} (o : Option ℕ) {r : Order} → Tells b P → Exactly o r → (n : ℕ) → need b m o ≡ some n → Given (m when P ∷ r) n
+gives_by : (b : Bool) (m : ℕ) {P : Type 0} (o : Option ℕ) {r : Order} → Tells b P → Exactly o r → (n : ℕ) → need b m o ≡ Some n → Given (m when P ∷ r) n
 gives_by true m o t x n e = inr (t.fine refl, x.gives n e)
 gives_by false m o t x n e = let q : m ≡ n = cc in inl (q, t.holds refl)
 
-given_by : (b : Bool) (m : ℕ) {P : Type 0} (o : Option ℕ) {r : Order} → Tells b P → Exactly o r → (n : ℕ) → Given (m when P ∷ r) n → need b m o ≡ some n
+given_by : (b : Bool) (m : ℕ) {P : Type 0} (o : Option ℕ) {r : Order} → Tells b P → Exactly o r → (n : ℕ) → Given (m when P ∷ r) n → need b m o ≡ Some n
 given_by true m o t x n g = ⊎_elim (λ q. absurd (t.fine refl q.1)) (λ q. x.given n q.1) g
-given_by false m o t x n g = ⊎_elim (λ q. ap some q.0) (λ q. absurd (q.0 (t.holds refl))) g
+given_by false m o t x n g = ⊎_elim (λ q. ap Some q.0) (λ q. absurd (q.0 (t.holds refl))) g
 
 followed : {b : Bool} (m : ℕ) {P : Type 0} {o : Option ℕ} {r : Order} → Tells b P → Exactly o r → Exactly (need b m o) (m when P ∷ r)
 followed {b} m {P} {o} t x = record { gives = gives_by b m o t x; given = given_by b m o t x }
@@ -154,9 +154,9 @@ empty_tells n =
       holds = λ e. let l = eqb-false n 0 e in omega (arith, l);
     }
 
-gives_tells : (o : Option ℕ) → Tells (is_some o) (o ≡ none)
-gives_tells none = record { fine = λ e q. never e refl; holds = λ e. refl }
-gives_tells (some n) = record { fine = λ e q. let z : ◌≡◌ {A = ℕ} 0 1 = cc in omega arith; holds = λ e. never refl e }
+gives_tells : (o : Option ℕ) → Tells (is_some o) (o ≡ None)
+gives_tells None = record { fine = λ e q. never e refl; holds = λ e. refl }
+gives_tells (Some n) = record { fine = λ e q. let z : ◌≡◌ {A = ℕ} 0 1 = cc in omega arith; holds = λ e. never refl e }
 
 -- ---- the calls
 

@@ -6,7 +6,7 @@ use mathlib.Core.Path.{◌≡◌, refl, sym, ap, ◌∙◌, subst}
 use mathlib.Core.Bool.{Bool, true, false, not, cond}
 use mathlib.Core.List.{List}
 use mathlib.Core.Logic.{◌⊎◌, inl, inr, ⊎_elim}
-use mathlib.Core.Option.{none, some}
+use Rattle.std.proofs.Common.{None, Some}
 use lib.ListN.{length}
 use lib.Dec.{leb, ltb, eqb}
 use borrow.Author.Tests.{leb-true, leb-false, ltb-true, ltb-false, eqb-true, eqb-false, not-true, not-false, eq-eqb}
@@ -26,13 +26,13 @@ use Rattle.demands.proofs.Walked.{ends_at, any_tells}
 
 -- ---- the row of a number
 
-pub row_there : (t : Table) (n : ℕ) {r : BlockRow} → find_row t n ≡ some r → RowOf t n r
+pub row_there : (t : Table) (n : ℕ) {r : BlockRow} → find_row t n ≡ Some r → RowOf t n r
 unfolding find_row
 row_there t n {r} e =
     let h = first_there (has_number n) t.rows e in
     record { among = h.0; same = eqb-true r.number n h.1 }
 
-pub row_none : (t : Table) (n : ℕ) → find_row t n ≡ none → NotInTable t n
+pub row_none : (t : Table) (n : ℕ) → find_row t n ≡ None → NotInTable t n
 unfolding find_row
 row_none t n e r h =
     first_none (has_number n) t.rows e h.among.0 h.among.1 (eq-eqb r.number n h.same)
@@ -41,7 +41,7 @@ row_none t n e r h =
 pub only : (t : List ℕ) (n : ℕ) → table_ok t ≡ true → (q r : BlockRow) → RowOf (decode t) n q → RowOf (decode t) n r → q ≡ r
 only t n ok q r h k =
     let i : h.among.0 ≡ k.among.0 = one_row t ok h.among.0 k.among.0 q r h.among.1 k.among.1 (h.same ∙ sym k.same) in
-    let e : some q ≡ some r = sym h.among.1 ∙ ap (pick (decode t).rows) i ∙ k.among.1 in
+    let e : Some q ≡ Some r = sym h.among.1 ∙ ap (pick (decode t).rows) i ∙ k.among.1 in
     cc
 
 -- a condition on that row tells what one on the row of the number does

@@ -5,7 +5,7 @@ use native.Mathlib.Omega.{arith}
 use mathlib.Core.Path.{◌≡◌, refl, sym, ap, ap₂, ◌∙◌, subst⁻¹}
 use mathlib.Core.Bool.{Bool, true, false}
 use mathlib.Core.List.{List, [], ◌∷◌}
-use mathlib.Core.Option.{none}
+use Rattle.std.proofs.Common.{None}
 use lib.ListN.{length, take, drop, length-append, length-drop}
 use lib.Seq.{take-append_seam, length-take-le}
 use lib.Dec.{ltb}
@@ -38,7 +38,7 @@ same_table : (t : TableCall) (w : World) → SameForce w (done (table t) w).worl
 same_table (stage t) w = record { ceiling = refl; number = refl; store = refl }
 same_table withdraw w = record { ceiling = refl; number = refl; store = refl }
 
-same_done : (c : Call) (w : World) → Live w → refusal c w ≡ none → SameForce w (done c w).world
+same_done : (c : Call) (w : World) → Live w → refusal c w ≡ None → SameForce w (done c w).world
 same_done (open_run x) w l e = not_open x w l e
 same_done (feed piece) w l e = record { ceiling = refl; number = refl; store = refl }
 same_done finish w l e = record { ceiling = refl; number = refl; store = refl }
@@ -69,7 +69,7 @@ kept_by c t w u s r =
       ok = r.ok;
     }
 
-no_refusal : (c : ℕ) (t : List ℕ) (w : World) → Good w → ReadBy c t w → ask_refusal w.state w.force ≡ none
+no_refusal : (c : ℕ) (t : List ℕ) (w : World) → Good w → ReadBy c t w → ask_refusal w.state w.force ≡ None
 unfolding ask_refusal
 no_refusal c t w g r =
     rw (good_sound w g, le-leb 8192 (length w.force) r.long, lt-ltb 0 w.state.in_force r.some, r.is, r.ok) refl

@@ -4,7 +4,7 @@ use Prim.Native.Nat.{ℕ, ◌+◌, ◌-◌, ◌≤◌}
 use native.Mathlib.Omega.{arith}
 use mathlib.Core.Path.{◌≡◌, refl, ap, ap₂, ◌∙◌}
 use mathlib.Core.List.{List, [], ◌∷◌, ◌++◌}
-use mathlib.Core.Option.{Option, none, some}
+use Rattle.std.proofs.Common.{Option, None, Some}
 use lib.ListN.{length, take, drop, length-append, length-drop}
 use lib.Seq.{take-append-le}
 use borrow.Author.Tests.{le-leb}
@@ -63,13 +63,13 @@ reported_is p q n v hold e l =
 
 in_hold_by : (o : Option ℕ) (p q : ℕ) (v : List ℕ) (u : World) (hold : List ℕ) → u.hold ≡ v ++ drop (length v) hold → p ≡ q → size o ≤ length v
     → in_hold (report_if o p v) u ≡ blocks_of o q v
-in_hold_by none p q v u hold a e l = refl
-in_hold_by (some n) p q v u hold a e l =
+in_hold_by None p q v u hold a e l = refl
+in_hold_by (Some n) p q v u hold a e l =
     ap (λ (b : List ℕ). with_bytes (reported p n v) (take n b) ∷ []) a ∙ ap (λ (b : ReadBlock). b ∷ []) (reported_is p q n v hold e l)
 
 pub finish_report : (o : Option ℕ) (r : Run) (v : List ℕ) → (told (said (finish_said o r v))).block ≡ report_if o (front r) v
-finish_report none r v = refl
-finish_report (some n) r v = refl
+finish_report None r v = refl
+finish_report (Some n) r v = refl
 
 module _ (x : Phase) (w : World) (f : Intake) (g : Good w) (h : FitsHold w f) where
   pub in_hold_lem : in_hold (report_if f.standing (front (run_on x w.state.run f)) f.held) (going x w f) ≡ blocks_of f.standing (place_now w + length f.passed) f.held
@@ -85,8 +85,8 @@ bytes_told w g l = rw (good_sound w g, le-leb 65536 (length w.hold) l) refl
 
 shown_by : (o : Option ℕ) (p : ℕ) (v : List ℕ) (u : World) → Good u → 65536 ≤ length u.hold → u.state.run.standing ≡ size o
     → shown (report_if o p v) u ≡ in_hold (report_if o p v) u
-shown_by none p v u g l e = refl
-shown_by (some n) p v u g l e =
+shown_by None p v u g l e = refl
+shown_by (Some n) p v u g l e =
     ap (λ (b : List ℕ). with_bytes (reported p n v) b ∷ []) (bytes_told u g l ∙ ap (λ (k : ℕ). take k u.hold) e)
 
 pub hold_length : (f : Intake) (hold : List ℕ) → length f.held ≤ length hold → length (hold_of f hold) ≡ length hold

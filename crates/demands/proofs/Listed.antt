@@ -6,14 +6,14 @@ use mathlib.Core.Path.{◌≡◌, refl, sym, ap, ◌∙◌}
 use mathlib.Core.Bool.{Bool, true, false, cond}
 use mathlib.Core.List.{List, [], ◌∷◌}
 use mathlib.Core.Logic.{◌⊎◌, inl, inr, ⊎_elim}
-use mathlib.Core.Option.{none, some}
+use Rattle.std.proofs.Common.{None, Some}
 use lib.ListN.{length}
 use Rattle.wire.proofs.Tests.{both_left, both_right, never}
 use Rattle.table.specs.Lists.{every, first_that, pick}
 use Rattle.demands.specs.Refusals.{Among}
 use Rattle.demands.proofs.Exact.{Tells, retell, both}
 
-pub nothing_there : {A X : Type 0} {x : A} → none ≡ some x → X
+pub nothing_there : {A X : Type 0} {x : A} → None ≡ Some x → X
 nothing_there e = let z : ◌≡◌ {A = ℕ} 0 1 = cc in let f : ⊥ = omega arith in absurd f
 
 -- x has P, and is among them
@@ -22,39 +22,39 @@ AnyOf {A} xs P = (x : A) × (Among xs x × P x)
 
 module _ {A : Type 0} where
   -- the first that p holds of is among them, and p holds of it
-  pub first_there : (p : A → Bool) (xs : List A) → {x : A} → first_that p xs ≡ some x → Among xs x × (p x ≡ true)
+  pub first_there : (p : A → Bool) (xs : List A) → {x : A} → first_that p xs ≡ Some x → Among xs x × (p x ≡ true)
   unfolding first_that pick
   first_there p [] e = nothing_there e
   first_there p (y ∷ ys) {x} e = by (p y) refl e (λ f. first_there p ys f) where
-    by : (c : Bool) → p y ≡ c → cond c (some y) (first_that p ys) ≡ some x → (first_that p ys ≡ some x → Among ys x × (p x ≡ true)) → Among (y ∷ ys) x × (p x ≡ true)
+    by : (c : Bool) → p y ≡ c → cond c (Some y) (first_that p ys) ≡ Some x → (first_that p ys ≡ Some x → Among ys x × (p x ≡ true)) → Among (y ∷ ys) x × (p x ≡ true)
     by true q f go = let s : y ≡ x = cc in ((0, f), rw (← s) q)
     by false q f go = let r = go f in ((suc r.0.0, r.0.1), r.1)
 
   -- where there is none, p holds of none
-  pub first_none : (p : A → Bool) (xs : List A) → first_that p xs ≡ none → (i : ℕ) {x : A} → pick xs i ≡ some x → p x ≡ true → ⊥
+  pub first_none : (p : A → Bool) (xs : List A) → first_that p xs ≡ None → (i : ℕ) {x : A} → pick xs i ≡ Some x → p x ≡ true → ⊥
   unfolding first_that pick
   first_none p [] e i f t = nothing_there f
   first_none p (y ∷ ys) e i {x} f t = by (p y) refl e i f (λ g k h. first_none p ys g k h t) where
-    by : (c : Bool) → p y ≡ c → cond c (some y) (first_that p ys) ≡ none → (i : ℕ) → pick (y ∷ ys) i ≡ some x
-        → (first_that p ys ≡ none → (k : ℕ) → pick ys k ≡ some x → ⊥) → ⊥
+    by : (c : Bool) → p y ≡ c → cond c (Some y) (first_that p ys) ≡ None → (i : ℕ) → pick (y ∷ ys) i ≡ Some x
+        → (first_that p ys ≡ None → (k : ℕ) → pick ys k ≡ Some x → ⊥) → ⊥
     by true q g i f go = nothing_there (sym g)
     by false q g zero f go = let s : y ≡ x = cc in never t (rw (← s) q)
     by false q g (suc i) f go = go g i f
 
-  pub pick_there : (xs : List A) (i : ℕ) → {x : A} → pick xs i ≡ some x → i < length xs
+  pub pick_there : (xs : List A) (i : ℕ) → {x : A} → pick xs i ≡ Some x → i < length xs
   unfolding pick
   pick_there [] i e = nothing_there e
   pick_there (y ∷ ys) zero e = omega arith
   pick_there (y ∷ ys) (suc i) e = let h = pick_there ys i e in omega arith
 
-  pub pick_none : (xs : List A) (i : ℕ) → pick xs i ≡ none → length xs ≤ i
+  pub pick_none : (xs : List A) (i : ℕ) → pick xs i ≡ None → length xs ≤ i
   unfolding pick
   pick_none [] i e = omega arith
   pick_none (y ∷ ys) zero e = nothing_there (sym e)
   pick_none (y ∷ ys) (suc i) e = let h = pick_none ys i e in omega arith
 
   -- what holds of every one holds of one
-  pub every_at_lem : (p : A → Bool) (xs : List A) (i : ℕ) {x : A} → pick xs i ≡ some x → every p xs ≡ true → p x ≡ true
+  pub every_at_lem : (p : A → Bool) (xs : List A) (i : ℕ) {x : A} → pick xs i ≡ Some x → every p xs ≡ true → p x ≡ true
   unfolding every pick
   every_at_lem p [] i e h = nothing_there e
   every_at_lem p (y ∷ ys) zero {x} e h = let s : x ≡ y = cc in ap p s ∙ both_left (p y) _ h
@@ -69,7 +69,7 @@ module _ {A : Type 0} where
     unfolding pick
     later h = (h.0, ((suc h.1.0.0, h.1.0.1), h.1.1))
 
-    which : (x : A) (i : ℕ) → pick (y ∷ ys) i ≡ some x → P x → P y ⊎ AnyOf ys P
+    which : (x : A) (i : ℕ) → pick (y ∷ ys) i ≡ Some x → P x → P y ⊎ AnyOf ys P
     unfolding pick
     which x zero f h = let s : x ≡ y = cc in inl (rw (← s) h)
     which x (suc i) f h = inr (x, ((i, f), h))

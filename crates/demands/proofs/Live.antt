@@ -4,7 +4,7 @@ use Prim.Native.Nat.{ℕ}
 use mathlib.Core.Path.{◌≡◌, refl, sym, ap, ◌∙◌}
 use mathlib.Core.Bool.{true, false, ◌&&◌, ◌||◌}
 use mathlib.Core.List.{List, [], ◌∷◌}
-use mathlib.Core.Option.{Option, none, some, IsSome}
+use Rattle.std.proofs.Common.{Option, None, Some, IsSome}
 use lib.Dec.{ltb}
 use Rattle.frame.specs.Frame.{ceiling_ok}
 use Rattle.table.specs.Rules.{table_ok}
@@ -33,7 +33,7 @@ pub record MayOpen (x : Settings) (w : World) : Type 0 where
   pub one : (ltb 0 w.state.waiting || ltb 0 w.state.in_force) ≡ true
   pub ok : table_ok (next_table w.state w.force w.wait) ≡ true
 
-pub may_open : (x : Settings) (w : World) → refusal (open_run x) w ≡ none → MayOpen x w
+pub may_open : (x : Settings) (w : World) → refusal (open_run x) w ≡ None → MayOpen x w
 unfolding open_refusal
 may_open x w e =
     let s = w.state in
@@ -46,23 +46,23 @@ may_open x w e =
       closed = b.0;
       ceiling = d.0;
       one = c.0;
-      ok = (passes (table_ok (next_table s w.force w.wait)) 4 none c.1).0;
+      ok = (passes (table_ok (next_table s w.force w.wait)) 4 None c.1).0;
     }
 
-pub not_open : {X : Type 0} (x : Settings) (w : World) → Live w → refusal (open_run x) w ≡ none → X
+pub not_open : {X : Type 0} (x : Settings) (w : World) → Live w → refusal (open_run x) w ≡ None → X
 not_open x w l e = clash (sym (may_open x w e).closed ∙ l)
 
 -- ---- it stays open
 
-live_finish : (o : Option ℕ) (v : List ℕ) (r : Run) → (told (said (finish_said o r v))).end ≡ none → is_closed (phase_after o) ≡ false
-live_finish none v r e = nothing_there (sym e)
-live_finish (some n) v r e = refl
+live_finish : (o : Option ℕ) (v : List ℕ) (r : Run) → (told (said (finish_said o r v))).end ≡ None → is_closed (phase_after o) ≡ false
+live_finish None v r e = nothing_there (sym e)
+live_finish (Some n) v r e = refl
 
 live_table : (t : TableCall) (w : World) → Live w → Live (done (table t) w).world
 live_table (stage t) w l = l
 live_table withdraw w l = l
 
-live_done : (c : Call) (w : World) → Live w → refusal c w ≡ none → (told (done c w).answer).end ≡ none → Live (done c w).world
+live_done : (c : Call) (w : World) → Live w → refusal c w ≡ None → (told (done c w).answer).end ≡ None → Live (done c w).world
 live_done (open_run x) w l e n = not_open x w l e
 live_done (feed piece) w l e n = refl
 live_done finish w l e n =
@@ -71,11 +71,11 @@ live_done finish w l e n =
 live_done (table t) w l e n = live_table t w l
 live_done (look k) w l e n = l
 
-live_by : (c : Call) (w : World) → Live w → {r : Step} → How c w r → (told r.answer).end ≡ none → Live r.world
+live_by : (c : Call) (w : World) → Live w → {r : Step} → How c w r → (told r.answer).end ≡ None → Live r.world
 live_by c w l (isnt k e) n = l
 live_by c w l (is e) n = live_done c w l e n
 
-pub live_step : (c : Call) (w : World) → Live w → (told (step c w).answer).end ≡ none → Live (step c w).world
+pub live_step : (c : Call) (w : World) → Live w → (told (step c w).answer).end ≡ None → Live (step c w).world
 live_step c w l n = live_by c w l (how c w) n
 
 pub live_end : (cs : List Call) (w : World) → Live w → NoEnd cs w → Live (end cs w)

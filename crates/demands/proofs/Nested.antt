@@ -6,7 +6,7 @@ use mathlib.Core.Path.{◌≡◌, refl, sym, ap, ◌∙◌, subst}
 use mathlib.Core.Bool.{Bool, true, false, not, ◌&&◌, ◌||◌, cond}
 use mathlib.Core.List.{List}
 use mathlib.Core.Logic.{◌⊎◌, inl, inr, ⊎_elim}
-use mathlib.Core.Option.{Option, none, some}
+use Rattle.std.proofs.Common.{Option, None, Some}
 use lib.ListN.{length}
 use lib.Dec.{ltb, eqb}
 use borrow.Author.Tests.{ltb-true, eqb-true, eqb-false, not-true, not-false, ne_eqb, lt-ltb, le-ltb}
@@ -51,7 +51,7 @@ next a b t u =
 -- ---- a number in a field
 
 module _ (b s : List ℕ) (rows : List FieldRow) (i kind : ℕ) where
-  number_fine : (f : FieldRow) → pick rows i ≡ some f → f.kind ≡ kind → (x : FieldSaid) → field_said (block_revision b) s f ≡ x
+  number_fine : (f : FieldRow) → pick rows i ≡ Some f → f.kind ≡ kind → (x : FieldSaid) → field_said (block_revision b) s f ≡ x
       → is_some (unsigned_of x) ≡ true → NoNumber b s rows i kind → ⊥
   number_fine f p k (unsigned n) e t g = g f p k n e
   number_fine f p k (signed z) e t g = never t refl
@@ -61,36 +61,36 @@ module _ (b s : List ℕ) (rows : List FieldRow) (i kind : ℕ) where
   number_fine f p k not_in_revision e t g = never t refl
   number_fine f p k (field_refused n) e t g = never t refl
 
-  number_holds : (f : FieldRow) → pick rows i ≡ some f → is_some (unsigned_of (field_said (block_revision b) s f)) ≡ false → NoNumber b s rows i kind
+  number_holds : (f : FieldRow) → pick rows i ≡ Some f → is_some (unsigned_of (field_said (block_revision b) s f)) ≡ false → NoNumber b s rows i kind
   number_holds f p t g q k n e =
-      let z : some f ≡ some g = sym p ∙ q in
+      let z : Some f ≡ Some g = sym p ∙ q in
       let y : f ≡ g = cc in
       never (ap (λ (x : FieldSaid). is_some (unsigned_of x)) e) (subst (λ (x : FieldRow). is_some (unsigned_of (field_said (block_revision b) s x)) ≡ false) y t)
 
-  kind_tells : (f : FieldRow) → pick rows i ≡ some f → (c : Bool) → eqb f.kind kind ≡ c
-      → Tells (is_some (cond c (unsigned_of (field_said (block_revision b) s f)) none)) (NoNumber b s rows i kind)
+  kind_tells : (f : FieldRow) → pick rows i ≡ Some f → (c : Bool) → eqb f.kind kind ≡ c
+      → Tells (is_some (cond c (unsigned_of (field_said (block_revision b) s f)) None)) (NoNumber b s rows i kind)
   kind_tells f p true e =
       record { fine = λ t g. number_fine f p (eqb-true f.kind kind e) (field_said (block_revision b) s f) refl t g; holds = number_holds f p }
   kind_tells f p false e =
       record {
         fine = λ t g. never t refl;
         holds = λ _ g q k n h.
-            let z : some f ≡ some g = sym p ∙ q in
+            let z : Some f ≡ Some g = sym p ∙ q in
             let y : f ≡ g = cc in
             eqb-false f.kind kind e (ap (λ (x : FieldRow). x.kind) y ∙ k);
       }
 
   number_by : (o : Option FieldRow) → pick rows i ≡ o → Tells (is_some (unsigned_at (revision_in b) s kind o)) (NoNumber b s rows i kind)
-  number_by none p = record { fine = λ t g. never t refl; holds = λ _ f q k n h. nothing_there (sym p ∙ q) }
-  number_by (some f) p = kind_tells f p (eqb f.kind kind) refl
+  number_by None p = record { fine = λ t g. never t refl; holds = λ _ f q k n h. nothing_there (sym p ∙ q) }
+  number_by (Some f) p = kind_tells f p (eqb f.kind kind) refl
 
   number_tells : Tells (is_some (unsigned_at (revision_in b) s kind (pick rows i))) (NoNumber b s rows i kind)
   number_tells = number_by (pick rows i) refl
 
 some_both : (x y : Option ℕ) → is_some (both_of x y) ≡ (is_some x && is_some y)
-some_both none y = refl
-some_both (some x) none = refl
-some_both (some x) (some y) = refl
+some_both None y = refl
+some_both (Some x) None = refl
+some_both (Some x) (Some y) = refl
 
 pair_tells : (b s : List ℕ) (rows : List FieldRow) (j kind : ℕ)
     → Tells (is_some (pair_at (revision_in b) s j kind rows)) (NoNumber b s rows 3 1 ⊎ NoNumber b s rows j kind)
@@ -163,18 +163,18 @@ pub sub2_tells : (b : List ℕ) (k m j : ℕ) (r : BlockRow) → block_ok r ≡ 
 sub2_tells b k m j r ok = both (there_by b k m r ok (one_level r) refl) (field_tells (second_rows r) j)
 
 in_second_lem : (b : List ℕ) (r : BlockRow) (j : ℕ) (n : Nest) (m : ℕ)
-    → field_refusal (in_second b r j (pick (seconds n) m)) ≡ need (ltb m n.count && ltb j (length (second_rows r))) 9 none
+    → field_refusal (in_second b r j (pick (seconds n) m)) ≡ need (ltb m n.count && ltb j (length (second_rows r))) 9 None
 in_second_lem b r j n m =
     lt? m n.count
     (λ l. rw (second_in n m l, lt-ltb m n.count l) (nine (revision_in b) (sub_slice b (second_at n m)) (second_rows r) j))
     (λ l. rw (second_out n m l, le-ltb m n.count l))
 
 sub2_by : (c : Bool) (b : List ℕ) (k m j : ℕ) (r : BlockRow)
-    → field_refusal (second_by b k m j (cond c (row r) (refused_by 9))) ≡ need (c && ltb m (nest_of r b k).count && ltb j (length (second_rows r))) 9 none
+    → field_refusal (second_by b k m j (cond c (row r) (refused_by 9))) ≡ need (c && ltb m (nest_of r b k).count && ltb j (length (second_rows r))) 9 None
 sub2_by true b k m j r = in_second_lem b r j (nest_of r b k) m
 sub2_by false b k m j r = refl
 
-pub sub2_row : (b : List ℕ) (k m j : ℕ) (x : Seen) → field_refusal (second_by b k m j (seen_sub_row b k x)) ≡ then_of x (λ r. need (second_test b k m j r) 9 none)
+pub sub2_row : (b : List ℕ) (k m j : ℕ) (x : Seen) → field_refusal (second_by b k m j (seen_sub_row b k x)) ≡ then_of x (λ r. need (second_test b k m j r) 9 None)
 unfolding seen_sub_row
 sub2_row b k m j (refused_by n) = refl
 sub2_row b k m j (row r) = sub2_by (ltb k (sub_count b r)) b k m j r
@@ -193,12 +193,12 @@ range_tells b k r ok =
     (next (not (one_level r)) (ltb k (sub_count b r) && is_some (first_pair r b (nest_of r b k))) (level_tells r)
     (λ two. next (ltb k (sub_count b r)) (is_some (first_pair r b (nest_of r b k))) (count_tells r ok b k two) (first_tells r ok b k two)))
 
-first_none : (o : Option Two) → field_refusal (range_said o) ≡ need (is_some o) 9 none
-first_none none = refl
-first_none (some p) = cond_none (no_first p.high p.low) do_not_use _ refl refl
+first_none : (o : Option Two) → field_refusal (range_said o) ≡ need (is_some o) 9 None
+first_none None = refl
+first_none (Some p) = cond_none (no_first p.high p.low) do_not_use _ refl refl
 
 -- the same tests in another order
-four : (a b c d : Bool) → need (a && (b && (c && d))) 9 none ≡ need c 9 (need (a && b) 9 (need d 9 none))
+four : (a b c d : Bool) → need (a && (b && (c && d))) 9 None ≡ need c 9 (need (a && b) 9 (need d 9 None))
 four true true true d = refl
 four true true false d = refl
 four true false true d = refl
@@ -211,11 +211,11 @@ said_need true a = refl
 said_need false a = refl
 
 range_by_lem : (c : Bool) (b : List ℕ) (k : ℕ) (r : BlockRow)
-    → field_refusal (range_by b k (cond c (row r) (refused_by 9))) ≡ need c 9 (need (is_epoch b r) 9 (need (is_some (first_pair r b (nest_of r b k))) 9 none))
+    → field_refusal (range_by b k (cond c (row r) (refused_by 9))) ≡ need c 9 (need (is_epoch b r) 9 (need (is_some (first_pair r b (nest_of r b k))) 9 None))
 range_by_lem true b k r = said_need (is_epoch b r) _ ∙ ap (need (is_epoch b r) 9) (first_none (first_pair r b (nest_of r b k)))
 range_by_lem false b k r = refl
 
-pub range_row : (b : List ℕ) (k : ℕ) (x : Seen) → field_refusal (range_by b k (seen_sub_row b k x)) ≡ then_of x (λ r. need (range_test b k r) 9 none)
+pub range_row : (b : List ℕ) (k : ℕ) (x : Seen) → field_refusal (range_by b k (seen_sub_row b k x)) ≡ then_of x (λ r. need (range_test b k r) 9 None)
 unfolding seen_sub_row
 range_row b k (refused_by n) = refl
 range_row b k (row r) =
@@ -243,21 +243,21 @@ range2_tells b k m r ok =
     rw (some_second r b (nest_of r b k) m)
     (next (ltb m (nest_of r b k).count) _ (nested_tells r ok b k two there m) (λ _. second_tells r ok b k two there m)))
 
-second_none : (p q : Option Two) → field_refusal (range2_said p q) ≡ need (is_some p) 9 (need (is_some q) 9 none)
-second_none none q = refl
-second_none (some p) none = refl
-second_none (some p) (some q) =
+second_none : (p q : Option Two) → field_refusal (range2_said p q) ≡ need (is_some p) 9 (need (is_some q) 9 None)
+second_none None q = refl
+second_none (Some p) None = refl
+second_none (Some p) (Some q) =
     cond_none (no_first p.high p.low || no_offset q.high q.low) do_not_use
     (signed (second_range (first_range p.high p.low) q.high q.low)) refl refl
 
 range2_by_lem : (c : Bool) (b : List ℕ) (k m : ℕ) (r : BlockRow)
     → field_refusal (range2_by b k m (cond c (row r) (refused_by 9)))
-    ≡ need c 9 (need (is_epoch b r) 9 (need (is_some (first_pair r b (nest_of r b k))) 9 (need (is_some (second_pair r b (pick (seconds (nest_of r b k)) m))) 9 none)))
+    ≡ need c 9 (need (is_epoch b r) 9 (need (is_some (first_pair r b (nest_of r b k))) 9 (need (is_some (second_pair r b (pick (seconds (nest_of r b k)) m))) 9 None)))
 range2_by_lem true b k m r =
     said_need (is_epoch b r) _ ∙ ap (need (is_epoch b r) 9) (second_none (first_pair r b (nest_of r b k)) (second_pair r b (pick (seconds (nest_of r b k)) m)))
 range2_by_lem false b k m r = refl
 
-five : (a b c d e : Bool) → need (a && (b && (c && d)) && e) 9 none ≡ need c 9 (need (a && b) 9 (need d 9 (need e 9 none)))
+five : (a b c d e : Bool) → need (a && (b && (c && d)) && e) 9 None ≡ need c 9 (need (a && b) 9 (need d 9 (need e 9 None)))
 five true true true true e = refl
 five true true true false e = refl
 five true true false d e = refl
@@ -266,7 +266,7 @@ five true false false d e = refl
 five false b true d e = refl
 five false b false d e = refl
 
-pub range2_row : (b : List ℕ) (k m : ℕ) (x : Seen) → field_refusal (range2_by b k m (seen_sub_row b k x)) ≡ then_of x (λ r. need (range2_test b k m r) 9 none)
+pub range2_row : (b : List ℕ) (k m : ℕ) (x : Seen) → field_refusal (range2_by b k m (seen_sub_row b k x)) ≡ then_of x (λ r. need (range2_test b k m r) 9 None)
 unfolding seen_sub_row
 range2_row b k m (refused_by n) = refl
 range2_row b k m (row r) =

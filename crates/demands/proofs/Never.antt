@@ -6,7 +6,7 @@ use mathlib.Core.Path.{◌≡◌, refl}
 use mathlib.Core.Bool.{Bool, true, false, cond}
 use mathlib.Core.List.{List, [], ◌∷◌}
 use mathlib.Core.Logic.{◌⊎◌, ⊎_elim}
-use mathlib.Core.Option.{none, some}
+use Rattle.std.proofs.Common.{None, Some}
 use lib.ListN.{length, take}
 use lib.Seq.{length-take-le}
 use lib.Dec.{ltb}
@@ -45,7 +45,7 @@ force_table : (t : TableCall) (w : World) → length (table_done t w).world.forc
 force_table (stage t) w = refl
 force_table withdraw w = refl
 
-force_done : (c : Call) (w : World) → refusal c w ≡ none → length (done c w).world.force ≡ length w.force
+force_done : (c : Call) (w : World) → refusal c w ≡ None → length (done c w).world.force ≡ length w.force
 force_done (open_run x) w e = open_force x w (may_open x w e)
 force_done (feed piece) w e = refl
 force_done finish w e = refl
@@ -135,10 +135,10 @@ module _ (w : World) (g : Good w) (l : Long w) where
   not_one (look (wnc b)) = not_stamp b
   not_one (look (write d buffer)) = not_write d buffer
 
-never_from : (cs : List Call) (c : Call) (w : World) → Good w → Long w → (told (step c (end cs w)).answer).refusal ≡ some 1 → ⊥
+never_from : (cs : List Call) (c : Call) (w : World) → Good w → Long w → (told (step c (end cs w)).answer).refusal ≡ Some 1 → ⊥
 unfolding end
 never_from [] c w g l e = not_given (order c w) (not_one w g l c) ((exactly c w).gives 1 e)
 never_from (k ∷ ks) c w g l e = never_from ks c (step k w).world (good_step k w g) (long_step k w g l) e
 
-pub never_one : (w : World) (before : List Call) (c : Call) → New w → Long w → (told (step c (end before w)).answer).refusal ≡ some 1 → ⊥
+pub never_one : (w : World) (before : List Call) (c : Call) → New w → Long w → (told (step c (end before w)).answer).refusal ≡ Some 1 → ⊥
 never_one w before c n l e = never_from before c w (good_new w n) l e

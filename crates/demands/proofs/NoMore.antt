@@ -5,7 +5,7 @@ use native.Mathlib.Omega.{arith}
 use mathlib.Core.Path.{◌≡◌, refl, ap, ap₂, ◌∙◌}
 use mathlib.Core.Bool.{◌&&◌}
 use mathlib.Core.List.{List}
-use mathlib.Core.Option.{Option, none}
+use Rattle.std.proofs.Common.{Option, None}
 use lib.ListN.{length, take}
 use lib.Seq.{length-take-le}
 use borrow.Author.Tests.{lt-ltb}
@@ -28,7 +28,7 @@ use Rattle.demands.proofs.Ending.{said_is}
 taken_is : (t n : ℕ) (a r : Option Report) → took t a ≡ took n r → t ≡ n
 taken_is t n a r e = cc
 
-module _ (w : World) (piece : List ℕ) (m : ℕ) (e : refusal (feed piece) w ≡ none) (l : m < (feeding_of w.state w.hold piece).taken) where
+module _ (w : World) (piece : List ℕ) (m : ℕ) (e : refusal (feed piece) w ≡ None) (l : m < (feeding_of w.state w.hold piece).taken) where
   -- there is room for what was taken, and the piece has it
   fits : (m < limit - w.state.run.counts.taken) × (m ≤ length piece)
   unfolding feeding_of
@@ -36,14 +36,14 @@ module _ (w : World) (piece : List ℕ) (m : ℕ) (e : refusal (feed piece) w �
       let k = (call (judged (ceiling_of w.state)) (judging (ceiling_of w.state)).fits (kept w) piece (limit - w.state.run.counts.taken)).taken in
       (omega (arith, k), omega (arith, k))
 
-  accepted : refusal (feed (take m piece)) w ≡ none
+  accepted : refusal (feed (take m piece)) w ≡ None
   unfolding feed_refusal
   accepted =
       let one = passes (sound w.state && long_hold w.hold) 1 _ e in
       let two = passes (is_feeding w.state.run.phase) 2 _ one.1 in
       rw (one.0, two.0, lt-ltb w.state.run.counts.taken limit (omega (arith, fits.0))) refl
 
-  no_block : (feeding_of w.state w.hold (take m piece)).standing ≡ none
+  no_block : (feeding_of w.state w.hold (take m piece)).standing ≡ None
   unfolding feeding_of
   no_block = (block_decides_no_more (ceiling_of w.state)).least (kept w) piece (limit - w.state.run.counts.taken) m l
 
@@ -53,14 +53,14 @@ module _ (w : World) (piece : List ℕ) (m : ℕ) (e : refusal (feed piece) w �
       let t = (more_decides_all (ceiling_of w.state) (kept w) (take m piece) (limit - w.state.run.counts.taken) no_block).0 in
       omega (arith, t, length-take-le m piece fits.1, fits.0)
 
-  answers_more : (step (feed (take m piece)) w).answer ≡ said (took m none)
+  answers_more : (step (feed (take m piece)) w).answer ≡ said (took m None)
   answers_more =
       let F = feeding_of w.state w.hold (take m piece) in
       ap (λ (s : Step). s.answer) (by_refusal (feed (take m piece)) w ∙ ap (λ (o : Option ℕ). unless_refused o (feed (take m piece)) w) accepted)
       ∙ ap₂ (λ (t : ℕ) (o : Option ℕ). said (took t (report_if o (front (done (feed (take m piece)) w).world.state.run) F.held))) all_taken no_block
 
 no_more_by : (w : World) (piece : List ℕ) (n m : ℕ) (r : Option Report) {s : Step} → How (feed piece) w s → s.answer ≡ said (took n r) → m < n
-    → (step (feed (take m piece)) w).answer ≡ said (took m none)
+    → (step (feed (take m piece)) w).answer ≡ said (took m None)
 no_more_by w piece n m r (isnt k e) f l = let z : ◌≡◌ {A = ℕ} 0 1 = cc in let x : ⊥ = omega arith in absurd x
 no_more_by w piece n m r (is e) f l =
     answers_more w piece m e (omega (arith, l, taken_is (feeding_of w.state w.hold piece).taken n _ r (said_is _ _ f)))

@@ -7,7 +7,7 @@ use mathlib.Core.Path.{◌≡◌, refl, ap, subst}
 use mathlib.Core.Bool.{Bool, true, false, cond}
 use mathlib.Core.List.{List, [], ◌∷◌}
 use mathlib.Core.Logic.{◌⊎◌, inl, inr, ⊎_elim}
-use mathlib.Core.Option.{Option, none, some}
+use Rattle.std.proofs.Common.{Option, None, Some}
 use lib.ListN.{length, drop}
 use lib.Dec.{eqb}
 use borrow.Author.Tests.{eqb-true}
@@ -40,12 +40,12 @@ use Rattle.demands.proofs.Behind.{behind, as_long}
 -- ---- 6, 11, 12
 
 row_need : (top : ℕ) (r : BlockRow) (d : Draft) (buffer : List ℕ)
-    → write_refusal (written_by top (some r) d buffer).said ≡ need (draft_ok r d) 11 (need (room_for top r d (length buffer)) 12 none)
+    → write_refusal (written_by top (Some r) d buffer).said ≡ need (draft_ok r d) 11 (need (room_for top r d (length buffer)) 12 None)
 unfolding written_by
 row_need top r d buffer = by (draft_ok r d) (room_for top r d (length buffer)) where
   by : (a b : Bool)
       → write_refusal (cond a (cond b (write_outcome (wrote (block_length r d)) (over (block_bytes r d) buffer)) (refuses_write 12 buffer)) (refuses_write 11 buffer)).said
-      ≡ need a 11 (need b 12 none)
+      ≡ need a 11 (need b 12 None)
   by true true = refl
   by true false = refl
   by false b = refl
@@ -56,7 +56,7 @@ module _ (top : ℕ) (t : List ℕ) (ok : table_ok t ≡ true) (d : Draft) (buff
 
   -- R6: by a row of one level Write writes, and by one of two levels not
   one_exact : (r : BlockRow) → RowOf (decode t) d.number r → (c : Bool) → eqb r.firsts 0 ≡ c
-      → Exactly (write_refusal (written_by top (cond c (some r) none) d buffer).said)
+      → Exactly (write_refusal (written_by top (cond c (Some r) None) d buffer).said)
       (6 when NotWritten
       ∷ 11 when OfRow (decode t) d.number (λ r. CannotStand r d)
       ∷ 12 when OfRow (decode t) d.number (λ r. HasNoRoom top (length buffer) r d)
@@ -75,7 +75,7 @@ module _ (top : ℕ) (t : List ℕ) (ok : table_ok t ≡ true) (d : Draft) (buff
       (λ a. last 12 (of_row (decode t) d.number r h one (λ q. HasNoRoom top (length buffer) q d) (room_tells r d right (admitted r d a) top (length buffer))))))
   one_exact r h false f =
       let level : 0 < r.firsts = (empty_tells r.firsts).holds f in
-      passed_by false 6 none (record { fine = λ z. never z refl; holds = λ _. inr (r, (h, level)) }) (λ z. never z refl)
+      passed_by false 6 None (record { fine = λ z. never z refl; holds = λ _. inr (r, (h, level)) }) (λ z. never z refl)
 
   row_exact : (o : Option BlockRow) → find_row (decode t) d.number ≡ o
       → Exactly (write_refusal (written_by top (writable_row o) d buffer).said)
@@ -84,17 +84,17 @@ module _ (top : ℕ) (t : List ℕ) (ok : table_ok t ≡ true) (d : Draft) (buff
       ∷ 12 when OfRow (decode t) d.number (λ r. HasNoRoom top (length buffer) r d)
       ∷ [])
   unfolding written_by
-  row_exact none e =
-      passed_by false 6 none (record { fine = λ z. never z refl; holds = λ _. inl (row_none (decode t) d.number e) }) (λ z. never z refl)
-  row_exact (some r) e = one_exact r (row_there (decode t) d.number e) (eqb r.firsts 0) refl
+  row_exact None e =
+      passed_by false 6 None (record { fine = λ z. never z refl; holds = λ _. inl (row_none (decode t) d.number e) }) (λ z. never z refl)
+  row_exact (Some r) e = one_exact r (row_there (decode t) d.number e) (eqb r.firsts 0) refl
 
   -- what stands behind an accepted block
-  behind_row : (r : BlockRow) → RowOf (decode t) d.number r → r.firsts ≡ 0 → (n : ℕ) → write_length (written_by top (some r) d buffer).said ≡ some n
-      → (drop n (written_by top (some r) d buffer).buffer ≡ drop n buffer) × (length (written_by top (some r) d buffer).buffer ≡ length buffer)
+  behind_row : (r : BlockRow) → RowOf (decode t) d.number r → r.firsts ≡ 0 → (n : ℕ) → write_length (written_by top (Some r) d buffer).said ≡ Some n
+      → (drop n (written_by top (Some r) d buffer).buffer ≡ drop n buffer) × (length (written_by top (Some r) d buffer).buffer ≡ length buffer)
   unfolding written_by
   behind_row r e level n w = by (draft_ok r d) refl (room_for top r d (length buffer)) refl w where
     by : (a : Bool) → draft_ok r d ≡ a → (b : Bool) → room_for top r d (length buffer) ≡ b
-        → write_length (cond a (cond b (write_outcome (wrote (block_length r d)) (over (block_bytes r d) buffer)) (refuses_write 12 buffer)) (refuses_write 11 buffer)).said ≡ some n
+        → write_length (cond a (cond b (write_outcome (wrote (block_length r d)) (over (block_bytes r d) buffer)) (refuses_write 12 buffer)) (refuses_write 11 buffer)).said ≡ Some n
         → let x = cond a (cond b (write_outcome (wrote (block_length r d)) (over (block_bytes r d) buffer)) (refuses_write 12 buffer)) (refuses_write 11 buffer) in
         (drop n x.buffer ≡ drop n buffer) × (length x.buffer ≡ length buffer)
     by true f true g h =
@@ -106,23 +106,23 @@ module _ (top : ℕ) (t : List ℕ) (ok : table_ok t ≡ true) (d : Draft) (buff
     by false f b g h = nothing_there h
 
   behind_one : (r : BlockRow) → RowOf (decode t) d.number r → (c : Bool) → eqb r.firsts 0 ≡ c → (n : ℕ)
-      → write_length (written_by top (cond c (some r) none) d buffer).said ≡ some n
-      → (drop n (written_by top (cond c (some r) none) d buffer).buffer ≡ drop n buffer) × (length (written_by top (cond c (some r) none) d buffer).buffer ≡ length buffer)
+      → write_length (written_by top (cond c (Some r) None) d buffer).said ≡ Some n
+      → (drop n (written_by top (cond c (Some r) None) d buffer).buffer ≡ drop n buffer) × (length (written_by top (cond c (Some r) None) d buffer).buffer ≡ length buffer)
   unfolding written_by
   behind_one r h true f n w = behind_row r h (eqb-true r.firsts 0 f) n w
   behind_one r h false f n w = nothing_there w
 
-  behind_by : (o : Option BlockRow) → find_row (decode t) d.number ≡ o → (n : ℕ) → write_length (written_by top (writable_row o) d buffer).said ≡ some n
+  behind_by : (o : Option BlockRow) → find_row (decode t) d.number ≡ o → (n : ℕ) → write_length (written_by top (writable_row o) d buffer).said ≡ Some n
       → (drop n (written_by top (writable_row o) d buffer).buffer ≡ drop n buffer) × (length (written_by top (writable_row o) d buffer).buffer ≡ length buffer)
   unfolding written_by
-  behind_by none e n w = nothing_there w
-  behind_by (some r) e n w = behind_one r (row_there (decode t) d.number e) (eqb r.firsts 0) refl n w
+  behind_by None e n w = nothing_there w
+  behind_by (Some r) e n w = behind_one r (row_there (decode t) d.number e) (eqb r.firsts 0) refl n w
 
 -- ---- 1, 5, 4, and then these
 
 number_unless : (o : Option ℕ) (buffer : List ℕ) (x : WriteOutcome) → write_refusal (written_unless o buffer x).said ≡ first_of o (write_refusal x.said)
-number_unless none buffer x = refl
-number_unless (some n) buffer x = refl
+number_unless None buffer x = refl
+number_unless (Some n) buffer x = refl
 
 pub write_exact : (w : World) (d : Draft) (buffer : List ℕ) → Exactly (write_refusal (write_of w.state w.force d buffer).said) (order (look (write d buffer)) w)
 unfolding write_of written_of
@@ -133,39 +133,39 @@ write_exact w d buffer =
 
 -- ---- the buffer
 
-kept_by : (top : ℕ) (o : Option BlockRow) (d : Draft) (buffer : List ℕ) (n : ℕ) → write_refusal (written_by top o d buffer).said ≡ some n → (written_by top o d buffer).buffer ≡ buffer
+kept_by : (top : ℕ) (o : Option BlockRow) (d : Draft) (buffer : List ℕ) (n : ℕ) → write_refusal (written_by top o d buffer).said ≡ Some n → (written_by top o d buffer).buffer ≡ buffer
 unfolding written_by
-kept_by top none d buffer n e = refl
-kept_by top (some r) d buffer n e = by (draft_ok r d) (room_for top r d (length buffer)) e where
+kept_by top None d buffer n e = refl
+kept_by top (Some r) d buffer n e = by (draft_ok r d) (room_for top r d (length buffer)) e where
   by : (a b : Bool)
-      → write_refusal (cond a (cond b (write_outcome (wrote (block_length r d)) (over (block_bytes r d) buffer)) (refuses_write 12 buffer)) (refuses_write 11 buffer)).said ≡ some n
+      → write_refusal (cond a (cond b (write_outcome (wrote (block_length r d)) (over (block_bytes r d) buffer)) (refuses_write 12 buffer)) (refuses_write 11 buffer)).said ≡ Some n
       → (cond a (cond b (write_outcome (wrote (block_length r d)) (over (block_bytes r d) buffer)) (refuses_write 12 buffer)) (refuses_write 11 buffer)).buffer ≡ buffer
   by true true f = nothing_there f
   by true false f = refl
   by false b f = refl
 
-unless_keeps : (o : Option ℕ) (buffer : List ℕ) (x : WriteOutcome) (n : ℕ) → (write_refusal x.said ≡ some n → x.buffer ≡ buffer)
-    → write_refusal (written_unless o buffer x).said ≡ some n → (written_unless o buffer x).buffer ≡ buffer
-unless_keeps none buffer x n h e = h e
-unless_keeps (some m) buffer x n h e = refl
+unless_keeps : (o : Option ℕ) (buffer : List ℕ) (x : WriteOutcome) (n : ℕ) → (write_refusal x.said ≡ Some n → x.buffer ≡ buffer)
+    → write_refusal (written_unless o buffer x).said ≡ Some n → (written_unless o buffer x).buffer ≡ buffer
+unless_keeps None buffer x n h e = h e
+unless_keeps (Some m) buffer x n h e = refl
 
-pub unwritten : (d : Draft) (buffer : List ℕ) (w : World) (n : ℕ) → (told (step (look (write d buffer)) w).answer).refusal ≡ some n
-    → (told (step (look (write d buffer)) w).answer).buffer ≡ some buffer
+pub unwritten : (d : Draft) (buffer : List ℕ) (w : World) (n : ℕ) → (told (step (look (write d buffer)) w).answer).refusal ≡ Some n
+    → (told (step (look (write d buffer)) w).answer).buffer ≡ Some buffer
 unfolding step write_of written_of
 unwritten d buffer w n e =
-    ap some (unless_keeps (ask_refusal w.state w.force) buffer _ n (kept_by (ceiling_of w.state) (writable_row (find_row (decode (table_in_force w.state w.force)) d.number)) d buffer n) e)
+    ap Some (unless_keeps (ask_refusal w.state w.force) buffer _ n (kept_by (ceiling_of w.state) (writable_row (find_row (decode (table_in_force w.state w.force)) d.number)) d buffer n) e)
 
 -- a call that wrote was not refused with 1, 5 or 4
 behind_unless : (o : Option ℕ) (buffer after : List ℕ) (x : WriteOutcome) (n : ℕ)
-    → (o ≡ none → write_length x.said ≡ some n → (drop n x.buffer ≡ drop n buffer) × (length x.buffer ≡ length buffer))
-    → write_length (written_unless o buffer x).said ≡ some n → (written_unless o buffer x).buffer ≡ after
+    → (o ≡ None → write_length x.said ≡ Some n → (drop n x.buffer ≡ drop n buffer) × (length x.buffer ≡ length buffer))
+    → write_length (written_unless o buffer x).said ≡ Some n → (written_unless o buffer x).buffer ≡ after
     → (drop n after ≡ drop n buffer) × (length after ≡ length buffer)
-behind_unless none buffer after x n h e f =
+behind_unless None buffer after x n h e f =
     subst (λ (b : List ℕ). (drop n b ≡ drop n buffer) × (length b ≡ length buffer)) f (h refl e)
-behind_unless (some m) buffer after x n h e f = nothing_there e
+behind_unless (Some m) buffer after x n h e f = nothing_there e
 
-pub kept_behind : (d : Draft) (buffer after : List ℕ) (w : World) (n : ℕ) → (told (step (look (write d buffer)) w).answer).wrote ≡ some n
-    → (told (step (look (write d buffer)) w).answer).buffer ≡ some after → (drop n after ≡ drop n buffer) × (length after ≡ length buffer)
+pub kept_behind : (d : Draft) (buffer after : List ℕ) (w : World) (n : ℕ) → (told (step (look (write d buffer)) w).answer).wrote ≡ Some n
+    → (told (step (look (write d buffer)) w).answer).buffer ≡ Some after → (drop n after ≡ drop n buffer) × (length after ≡ length buffer)
 unfolding step write_of written_of
 kept_behind d buffer after w n e f =
     let s = w.state in

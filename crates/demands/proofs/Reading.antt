@@ -4,7 +4,7 @@ use Prim.Native.Nat.{ℕ, zero, suc, ◌+◌}
 use mathlib.Core.Path.{◌≡◌, refl, sym, ap, ap₂, ◌∙◌, subst, subst⁻¹}
 use mathlib.Core.Bool.{◌&&◌}
 use mathlib.Core.List.{List, [], ◌∷◌, ◌++◌, append-nil, append_assoc}
-use mathlib.Core.Option.{Option, none, some, get_or, IsSome}
+use Rattle.std.proofs.Common.{Option, None, Some, unwrap_or, IsSome}
 use lib.ListN.{length, take, drop, length-append}
 use Rattle.frame.specs.Judge.{judged_last}
 use Rattle.scan.specs.Settle.{settle}
@@ -64,12 +64,12 @@ no_piece : (n : ℕ) → take {A = ℕ} n [] ≡ []
 no_piece zero = refl
 no_piece (suc n) = refl
 
-reads_done : (c : Call) (w : World) {ts : List ℕ} {b : List ReadBlock} → Good w → Live w → refusal c w ≡ none → ReadsAs ts b w → Next c ts b (done c w)
+reads_done : (c : Call) (w : World) {ts : List ℕ} {b : List ReadBlock} → Good w → Live w → refusal c w ≡ None → ReadsAs ts b w → Next c ts b (done c w)
 reads_done (open_run x) w g l e r = not_open x w l e
 reads_done (feed piece) w g l e r = reads_feed w piece g e r
 reads_done finish w {ts} {b} g l e r =
     subst⁻¹ (λ (x : List ℕ). ReadsAs (ts ++ x) (b ++ in_hold (told (done finish w).answer).block (done finish w).world) (done finish w).world)
-    (no_piece (get_or (told (done finish w).answer).taken 0)) (reads_finish w g e r)
+    (no_piece (unwrap_or (told (done finish w).answer).taken 0)) (reads_finish w g e r)
 reads_done (table t) w g l e r = table_reads t w r
 reads_done (look k) w g l e r = look_reads k w r
 
@@ -129,7 +129,7 @@ un_nil {ts} {b} {w} r = subst (λ (x : List ℕ). ReadsAs x b w) (append-nil ts)
 
 record Whole (c : ℕ) (ts : List ℕ) (b : List ReadBlock) (a : Reply) : Type 0 where
   pub all : b ≡ (read_run c 0 ts).blocks
-  pub counts : (told a).end ≡ some (counts_of c ts)
+  pub counts : (told a).end ≡ Some (counts_of c ts)
 
 abbrev counting : ℕ → ℕ → ℕ → Counts
 counting t b s = record { taken = t; blocks = b; skipped = s }
@@ -147,30 +147,30 @@ closed_reads w {ts} {b} c k r =
     let all : b ≡ (read_run top 0 ts).blocks = ap (λ (x : Reading). x.blocks) (sym so) in
     record {
       all = all;
-      counts = ap₂ (λ (i j : ℕ). some (counting i j w.state.run.counts.skipped)) r.count (r.sum ∙ ap length all)
-          ∙ ap (λ (i : ℕ). some (counting (length ts) (length (read_run top 0 ts).blocks) i))
+      counts = ap₂ (λ (i j : ℕ). Some (counting i j w.state.run.counts.skipped)) r.count (r.sum ∙ ap length all)
+          ∙ ap (λ (i : ℕ). Some (counting (length ts) (length (read_run top 0 ts).blocks) i))
           (r.skips ∙ ap (λ (x : Reading). length x.skipped) (sym so));
     }
 
-ended_reads : (w : World) {ts : List ℕ} {b : List ReadBlock} (o : Option ℕ) (f : Intake) → f.standing ≡ o → Good w → FitsHold w f → (o ≡ none → f.held ≡ [])
+ended_reads : (w : World) {ts : List ℕ} {b : List ReadBlock} (o : Option ℕ) (f : Intake) → f.standing ≡ o → Good w → FitsHold w f → (o ≡ None → f.held ≡ [])
     → IsSome (told (said (finish_said o (run_on (phase_after o) w.state.run f) f.held))).end
     → ReadsAs (ts ++ []) (b ++ in_hold (told (said (finish_said o (run_on (phase_after o) w.state.run f) f.held))).block (going (phase_after o) w f)) (going (phase_after o) w f)
     → Whole (ceiling_of w.state) ts b (said (finish_said o (run_on (phase_after o) w.state.run f) f.held))
-ended_reads w none f q g h d e r =
+ended_reads w None f q g h d e r =
     closed_reads (going phase.Closed w f) refl (kept_after phase.Closed w f g h ∙ ap (λ (o : Option ℕ). drop (size o) f.held) q ∙ d refl) (un_nil r)
-ended_reads w (some n) f q g h d e r = absurd e
+ended_reads w (Some n) f q g h d e r = let z : ⊥ = cc in absurd z
 
 whole_by : (w : World) {ts : List ℕ} {b : List ReadBlock} → Good w → ReadsAs ts b w → {x : Step} → How finish w x → IsSome (told x.answer).end
     → Whole (ceiling_of w.state) ts b x.answer
 unfolding finishing_of
-whole_by w g r (isnt k e) n = absurd n
+whole_by w g r (isnt k e) n = let z : ⊥ = cc in absurd z
 whole_by w g r (is e) n =
     let f = stop (settle (judged_last (ceiling_of w.state)) (kept w)) in
     ended_reads w (settle (judged_last (ceiling_of w.state)) (kept w)).standing f refl g (finish_fits w g) (last_empty (ceiling_of w.state) (kept w)) n (reads_finish w g e r)
 
 -- ---- what Bytes shows of each block is what stands in the hold
 
-shown_feed : (w : World) (piece : List ℕ) → Good w → refusal (feed piece) w ≡ none → Good (done (feed piece) w).world
+shown_feed : (w : World) (piece : List ℕ) → Good w → refusal (feed piece) w ≡ None → Good (done (feed piece) w).world
     → shown (told (done (feed piece) w).answer).block (done (feed piece) w).world ≡ in_hold (told (done (feed piece) w).answer).block (done (feed piece) w).world
 unfolding feed_refusal
 shown_feed w piece g e k =
@@ -178,7 +178,7 @@ shown_feed w piece g e k =
     shown_is phase.Feeding w f k (with_hold w.state w.hold (passes (sound w.state && long_hold w.hold) 1 _ e).0).1
     (front (run_on phase.Feeding w.state.run f))
 
-shown_finish : (w : World) → Good w → refusal finish w ≡ none → Good (done finish w).world
+shown_finish : (w : World) → Good w → refusal finish w ≡ None → Good (done finish w).world
     → shown (told (done finish w).answer).block (done finish w).world ≡ in_hold (told (done finish w).answer).block (done finish w).world
 unfolding finish_refusal
 shown_finish w g e k =
@@ -205,7 +205,7 @@ shown_look (tow x) w = refl
 shown_look (wnc x) w = refl
 shown_look (write d x) w = refl
 
-shown_done : (c : Call) (w : World) → Good w → refusal c w ≡ none → Good (done c w).world
+shown_done : (c : Call) (w : World) → Good w → refusal c w ≡ None → Good (done c w).world
     → shown (told (done c w).answer).block (done c w).world ≡ in_hold (told (done c w).answer).block (done c w).world
 shown_done (open_run x) w g e k = refl
 shown_done (feed piece) w g e k = shown_feed w piece g e k
@@ -239,5 +239,5 @@ of_the_whole run w before x mid h e q =
     record {
       all = all;
       shown = shown_all mid (at_open w before x) s.good ∙ all;
-      counts = t.counts ∙ ap (λ (v : List ℕ). some (counts_of top v)) q;
+      counts = t.counts ∙ ap (λ (v : List ℕ). Some (counts_of top v)) q;
     }

@@ -3,7 +3,7 @@
 use Prim.Native.Nat.{ℕ}
 use mathlib.Core.Path.{◌≡◌, refl, ap, ◌∙◌}
 use mathlib.Core.List.{List}
-use mathlib.Core.Option.{Option, none, some}
+use Rattle.std.proofs.Common.{Option, None, Some}
 use Rattle.record.specs.Calls.{tow_row, wnc_row}
 use Rattle.runs.specs.Calls.{finishing_of, finishing_by, finish_said}
 use Rattle.reader.specs.declared.Run.{Run}
@@ -14,26 +14,26 @@ use Rattle.demands.proofs.Asked.{same, body_exact, sub_exact, twin_exact, sub2_e
 use Rattle.demands.proofs.Penned.{write_exact}
 use Rattle.demands.proofs.Steps.{refusal, done, table_done, unless_refused, by_refusal}
 
-finish_none : (o : Option ℕ) (r : Run) (v : List ℕ) → (told (said (finish_said o r v))).refusal ≡ none
-finish_none none r v = refl
-finish_none (some n) r v = refl
+finish_none : (o : Option ℕ) (r : Run) (v : List ℕ) → (told (said (finish_said o r v))).refusal ≡ None
+finish_none None r v = refl
+finish_none (Some n) r v = refl
 
 -- Finish's, of the block that stands after it
-pub finish_tells_none : (w : World) → (told (done finish w).answer).refusal ≡ none
+pub finish_tells_none : (w : World) → (told (done finish w).answer).refusal ≡ None
 finish_tells_none w =
     let f = finishing_of w.state w.hold in
     finish_none f.standing (finishing_by f w.state w.hold).state.run f.held
 
-pub table_tells_none : (t : TableCall) (w : World) → (told (table_done t w).answer).refusal ≡ none
+pub table_tells_none : (t : TableCall) (w : World) → (told (table_done t w).answer).refusal ≡ None
 table_tells_none (stage t) w = refl
 table_tells_none withdraw w = refl
 
-number_by : (o : Option ℕ) (c : Call) (w : World) → (told (done c w).answer).refusal ≡ none → (told (unless_refused o c w).answer).refusal ≡ o
-number_by none c w d = d
-number_by (some n) c w d = refl
+number_by : (o : Option ℕ) (c : Call) (w : World) → (told (done c w).answer).refusal ≡ None → (told (unless_refused o c w).answer).refusal ≡ o
+number_by None c w d = d
+number_by (Some n) c w d = refl
 
 -- a call that changes something tells its refusal
-exactly_by : (c : Call) (w : World) → (told (done c w).answer).refusal ≡ none → Exactly (refusal c w) (order c w)
+exactly_by : (c : Call) (w : World) → (told (done c w).answer).refusal ≡ None → Exactly (refusal c w) (order c w)
     → Exactly (told (step c w).answer).refusal (order c w)
 exactly_by c w d x = same (ap (λ (r : Step). (told r.answer).refusal) (by_refusal c w) ∙ number_by (refusal c w) c w d) x
 

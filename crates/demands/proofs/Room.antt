@@ -5,7 +5,7 @@ use native.Mathlib.Omega.{arith}
 use native.Mathlib.Nat.{mul-le-mul_left}
 use mathlib.Core.Path.{◌≡◌, ap}
 use mathlib.Core.List.{List}
-use mathlib.Core.Option.{some}
+use Rattle.std.proofs.Common.{Some}
 use lib.ListN.{length}
 use lib.Dec.{leb}
 use borrow.Author.Tests.{leb-true, leb-false}
@@ -25,7 +25,7 @@ use Rattle.demands.proofs.Exact.{Tells, both, regroup}
 use Rattle.demands.proofs.Fits.{past_tells}
 
 -- nothing ends past n
-ends_by_lem : (fs : List FieldRow) (revision n : ℕ) → (EndsPast fs revision n → ⊥) → (i : ℕ) (g : FieldRow) → pick fs i ≡ some g → g.first ≤ revision → ends g ≤ n
+ends_by_lem : (fs : List FieldRow) (revision n : ℕ) → (EndsPast fs revision n → ⊥) → (i : ℕ) (g : FieldRow) → pick fs i ≡ Some g → g.first ≤ revision → ends g ≤ n
 ends_by_lem fs revision n h i g e l = lt? n (ends g) (λ m. absurd (h (g, ((i, e), (l, m))))) (λ m. m)
 
 -- ---- the block's length

@@ -6,7 +6,7 @@ use native.Mathlib.Nat.{add-zero}
 use mathlib.Core.Path.{◌≡◌, refl, subst, subst⁻¹}
 use mathlib.Core.Bool.{Bool, true, false, ◌&&◌, cond}
 use mathlib.Core.List.{List, []}
-use mathlib.Core.Option.{Option, none, some}
+use Rattle.std.proofs.Common.{Option, None, Some}
 use lib.ListN.{length}
 use lib.Dec.{ltb}
 use borrow.Author.Tests.{le-leb}
@@ -45,31 +45,31 @@ abbrev size_in : Said → ℕ
 size_in a = report_size (told (said a)).block
 
 -- a refused call keeps the state, and reports nothing; else what is done has to
-kept : (o : Option ℕ) (s : State) (b : ℕ) (l : List ℕ) (d : Outcome) → Sound s b → (o ≡ none → Sound d.state (b + size_in d.said))
+kept : (o : Option ℕ) (s : State) (b : ℕ) (l : List ℕ) (d : Outcome) → Sound s b → (o ≡ None → Sound d.state (b + size_in d.said))
     → Sound (unless o s l d).state (b + size_in (unless o s l d).said)
-kept (some n) s b l d h f = subst⁻¹ (Sound s) (add-zero b) h
-kept none s b l d h f = f refl
+kept (Some n) s b l d h f = subst⁻¹ (Sound s) (add-zero b) h
+kept None s b l d h f = f refl
 
 -- the same where no call reports
-same : (o : Option ℕ) (s : State) (b : ℕ) (l : List ℕ) (d : Outcome) → Sound s b → (o ≡ none → Sound d.state b) → Sound (unless o s l d).state b
-same (some n) s b l d h f = h
-same none s b l d h f = f refl
+same : (o : Option ℕ) (s : State) (b : ℕ) (l : List ℕ) (d : Outcome) → Sound s b → (o ≡ None → Sound d.state b) → Sound (unless o s l d).state b
+same (Some n) s b l d h f = h
+same None s b l d h f = f refl
 
 fed_size : (o : Option ℕ) (t p : ℕ) (v : List ℕ) → size o ≡ size_in (took t (report_if o p v))
-fed_size none t p v = refl
-fed_size (some n) t p v = refl
+fed_size None t p v = refl
+fed_size (Some n) t p v = refl
 
 end_size : (o : Option ℕ) (r : Run) (v : List ℕ) → size o ≡ size_in (finish_said o r v)
-end_size none r v = refl
-end_size (some n) r v = refl
+end_size None r v = refl
+end_size (Some n) r v = refl
 
 one_le : (o : Option ℕ) (v : List ℕ) → WholeIf o v → one o ≤ size o
-one_le none v w = omega arith
-one_le (some n) v w = omega (arith, w.eight)
+one_le None v w = omega arith
+one_le (Some n) v w = omega (arith, w.eight)
 
 whole_le : (o : Option ℕ) (v : List ℕ) → WholeIf o v → size o ≤ length v
-whole_le none v w = omega arith
-whole_le (some n) v w = w.there
+whole_le None v w = omega arith
+whole_le (Some n) v w = w.there
 
 -- the run goes on by what was taken, skipped and kept
 went_on : (x : Phase) (s : State) (b n : ℕ) (F : Intake) → Sound s b → n ≡ s.run.held - s.run.standing → n + F.taken ≡ length F.passed + length F.held
@@ -89,7 +89,7 @@ went_on x s b n F h e sum l t w =
       ceiling = h.ceiling;
     }
 
-feed_done : (s : State) (b : ℕ) (hold piece : List ℕ) → Sound s b → feed_refusal s hold piece ≡ none
+feed_done : (s : State) (b : ℕ) (hold piece : List ℕ) → Sound s b → feed_refusal s hold piece ≡ None
     → Sound (feeding_by (feeding_of s hold piece) s hold).state (b + size_in (feeding_by (feeding_of s hold piece) s hold).said)
 unfolding feed_refusal feeding_of
 feed_done s b hold piece h e =
@@ -105,7 +105,7 @@ feed_done s b hold piece h e =
     (fed_held top f.0.ceiling.high piece room rest (omega (arith, lr, h.few))) (omega (arith, k.taken))
     (fed_whole top rest piece room))
 
-finish_done : (s : State) (b : ℕ) (hold : List ℕ) → Sound s b → finish_refusal s hold ≡ none
+finish_done : (s : State) (b : ℕ) (hold : List ℕ) → Sound s b → finish_refusal s hold ≡ None
     → Sound (finishing_by (finishing_of s hold) s hold).state (b + size_in (finishing_by (finishing_of s hold) s hold).said)
 unfolding finish_refusal finishing_of
 finish_done s b hold h e =
@@ -124,7 +124,7 @@ length_by : (b : Bool) (m n : ℕ) → m ≤ 8192 → n ≤ 8192 → cond b m n 
 length_by true m n h k = h
 length_by false m n h k = k
 
-open_done : (s : State) (x : Settings) (b : ℕ) (force wait : List ℕ) → Sound s b → open_refusal s x force wait ≡ none → Sound (opening s x force wait).state 0
+open_done : (s : State) (x : Settings) (b : ℕ) (force wait : List ℕ) → Sound s b → open_refusal s x force wait ≡ None → Sound (opening s x force wait).state 0
 unfolding open_refusal
 open_done s x b force wait h e =
     record {
@@ -143,8 +143,8 @@ open_done s x b force wait h e =
 
 opens_by : (o : Option ℕ) (s : State) (x : Settings) (b : ℕ) (force wait : List ℕ) → Sound s b → open_refusal s x force wait ≡ o
     → Sound (unless o s force (opening s x force wait)).state (since_open (open_run x) (told (said (unless o s force (opening s x force wait)).said)) b)
-opens_by (some n) s x b force wait h e = h
-opens_by none s x b force wait h e = open_done s x b force wait h e
+opens_by (Some n) s x b force wait h e = h
+opens_by None s x b force wait h e = open_done s x b force wait h e
 
 -- with another waiting length
 pub waits_on : (s : State) (b n : ℕ) → Sound s b → n ≤ 8192 → Sound (record { run = s.run; in_force = s.in_force; waiting = n }) b

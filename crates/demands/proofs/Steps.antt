@@ -4,7 +4,7 @@ use Prim.Native.Nat.{ℕ}
 use mathlib.Core.Path.{◌≡◌, refl}
 use mathlib.Core.Bool.{true, false}
 use mathlib.Core.List.{List}
-use mathlib.Core.Option.{Option, none, some}
+use Rattle.std.proofs.Common.{Option, None, Some}
 use Rattle.wire.proofs.Tests.{never}
 use Rattle.reader.specs.Said.{refused}
 use Rattle.tables.specs.Calls.{open_refusal, stage_refusal, withdraw_refusal, opening, open_of, staging, stage_of, withdrawing, withdraw_of}
@@ -24,7 +24,7 @@ refusal (open_run x) w = open_refusal w.state x w.force w.wait
 refusal (feed piece) w = feed_refusal w.state w.hold piece
 refusal finish w = finish_refusal w.state w.hold
 refusal (table t) w = table_refusals t w
-refusal (look l) w = none
+refusal (look l) w = None
 
 -- what a call leaves that may write one buffer, or none
 abbrev pub left_force : World → Outcome → Step
@@ -55,31 +55,31 @@ abbrev pub refusing : ℕ → World → Step
 refusing n w = record { answer = said (refused n); world = w }
 
 abbrev pub unless_refused : Option ℕ → Call → World → Step
-unless_refused (some n) c w = refusing n w
-unless_refused none c w = done c w
+unless_refused (Some n) c w = refusing n w
+unless_refused None c w = done c w
 
 open_by : (o : Option ℕ) (x : Settings) (w : World)
     → left_force w (unless o w.state w.force (opening w.state x w.force w.wait)) ≡ unless_refused o (open_run x) w
-open_by none x w = refl
-open_by (some n) x w = refl
+open_by None x w = refl
+open_by (Some n) x w = refl
 
 feed_by_lem : (o : Option ℕ) (piece : List ℕ) (w : World)
     → left_hold w (unless o w.state w.hold (feeding_by (feeding_of w.state w.hold piece) w.state w.hold)) ≡ unless_refused o (feed piece) w
-feed_by_lem none piece w = refl
-feed_by_lem (some n) piece w = refl
+feed_by_lem None piece w = refl
+feed_by_lem (Some n) piece w = refl
 
 finish_by : (o : Option ℕ) (w : World)
     → left_hold w (unless o w.state w.hold (finishing_by (finishing_of w.state w.hold) w.state w.hold)) ≡ unless_refused o finish w
-finish_by none w = refl
-finish_by (some n) w = refl
+finish_by None w = refl
+finish_by (Some n) w = refl
 
 stage_by : (o : Option ℕ) (t : List ℕ) (w : World) → left_wait w (unless o w.state w.wait (staging w.state w.wait t)) ≡ unless_refused o (table (stage t)) w
-stage_by none t w = refl
-stage_by (some n) t w = refl
+stage_by None t w = refl
+stage_by (Some n) t w = refl
 
 withdraw_by : (o : Option ℕ) (l : List ℕ) (w : World) → left_none w (unless o w.state l (withdrawing w.state)) ≡ unless_refused o (table withdraw) w
-withdraw_by none l w = refl
-withdraw_by (some n) l w = refl
+withdraw_by None l w = refl
+withdraw_by (Some n) l w = refl
 
 pub by_refusal : (c : Call) (w : World) → step c w ≡ unless_refused (refusal c w) c w
 unfolding step open_of feed_of finish_of stage_of withdraw_of
@@ -91,12 +91,12 @@ by_refusal (table withdraw) w = withdraw_by (withdraw_refusal w.state) _ w
 by_refusal (look l) w = refl
 
 pub data How (c : Call) (w : World) : Step → Type 0 where
-  isnt : (n : ℕ) → refusal c w ≡ some n → How c w (refusing n w)
-  is : refusal c w ≡ none → How c w (done c w)
+  isnt : (n : ℕ) → refusal c w ≡ Some n → How c w (refusing n w)
+  is : refusal c w ≡ None → How c w (done c w)
 
 how_by : (o : Option ℕ) (c : Call) (w : World) → refusal c w ≡ o → How c w (unless_refused o c w)
-how_by (some n) c w e = isnt n e
-how_by none c w e = is e
+how_by (Some n) c w e = isnt n e
+how_by None c w e = is e
 
 pub how : (c : Call) (w : World) → How c w (step c w)
 how c w = rw (by_refusal c w) (how_by (refusal c w) c w refl)

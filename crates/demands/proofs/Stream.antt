@@ -4,7 +4,7 @@ use Prim.Native.Nat.{ℕ, zero, suc}
 use native.Mathlib.Omega.{arith}
 use mathlib.Core.Path.{◌≡◌, refl, sym, ap, ap₂, ◌∙◌, subst}
 use mathlib.Core.List.{List, [], ◌∷◌, ◌++◌}
-use mathlib.Core.Option.{get_or}
+use Rattle.std.proofs.Common.{unwrap_or}
 use lib.ListN.{length, take, drop, length-append, length-take}
 use lib.Seq.{take-take, take-add}
 use Rattle.reader.specs.declared.Settings.{Settings}
@@ -35,7 +35,7 @@ unfolding Offers taken
 takes_the_stream s [] w o = refl
 takes_the_stream s (c ∷ cs) w o =
     let x = took_of c (step c w).answer in
-    joined x (taken cs (step c w).world) s (front_of (get_or (told (step c w).answer).taken 0) (piece_of c) s o.0)
+    joined x (taken cs (step c w).world) s (front_of (unwrap_or (told (step c w).answer).taken 0) (piece_of c) s o.0)
     (takes_the_stream (drop (length x) s) cs (step c w).world o.1)
 
 -- both are the reading of the same bytes

@@ -5,7 +5,7 @@ use native.Mathlib.Omega.{arith}
 use mathlib.Core.Path.{◌≡◌, refl, sym, ap, ◌∙◌, subst, subst⁻¹}
 use mathlib.Core.Bool.{Bool, true, ◌&&◌, ◌||◌}
 use mathlib.Core.List.{List, [], ◌∷◌}
-use mathlib.Core.Option.{Option, none, some}
+use Rattle.std.proofs.Common.{Option, None, Some}
 use lib.ListN.{length, take, drop}
 use lib.Seq.{take-append_seam}
 use lib.Dec.{ltb}
@@ -65,11 +65,11 @@ copied t store l e =
 -- what waits, or else what is in force, comes into force
 open_force : (x : Settings) (a b : Option (List ℕ)) (w : World) → 8192 ≤ length w.force → StoredIf a w.state.waiting w.wait → StoredIf b w.state.in_force w.force
     → StoredIf (first_of a b) (done (open_run x) w).world.state.in_force (done (open_run x) w).world.force
-open_force x (some t) b w l s f =
+open_force x (Some t) b w l s f =
     let n = w.state.waiting in
     let e : ltb 0 w.state.waiting ≡ true = lt-ltb 0 n (stored_some t n w.wait s) in
     rw (e, s.is, s.size) (copied t w.force l s.ok)
-open_force x none b w l s f = rw (s) f
+open_force x None b w l s f = rw (s) f
 
 told_open : (x : Settings) (w : World) (p : Past) → MayOpen x w → AsTold w p
     → AsTold (done (open_run x) w).world (after (open_run x) (told (done (open_run x) w).answer) w.hold p)
@@ -90,10 +90,10 @@ feeding_is phase.Feeding e = refl
 feeding_is phase.Finishing e = clash (sym e)
 
 stands_by : (o : Option ℕ) (p : ℕ) (v hold : List ℕ) → take (size o) hold ≡ reported_bytes (report_if o p v) hold
-stands_by none p v hold = refl
-stands_by (some n) p v hold = refl
+stands_by None p v hold = refl
+stands_by (Some n) p v hold = refl
 
-told_feed : (w : World) (piece : List ℕ) (p : Past) → refusal (feed piece) w ≡ none → AsTold w p
+told_feed : (w : World) (piece : List ℕ) (p : Past) → refusal (feed piece) w ≡ None → AsTold w p
     → AsTold (done (feed piece) w).world (after (feed piece) (told (done (feed piece) w).answer) (done (feed piece) w).world.hold p)
 unfolding feed_refusal
 told_feed w piece p e h =
@@ -109,9 +109,9 @@ told_feed w piece p e h =
 
 told_finish_by : (w : World) (p : Past) (o : Option ℕ) (f : Intake) (r : Run) (v : List ℕ) → f.standing ≡ o → AsTold w p
     → AsTold (going (phase_after o) w f) (after finish (told (said (finish_said o r v))) (hold_of f w.hold) p)
-told_finish_by w p none f r v q h =
+told_finish_by w p None f r v q h =
     record { phase = refl; settings = h.settings; waiting = h.waiting; force = h.force; stands = ap (λ (o : Option ℕ). take (size o) (hold_of f w.hold)) q }
-told_finish_by w p (some n) f r v q h =
+told_finish_by w p (Some n) f r v q h =
     record { phase = refl; settings = h.settings; waiting = h.waiting; force = h.force; stands = ap (λ (o : Option ℕ). take (size o) (hold_of f w.hold)) q }
 
 told_finish : (w : World) (p : Past) → AsTold w p → AsTold (done finish w).world (after finish (told (done finish w).answer) (done finish w).world.hold p)
@@ -121,7 +121,7 @@ told_finish w p h =
 
 -- ---- Stage and Withdraw
 
-told_table : (t : TableCall) (w : World) (p : Past) → refusal (table t) w ≡ none → AsTold w p → AsTold (table_done t w).world (after (table t) (told (table_done t w).answer) w.hold p)
+told_table : (t : TableCall) (w : World) (p : Past) → refusal (table t) w ≡ None → AsTold w p → AsTold (table_done t w).world (after (table t) (told (table_done t w).answer) w.hold p)
 told_table (stage t) w p e h =
     let q = stage_passed w.state w.wait t e in
     record { phase = h.phase; settings = h.settings; waiting = copied t w.wait q.0 q.1; force = h.force; stands = h.stands }
@@ -129,7 +129,7 @@ told_table withdraw w p e h = record { phase = h.phase; settings = h.settings; w
 
 -- ---- every call
 
-told_done : (c : Call) (w : World) (p : Past) → refusal c w ≡ none → AsTold w p → AsTold (done c w).world (after c (told (done c w).answer) (done c w).world.hold p)
+told_done : (c : Call) (w : World) (p : Past) → refusal c w ≡ None → AsTold w p → AsTold (done c w).world (after c (told (done c w).answer) (done c w).world.hold p)
 told_done (open_run x) w p e h = told_open x w p (may_open x w e) h
 told_done (feed piece) w p e h = told_feed w piece p e h
 told_done finish w p e h = told_finish w p h
@@ -171,36 +171,36 @@ record Next (w : World) (t : List ℕ) : Type 0 where
   pub one : (ltb 0 w.state.waiting || ltb 0 w.state.in_force) ≡ true
   pub ok : table_ok t ≡ true
 
-next_by : (a b : Option (List ℕ)) (w : World) (t : List ℕ) → StoredIf a w.state.waiting w.wait → StoredIf b w.state.in_force w.force → first_of a b ≡ some t → Next w t
-next_by (some u) b w t s f q =
+next_by : (a b : Option (List ℕ)) (w : World) (t : List ℕ) → StoredIf a w.state.waiting w.wait → StoredIf b w.state.in_force w.force → first_of a b ≡ Some t → Next w t
+next_by (Some u) b w t s f q =
     let x : u ≡ t = cc in
     let e : ltb 0 w.state.waiting ≡ true = lt-ltb 0 w.state.waiting (stored_some u w.state.waiting w.wait s) in
     record { is = rw (e) (s.is ∙ x); one = rw (e) refl; ok = subst (λ (y : List ℕ). table_ok y ≡ true) x s.ok }
-next_by none (some u) w t s f q =
+next_by None (Some u) w t s f q =
     let x : u ≡ t = cc in
     let e : ltb 0 w.state.in_force ≡ true = lt-ltb 0 w.state.in_force (stored_some u w.state.in_force w.force f) in
     record { is = rw (s) (f.is ∙ x); one = rw (s, e) refl; ok = subst (λ (y : List ℕ). table_ok y ≡ true) x f.ok }
-next_by none none w t s f q = nothing_there q
+next_by None None w t s f q = nothing_there q
 
 -- the state has a table for Open
-one_by_lem : (x : Settings) (a b : Option (List ℕ)) (w : World) → StoredIf a w.state.waiting w.wait → StoredIf b w.state.in_force w.force → MayOpen x w → (t : List ℕ) × (first_of a b ≡ some t)
-one_by_lem x (some u) b w s f m = (u, refl)
-one_by_lem x none (some u) w s f m = (u, refl)
-one_by_lem x none none w s f m = clash (sym (rw (s, f) at m.one))
+one_by_lem : (x : Settings) (a b : Option (List ℕ)) (w : World) → StoredIf a w.state.waiting w.wait → StoredIf b w.state.in_force w.force → MayOpen x w → (t : List ℕ) × (first_of a b ≡ Some t)
+one_by_lem x (Some u) b w s f m = (u, refl)
+one_by_lem x None (Some u) w s f m = (u, refl)
+one_by_lem x None None w s f m = clash (sym (rw (s, f) at m.one))
 
 open_passes : (x : Settings) (w : World) (t : List ℕ) → ceiling_ok x.ceiling ≡ true → Good w → w.state.run.phase ≡ phase.Closed → Next w t → 8192 ≤ length w.force → 8192 ≤ length w.wait
-    → refusal (open_run x) w ≡ none
+    → refusal (open_run x) w ≡ None
 unfolding open_refusal
 open_passes x w t k g c n lf lw =
     rw (good_sound w g, le-leb 8192 (length w.force) lf, le-leb 8192 (length w.wait) lw, c, k, n.one, n.is, n.ok) refl
 
 there_by : (a : Option (List ℕ)) (n : ℕ) (store : List ℕ) → StoredIf a n store → ltb 0 n ≡ is_some a
-there_by none n store s = rw (s) refl
-there_by (some t) n store s = lt-ltb 0 n (stored_some t n store s)
+there_by None n store s = rw (s) refl
+there_by (Some t) n store s = lt-ltb 0 n (stored_some t n store s)
 
-force_by : (c : ℕ) (a : Option (List ℕ)) (t : List ℕ) (w : World) → ceiling_of w.state ≡ c → a ≡ some t → StoredIf a w.state.in_force w.force → ReadBy c t w
-force_by c none t w e q s = nothing_there q
-force_by c (some u) t w e q s =
+force_by : (c : ℕ) (a : Option (List ℕ)) (t : List ℕ) (w : World) → ceiling_of w.state ≡ c → a ≡ Some t → StoredIf a w.state.in_force w.force → ReadBy c t w
+force_by c None t w e q s = nothing_there q
+force_by c (Some u) t w e q s =
     let x : u ≡ t = cc in
     record {
       ceiling = e;
@@ -210,27 +210,27 @@ force_by c (some u) t w e q s =
       ok = subst (λ (y : List ℕ). table_ok y ≡ true) x s.ok;
     }
 
-opened_by : (x : Settings) (w : World) (p : Past) → AsTold w p → {r : Step} → How (open_run x) w r → (v : ℕ) → (told r.answer).version ≡ some v
-    → (t : List ℕ) × ((first_of p.waiting p.force ≡ some t) × (next_table w.state w.force w.wait ≡ t))
+opened_by : (x : Settings) (w : World) (p : Past) → AsTold w p → {r : Step} → How (open_run x) w r → (v : ℕ) → (told r.answer).version ≡ Some v
+    → (t : List ℕ) × ((first_of p.waiting p.force ≡ Some t) × (next_table w.state w.force w.wait ≡ t))
 opened_by x w p h (isnt n e) v f = nothing_there f
 opened_by x w p h (is e) v f =
     let o = one_by_lem x p.waiting p.force w h.waiting h.force (may_open x w e) in
     (o.0, (o.1, (next_by p.waiting p.force w o.0 h.waiting h.force o.1).is))
 
-staged_by : (w : World) (t : List ℕ) {r : Step} → How (table (stage t)) w r → (v : ℕ) → (told r.answer).version ≡ some v → v ≡ (decode t).version
+staged_by : (w : World) (t : List ℕ) {r : Step} → How (table (stage t)) w r → (v : ℕ) → (told r.answer).version ≡ Some v → v ≡ (decode t).version
 staged_by w t (isnt n e) v f = nothing_there f
 staged_by w t (is e) v f = let q : (decode t).version ≡ v = cc in sym q
 
-withdrawn_by : (w : World) (p : Past) → AsTold w p → {r : Step} → How (table withdraw) w r → (b : Bool) → (told r.answer).waited ≡ some b → b ≡ is_some p.waiting
+withdrawn_by : (w : World) (p : Past) → AsTold w p → {r : Step} → How (table withdraw) w r → (b : Bool) → (told r.answer).waited ≡ Some b → b ≡ is_some p.waiting
 withdrawn_by w p h (isnt n e) b f = nothing_there f
 withdrawn_by w p h (is e) b f =
     let q : ltb 0 w.state.waiting ≡ b = cc in sym q ∙ there_by p.waiting w.state.waiting w.wait h.waiting
 
-shown_by : (o : Option ℕ) (x b : List ℕ) → part o (part_unless o x) ≡ part none b → b ≡ x
-shown_by none x b e = let q : x ≡ b = cc in sym q
-shown_by (some n) x b e = let z : ◌≡◌ {A = ℕ} 0 1 = cc in let f : ⊥ = omega arith in absurd f
+shown_by : (o : Option ℕ) (x b : List ℕ) → part o (part_unless o x) ≡ part None b → b ≡ x
+shown_by None x b e = let q : x ≡ b = cc in sym q
+shown_by (Some n) x b e = let z : ◌≡◌ {A = ℕ} 0 1 = cc in let f : ⊥ = omega arith in absurd f
 
-shows : (w : World) (p : Past) → AsTold w p → (b : List ℕ) → (step (look bytes) w).answer ≡ part none b → b ≡ p.stands
+shows : (w : World) (p : Past) → AsTold w p → (b : List ℕ) → (step (look bytes) w).answer ≡ part None b → b ≡ p.stands
 unfolding step bytes_of
 shows w p h b e = shown_by (bytes_refusal w.state w.hold) (take w.state.run.standing w.hold) b e ∙ h.stands
 
@@ -240,7 +240,7 @@ answers_by w p g h =
       opens = λ x t k c q lf lw.
           let n = next_by p.waiting p.force w t h.waiting h.force q in
           ap (λ (r : Step). (told r.answer).version) (by_refusal (open_run x) w ∙ ap (λ (o : Option ℕ). unless_refused o (open_run x) w) (open_passes x w t k g (h.phase ∙ c) n lf lw))
-          ∙ ap (λ (v : List ℕ). some (decode v).version) n.is;
+          ∙ ap (λ (v : List ℕ). Some (decode v).version) n.is;
       found = λ x v e. opened_by x w p h (how (open_run x) w) v e;
       stages = λ t v e. staged_by w t (how (table (stage t)) w) v e;
       withdraws = λ b e. withdrawn_by w p h (how (table withdraw) w) b e;

@@ -5,7 +5,7 @@ use native.Mathlib.Omega.{arith}
 use mathlib.Core.Path.{◌≡◌, refl, sym, ap, ◌∙◌, subst}
 use mathlib.Core.Bool.{false}
 use mathlib.Core.List.{List, [], ◌∷◌}
-use mathlib.Core.Option.{Option, none, some}
+use Rattle.std.proofs.Common.{Option, None, Some}
 use lib.ListN.{length}
 use Rattle.table.proofs.Passed as passed
 use Rattle.reader.specs.State.{sound}
@@ -75,9 +75,9 @@ table_refusal_lem withdraw w x g k = rw (good_sound (with x (waits w)) (good_wit
 
 mirror_by : (o : Option ℕ) (t : TableCall) (w x : World)
     → unless_refused o (table t) (with x (waits w)) ≡ based x (unless_refused o (table t) w)
-mirror_by (some n) t w x = refl
-mirror_by none (stage t) w x = refl
-mirror_by none withdraw w x = refl
+mirror_by (Some n) t w x = refl
+mirror_by None (stage t) w x = refl
+mirror_by None withdraw w x = refl
 
 pub mirror : (t : TableCall) (w x : World) → Good w → Good x
     → step (table t) (with x (waits w)) ≡ based x (step (table t) w)
@@ -110,15 +110,15 @@ look_apart (tow b) w p g l = rw (sound_with w p g l) refl
 look_apart (wnc b) w p g l = rw (sound_with w p g l) refl
 look_apart (write d buffer) w p g l = rw (sound_with w p g l) refl
 
-apart_done : (o : Option ℕ) (c : Call) (w : World) (p : Waiting) → Good w → p.size ≤ 8192 → is_table c ≡ false → ((x : Settings) → c ≡ open_run x → o ≡ none → ⊥)
+apart_done : (o : Option ℕ) (c : Call) (w : World) (p : Waiting) → Good w → p.size ≤ 8192 → is_table c ≡ false → ((x : Settings) → c ≡ open_run x → o ≡ None → ⊥)
     → unless_refused o c (with w p) ≡ placed (unless_refused o c w) p
 unfolding feeding_of finishing_of
-apart_done (some k) c w p g l e h = refl
-apart_done none (open_run x) w p g l e h = absurd (h x refl refl)
-apart_done none (feed piece) w p g l e h = refl
-apart_done none finish w p g l e h = refl
-apart_done none (table t) w p g l e h = clash e
-apart_done none (look k) w p g l e h = ap (λ (a : Reply). record { answer = a; world = with w p }) (look_apart k w p g l)
+apart_done (Some k) c w p g l e h = refl
+apart_done None (open_run x) w p g l e h = absurd (h x refl refl)
+apart_done None (feed piece) w p g l e h = refl
+apart_done None finish w p g l e h = refl
+apart_done None (table t) w p g l e h = clash e
+apart_done None (look k) w p g l e h = ap (λ (a : Reply). record { answer = a; world = with w p }) (look_apart k w p g l)
 
 apart_refusal : (c : Call) (w : World) (p : Waiting) → is_table c ≡ false → Good w → Live w → Fit p (waits w) → refusal c (with w p) ≡ refusal c w
 unfolding open_refusal feed_refusal finish_refusal
@@ -128,8 +128,8 @@ apart_refusal finish w p e g l f = rw (sound_with w p g f.few) refl
 apart_refusal (table t) w p e g l f = clash e
 apart_refusal (look k) w p e g l f = refl
 
-never_open : (c : Call) (w : World) → Live w → (x : Settings) → c ≡ open_run x → refusal c w ≡ none → ⊥
-never_open c w l x h e = not_open x w l (subst (λ (k : Call). refusal k w ≡ none) h e)
+never_open : (c : Call) (w : World) → Live w → (x : Settings) → c ≡ open_run x → refusal c w ≡ None → ⊥
+never_open c w l x h e = not_open x w l (subst (λ (k : Call). refusal k w ≡ None) h e)
 
 pub apart : (c : Call) (w : World) (p : Waiting) → is_table c ≡ false → Good w → Live w → Fit p (waits w)
     → step c (with w p) ≡ placed (step c w) p
@@ -139,7 +139,7 @@ apart c w p e g l f =
     ∙ apart_done (refusal c w) c w p g f.few e (never_open c w l)
     ∙ ap (λ (r : Step). placed r p) (sym (by_refusal c w))
 
-left_done : (c : Call) (w : World) → is_table c ≡ false → Live w → refusal c w ≡ none → waits (done c w).world ≡ waits w
+left_done : (c : Call) (w : World) → is_table c ≡ false → Live w → refusal c w ≡ None → waits (done c w).world ≡ waits w
 left_done (open_run x) w e l f = not_open x w l f
 left_done (feed piece) w e l f = refl
 left_done finish w e l f = refl
@@ -152,13 +152,13 @@ left_by c w e l (is f) = left_done c w e l f
 
 -- ---- the waiting store keeps its length
 
-same_table : (t : TableCall) (w : World) → table_refusals t w ≡ none → length (table_done t w).world.wait ≡ length w.wait
+same_table : (t : TableCall) (w : World) → table_refusals t w ≡ None → length (table_done t w).world.wait ≡ length w.wait
 same_table (stage t) w e =
     let p = stage_passed w.state w.wait t e in
     length_over t w.wait (omega (arith, (passed.passed t p.1).file.most, p.0))
 same_table withdraw w e = refl
 
-same_done : (c : Call) (w : World) → refusal c w ≡ none → length (done c w).world.wait ≡ length w.wait
+same_done : (c : Call) (w : World) → refusal c w ≡ None → length (done c w).world.wait ≡ length w.wait
 same_done (open_run x) w f = refl
 same_done (feed piece) w f = refl
 same_done finish w f = refl

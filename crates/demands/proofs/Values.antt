@@ -5,7 +5,7 @@ use native.Mathlib.Omega.{arith}
 use mathlib.Core.Path.{◌≡◌, refl, sym, ap, ◌∙◌, subst}
 use mathlib.Core.Bool.{Bool, true, false, not, ◌&&◌, ◌||◌, cond}
 use mathlib.Core.Logic.{◌⊎◌, inl, inr, ⊎_elim}
-use mathlib.Core.Option.{Option, none, some}
+use Rattle.std.proofs.Common.{Option, None, Some}
 use lib.Dec.{leb, ltb, eqb}
 use lib.IntN.{ℤ, pos, negsuc}
 use borrow.Author.Tests.{leb-true, ltb-true, ltb-false, eqb-true, eqb-false, lt-ltb, le-ltb}
@@ -122,11 +122,11 @@ double_reads kind n e l =
 -- ---- there are some, or the value is none of the type
 
 data Bits (kind : ℕ) (said : FieldSaid) : Option ℕ → Type 0 where
-  no : NoneOfType kind said → Bits kind said none
-  yes : (bits : ℕ) → Reads kind said bits → (NoneOfType kind said → ⊥) → Bits kind said (some bits)
+  no : NoneOfType kind said → Bits kind said None
+  yes : (bits : ℕ) → Reads kind said bits → (NoneOfType kind said → ⊥) → Bits kind said (Some bits)
 
 bits_by : {kind : ℕ} {said : FieldSaid} (a b : Bool) {x : ℕ} → Tells (a && b) (NoneOfType kind said) → (a ≡ true → b ≡ true → Reads kind said x)
-    → Bits kind said (cond a (cond b (some x) none) none)
+    → Bits kind said (cond a (cond b (Some x) None) None)
 bits_by true true {x} t r = yes x (r refl refl) (t.fine refl)
 bits_by true false t r = no (t.holds refl)
 bits_by false b t r = no (t.holds refl)
@@ -163,7 +163,7 @@ bits kind (field_refused n) = no tt
 value_tells : (f : FieldRow) (said : FieldSaid) → Tells (is_some (unless_marked f (bits_for f.kind said))) (NoneOfType f.kind said ⊎ ReadsDoNotUse f said)
 value_tells f said = by (bits f.kind said) where
   marked : (x : ℕ) → Reads f.kind said x → (NoneOfType f.kind said → ⊥) → (c : Bool) → is_do_not_use f.mark f.kind x ≡ c
-      → Tells (is_some (cond c none (some x))) (NoneOfType f.kind said ⊎ ReadsDoNotUse f said)
+      → Tells (is_some (cond c None (Some x))) (NoneOfType f.kind said ⊎ ReadsDoNotUse f said)
   marked x r n true e = record { fine = λ z. never refl (sym z); holds = λ _. inr (x, (r.few, (r.reads, e))) }
   marked x r n false e =
       record {
@@ -182,8 +182,8 @@ unset_tells : (mark kind : ℕ) → listed kind ≡ true → mark_fits kind mark
 unfolding is_do_not_use
 unset_tells mark kind l m = by (unset_of mark kind) (unset_is_told kind mark l m) where
   by : (o : Option ℕ) → ReadsUnset mark kind o → Tells (is_some o) (mark ≡ 0)
-  by none r = record { fine = λ z. never refl (sym z); holds = λ _. r }
-  by (some x) r =
+  by None r = record { fine = λ z. never refl (sym z); holds = λ _. r }
+  by (Some x) r =
       record {
         fine = λ _ q. never r.1 (ap (λ (k : ℕ). is_do_not_use k kind x) q);
         holds = λ z. never refl z;
@@ -200,9 +200,9 @@ cond_and false u = refl
 pub wanted_tells : (revision : ℕ) (f : FieldRow) → listed f.kind ≡ true → mark_fits f.kind f.mark ≡ true → (w : Wanted)
     → Tells (wanted_ok revision f w) (NotAllowed revision f w)
 unfolding wanted_ok bits_of
-wanted_tells revision f l m none =
-    subst (λ (c : Bool). Tells c (NotAllowed revision f none)) (cond_or (leb f.first revision) _)
+wanted_tells revision f l m None =
+    subst (λ (c : Bool). Tells c (NotAllowed revision f None)) (cond_or (leb f.first revision) _)
     (orelse (above f.first revision) (unset_tells f.mark f.kind l m))
-wanted_tells revision f l m (some said) =
-    subst (λ (c : Bool). Tells c (NotAllowed revision f (some said))) (cond_and (leb f.first revision) _)
+wanted_tells revision f l m (Some said) =
+    subst (λ (c : Bool). Tells c (NotAllowed revision f (Some said))) (cond_and (leb f.first revision) _)
     (both (within f.first revision) (value_tells f said))

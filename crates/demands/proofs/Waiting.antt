@@ -5,7 +5,7 @@ use native.Mathlib.Omega.{arith}
 use mathlib.Core.Path.{◌≡◌, subst}
 use mathlib.Core.Bool.{◌&&◌}
 use mathlib.Core.List.{List}
-use mathlib.Core.Option.{none}
+use Rattle.std.proofs.Common.{None}
 use Rattle.frame.proofs.View.{waits_short, ceilings}
 use Rattle.framing.proofs.Calls.{more_decides_all}
 use Rattle.scan.specs.Feed.{feed_lit}
@@ -23,7 +23,7 @@ use Rattle.demands.proofs.Going.{kept}
 use Rattle.demands.proofs.Reading.{by_ceiling}
 use Rattle.demands.proofs.Ending.{none_if, said_is}
 
-held_by : (w : World) (piece : List ℕ) (n : ℕ) {r : Step} → How (feed piece) w r → r.answer ≡ said (took n none)
+held_by : (w : World) (piece : List ℕ) (n : ℕ) {r : Step} → How (feed piece) w r → r.answer ≡ said (took n None)
     → r.world.state.run.held < ceiling_of w.state
 unfolding feed_refusal feeding_of
 held_by w piece n (isnt k e) f = let z : ◌≡◌ {A = ℕ} 0 1 = cc in let x : ⊥ = omega arith in absurd x

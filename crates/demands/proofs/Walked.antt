@@ -6,7 +6,7 @@ use native.Mathlib.Omega.{arith}
 use mathlib.Core.Path.{◌≡◌, refl, ap, ◌∙◌}
 use mathlib.Core.Bool.{true, false, not}
 use mathlib.Core.List.{List}
-use mathlib.Core.Option.{some}
+use Rattle.std.proofs.Common.{Some}
 use lib.Dec.{ltb}
 use borrow.Author.Tests.{ltb-true, ltb-false, not-true, not-false}
 use Rattle.wire.proofs.Tests.{bool?, eq?, never, neither_left, neither_right}
@@ -25,7 +25,7 @@ module _ (r : BlockRow) (b : List ℕ) where
   end_from i (suc n) = let m : suc i + n ≡ i + suc n = omega arith in end_from (suc i) n ∙ ap (start_of r b) m
 
   pick_from : (i n k : ℕ) → k < n
-      → pick (walk_from (offset_of (nested_row r)) b (start_of r b i) n) k ≡ some (nest_at (offset_of (nested_row r)) b (start_of r b (i + k)))
+      → pick (walk_from (offset_of (nested_row r)) b (start_of r b i) n) k ≡ Some (nest_at (offset_of (nested_row r)) b (start_of r b (i + k)))
   unfolding walk_from pick
   pick_from i zero k h = absurd (not-suc-le-zero h)
   pick_from i (suc n) zero h = rw (add-zero i)
@@ -56,9 +56,9 @@ module _ (r : BlockRow) (b : List ℕ) where
   unfolding walk_over
   ends_at = end_from 0 (N b) ∙ ap (start_of r b) (zero-add (N b))
 
-  pub stands_at : (k : ℕ) → k < N b → pick (walk_of r b) k ≡ some (nest_at (offset_of (nested_row r)) b (start_of r b k))
+  pub stands_at : (k : ℕ) → k < N b → pick (walk_of r b) k ≡ Some (nest_at (offset_of (nested_row r)) b (start_of r b k))
   unfolding walk_over
-  stands_at k h = pick_from 0 (N b) k h ∙ ap (λ (i : ℕ). some (nest_at (offset_of (nested_row r)) b (start_of r b i))) (zero-add k)
+  stands_at k h = pick_from 0 (N b) k h ∙ ap (λ (i : ℕ). Some (nest_at (offset_of (nested_row r)) b (start_of r b i))) (zero-add k)
 
   pub any_tells : Tells (not (any_second (walk_of r b))) ((k : ℕ) × ((k < N b) × (0 < N2 r b k)))
   unfolding walk_over

@@ -1,8 +1,7 @@
 -- D2: at every moment of a run the blocks reported are the first ones that its bytes read as, with the ceiling given at Open, none left out,
 -- and each field answers what the rules and the table in force give it.
 -- Assumes nothing.
-use Rattle.std.specs.Prelude.{ℕ, ◌+◌, ◌-◌, ◌≡◌, List, [], ◌∷◌, ◌++◌, length, drop}
-use Rattle.std.proofs.Math.Option.{none}
+use Rattle.std.specs.Prelude.{ℕ, ◌+◌, ◌-◌, ◌≡◌, List, [], ◌∷◌, ◌++◌, length, drop, None}
 use Rattle.frame.specs.Judge.{judged}
 use Rattle.framing.specs.ReadRun.{read_run}
 use Rattle.frame.specs.declared.Verdict.TheVariants.{Undecided}
@@ -62,7 +61,7 @@ pub record Demand2 : Type 0 where
       → ReadSoFar x.ceiling (at_open w before x) mid
   -- C14: after More the place where reading goes on is undecided (F12) by the bytes taken
   pub more : (w : World) (before : List Call) (x : Settings) (mid : List Call) (piece : List ℕ) (n : ℕ) → Within w before x mid
-      → (step (feed piece) (end mid (at_open w before x))).answer ≡ said (took n none)
+      → (step (feed piece) (end mid (at_open w before x))).answer ≡ said (took n None)
       → judged x.ceiling (drop (place_now (end (mid ++ feed piece ∷ []) (at_open w before x))) (taken (mid ++ feed piece ∷ []) (at_open w before x))) ≡ Undecided
   -- V7, W1: a record call at a moment of a run is answered by the table in force at that moment, and Write writes by it
   pub records : (w : World) (before : List Call) (x : Settings) (mid : List Call) → Within w before x mid → (l : Look)

@@ -2,8 +2,7 @@
 -- ceiling given at Open, its records are read by the table that it was opened with, and Write writes by it, and its table calls could as well
 -- come after it.
 -- Assumes nothing.
-use Rattle.std.specs.Prelude.{ℕ, ◌≡◌, Bool, true, false, not, cond, List, [], ◌∷◌, ◌++◌, length, take, drop}
-use Rattle.std.proofs.Math.Option.{some}
+use Rattle.std.specs.Prelude.{ℕ, ◌≡◌, Bool, true, false, not, cond, List, [], ◌∷◌, ◌++◌, length, take, drop, Some}
 use Rattle.framing.specs.ReadRun.{read_run}
 use Rattle.table.specs.Decode.{decode}
 use Rattle.table.specs.Rows.{Table}
@@ -24,7 +23,7 @@ counts_of c run =
 pub record RunOf (c : ℕ) (run : List ℕ) (w : World) (mid : List Call) : Type 0 where
   pub all : blocks mid w ≡ (read_run c 0 run).blocks
   pub shown : shown_blocks mid w ≡ (read_run c 0 run).blocks
-  pub counts : (told (step finish (end mid w)).answer).end ≡ some (counts_of c run)
+  pub counts : (told (step finish (end mid w)).answer).end ≡ Some (counts_of c run)
 
 -- two runs, of the calls `cs` in the world v and of `ds` in w: the same blocks, in the hold and as Bytes shows them, and the same End
 pub record Alike (v : World) (cs : List Call) (w : World) (ds : List Call) : Type 0 where

@@ -1,8 +1,7 @@
 -- What the calls made and their answers say of a reader, whatever its code: the phase, the settings, the table that waits, the one in
 -- force, and the block that stands. A reader that idles through a run, forgets a table or keeps one that was withdrawn contradicts it (D5).
 -- Assumes nothing.
-use Rattle.std.specs.Prelude.{ℕ, ◌≤◌, ◌≡◌, Bool, true, List, [], ◌∷◌, length, take}
-use Rattle.std.proofs.Math.Option.{Option, none, some}
+use Rattle.std.specs.Prelude.{ℕ, ◌≤◌, ◌≡◌, Bool, true, List, [], ◌∷◌, length, take, Option, None, Some}
 use Rattle.frame.specs.Frame.{ceiling_ok}
 use Rattle.table.specs.Decode.{decode}
 use Rattle.table.specs.Rules.{table_ok}
@@ -28,17 +27,17 @@ pub record Past : Type 0 where
   pub stands : List ℕ
 
 abbrev pub new_past : Past
-new_past = record { phase = Closed; settings = default_settings; waiting = none; force = none; stands = [] }
+new_past = record { phase = Closed; settings = default_settings; waiting = None; force = None; stands = [] }
 
 -- C4: a reported block stands at the front of the hold
 abbrev pub reported_bytes : Option Report → List ℕ → List ℕ
-reported_bytes none hold = []
-reported_bytes (some r) hold = take r.size hold
+reported_bytes None hold = []
+reported_bytes (Some r) hold = take r.size hold
 
 -- the past after what was told, or as it was where that was not told
 abbrev pub on_told : {A : Type 0} → Option A → Past → Past → Past
-on_told none was new = was
-on_told (some x) was new = new
+on_told None was new = was
+on_told (Some x) was new = new
 
 abbrev pub waits_now : Option (List ℕ) → Past → Past
 waits_now t p = record { phase = p.phase; settings = p.settings; waiting = t; force = p.force; stands = p.stands }
@@ -50,16 +49,16 @@ run_now x b p = record { phase = x; settings = p.settings; waiting = p.waiting; 
 abbrev pub after : Call → Told → List ℕ → Past → Past
 -- C5, C17: the run opens by the settings given, with the table that waits, or else with the one in force; none waits, and no block stands
 after (open_run x) a hold p =
-    on_told a.version p (record { phase = Feeding; settings = x; waiting = none; force = first_of p.waiting p.force; stands = [] })
+    on_told a.version p (record { phase = Feeding; settings = x; waiting = None; force = first_of p.waiting p.force; stands = [] })
 -- C6: the standing block is dropped, and one that is answered stands
 after (feed piece) a hold p = on_told a.taken p (run_now p.phase (reported_bytes a.block hold) p)
 -- C8: likewise, and the feeding is ended; End closes the run
 after finish a hold p =
     on_told a.end (on_told a.block p (run_now Finishing (reported_bytes a.block hold) p)) (run_now Closed [] p)
 -- C10: it waits, in place of any other
-after (table (stage t)) a hold p = on_told a.version p (waits_now (some t) p)
+after (table (stage t)) a hold p = on_told a.version p (waits_now (Some t) p)
 -- C11: none waits
-after (table withdraw) a hold p = on_told a.waited p (waits_now none p)
+after (table withdraw) a hold p = on_told a.waited p (waits_now None p)
 after (look l) a hold p = p
 
 unfoldable pub past : List Call → World → Past → Past
@@ -76,8 +75,8 @@ pub record Stored (t : List ℕ) (n : ℕ) (store : List ℕ) : Type 0 where
   pub ok : table_ok t ≡ true
 
 abbrev pub StoredIf : Option (List ℕ) → ℕ → List ℕ → Type 0
-StoredIf none n store = n ≡ 0
-StoredIf (some t) n store = Stored t n store
+StoredIf None n store = n ≡ 0
+StoredIf (Some t) n store = Stored t n store
 
 pub record AsTold (w : World) (p : Past) : Type 0 where
   pub phase : w.state.run.phase ≡ p.phase
@@ -89,18 +88,18 @@ pub record AsTold (w : World) (p : Past) : Type 0 where
 -- and it answers so
 pub record AnswersBy (w : World) (p : Past) : Type 0 where
   -- C5: a run opens whenever none is open, the ceiling is one (F16) and a table is there
-  pub opens : (x : Settings) (t : List ℕ) → ceiling_ok x.ceiling ≡ true → p.phase ≡ Closed → first_of p.waiting p.force ≡ some t → 8192 ≤ length w.force → 8192 ≤ length w.wait
-      → (told (step (open_run x) w).answer).version ≡ some (decode t).version
+  pub opens : (x : Settings) (t : List ℕ) → ceiling_ok x.ceiling ≡ true → p.phase ≡ Closed → first_of p.waiting p.force ≡ Some t → 8192 ≤ length w.force → 8192 ≤ length w.wait
+      → (told (step (open_run x) w).answer).version ≡ Some (decode t).version
   -- and it opens with that table, which is the one that `Demand3` has all records read by
-  pub found : (x : Settings) (v : ℕ) → (told (step (open_run x) w).answer).version ≡ some v
-      → (t : List ℕ) × ((first_of p.waiting p.force ≡ some t) × (next_table w.state w.force w.wait ≡ t))
+  pub found : (x : Settings) (v : ℕ) → (told (step (open_run x) w).answer).version ≡ Some v
+      → (t : List ℕ) × ((first_of p.waiting p.force ≡ Some t) × (next_table w.state w.force w.wait ≡ t))
   -- C10, C11: the version of the table given; whether one waited
-  pub stages : (t : List ℕ) (v : ℕ) → (told (step (table (stage t)) w).answer).version ≡ some v → v ≡ (decode t).version
-  pub withdraws : (b : Bool) → (told (step (table withdraw) w).answer).waited ≡ some b → b ≡ is_some p.waiting
+  pub stages : (t : List ℕ) (v : ℕ) → (told (step (table (stage t)) w).answer).version ≡ Some v → v ≡ (decode t).version
+  pub withdraws : (b : Bool) → (told (step (table withdraw) w).answer).waited ≡ Some b → b ≡ is_some p.waiting
   -- C9: the standing block, however long ago it was reported
-  pub shows : (b : List ℕ) → (step (look bytes) w).answer ≡ part none b → b ≡ p.stands
+  pub shows : (b : List ℕ) → (step (look bytes) w).answer ≡ part None b → b ≡ p.stands
   -- records are read by the table in force, and Write writes by it and under the ceiling of the last Open, in a run and after it
-  pub reads : (t : List ℕ) (l : Look) → p.force ≡ some t → ReadsBy p.settings.ceiling (decode t) l (step (look l) w).answer
+  pub reads : (t : List ℕ) (l : Look) → p.force ≡ Some t → ReadsBy p.settings.ceiling (decode t) l (step (look l) w).answer
 
 pub record History : Type 0 where
   pub world : (w : World) (cs : List Call) → New w → AsTold (end cs w) (past cs w new_past)

@@ -1,7 +1,6 @@
 -- Feed takes no more than it needs (rule C6): a shorter front of its piece is taken whole, and gives no block.
 -- Assumes nothing.
-use Rattle.std.specs.Prelude.{ℕ, ◌<◌, ◌≡◌, List, take}
-use Rattle.std.proofs.Math.Option.{Option, none}
+use Rattle.std.specs.Prelude.{ℕ, ◌<◌, ◌≡◌, List, take, Option, None}
 use Rattle.reader.specs.Said.{Report, took}
 use Rattle.demands.specs.World.{World, feed, said, step}
 
@@ -10,4 +9,4 @@ use Rattle.demands.specs.World.{World, feed, said, step}
 abbrev pub TakesNoMore : Type 0
 TakesNoMore =
     (w : World) (piece : List ℕ) (n m : ℕ) (r : Option Report) → (step (feed piece) w).answer ≡ said (took n r) → m < n
-    → (step (feed (take m piece)) w).answer ≡ said (took m none)
+    → (step (feed (take m piece)) w).answer ≡ said (took m None)

@@ -2,8 +2,7 @@
 -- that the contract cites: the answer, the new state and the lent bytes; the part handed back, its bytes and where it stands; a field's
 -- answer; Write's answer and its buffer.
 -- Assumes nothing.
-use Rattle.std.specs.Prelude.{ℕ, ◌≡◌, List}
-use Rattle.std.proofs.Math.Option.{Option}
+use Rattle.std.specs.Prelude.{ℕ, ◌≡◌, List, Option}
 use Rattle.wire.specs.Parts.{offset_by}
 use Rattle.record.specs.Answer.{FieldSaid, Answers, handed_says}
 use Rattle.record.specs.declared.Answer.{Answer}

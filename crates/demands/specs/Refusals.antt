@@ -5,8 +5,7 @@
 -- header's numbers stand, the CRC, which rows are of which level and which is N2's, where a field ends, what it says, how its bits are read, and
 -- which of them are Do-Not-Use. The walk (T21) is rendered anew: from where one sub-block starts to where the next does.
 -- Assumes nothing.
-use Rattle.std.specs.Prelude.{ℕ, zero, suc, ◌+◌, ◌*◌, ◌%◌, ◌/◌, ◌^◌, ◌≤◌, ◌<◌, ◌≡◌, true, false, List, [], ◌∷◌, ◌⊎◌, length, get_or, take, drop, ℤ, pos, negsuc}
-use Rattle.std.proofs.Math.Option.{Option, none, some, IsSome}
+use Rattle.std.specs.Prelude.{ℕ, zero, suc, ◌+◌, ◌*◌, ◌%◌, ◌/◌, ◌^◌, ◌≤◌, ◌<◌, ◌≡◌, true, false, List, [], ◌∷◌, ◌⊎◌, length, get_or, take, drop, ℤ, pos, negsuc, Option, None, Some, IsSome}
 use Rattle.crc.specs.Crc.{crc_of}
 use Rattle.frame.specs.Frame.{crc_at, id_at, length_at}
 use Rattle.frame.specs.Judge.{judged}
@@ -61,7 +60,7 @@ BadState s =
 -- R3: a byte is offered to a full run that has no block to report; the standing one does not count
 pub record Full (s : State) (hold piece : List ℕ) : Type 0 where
   pub all : 4294967295 ≤ s.run.counts.taken
-  pub no_block : (settle (judged (ceiling_of s)) (rest_of hold s.run.held s.run.standing)).standing ≡ none
+  pub no_block : (settle (judged (ceiling_of s)) (rest_of hold s.run.held s.run.standing)).standing ≡ None
   pub some_byte : 0 < length piece
 
 -- R4: one of T1 to T20 is broken
@@ -113,7 +112,7 @@ SB2Length b = get_or b 16 0
 
 -- x is one of xs
 abbrev pub Among : {A : Type 0} → List A → A → Type 0
-Among xs x = (i : ℕ) × (pick xs i ≡ some x)
+Among xs x = (i : ℕ) × (pick xs i ≡ Some x)
 
 -- r is a row of the table, of this number
 pub record RowOf (t : Table) (number : ℕ) (r : BlockRow) : Type 0 where
@@ -182,7 +181,7 @@ NoSecond b k m r = (r.firsts ≡ 0) ⊎ (N b ≤ k) ⊎ (N2 r b k ≤ m)
 -- R9: in these bytes no field of this number among the rows is of the type and answers an unsigned number
 abbrev pub NoNumber : List ℕ → List ℕ → List FieldRow → ℕ → ℕ → Type 0
 NoNumber b s rows i kind =
-    (f : FieldRow) → pick rows i ≡ some f → f.kind ≡ kind → (n : ℕ) → field_said (block_revision b) s f ≡ unsigned n → ⊥
+    (f : FieldRow) → pick rows i ≡ Some f → f.kind ≡ kind → (n : ℕ) → field_said (block_revision b) s f ≡ unsigned n → ⊥
 
 -- T21: the bytes of a first-level sub-block, and of one nested in it
 abbrev pub first_bytes : BlockRow → List ℕ → ℕ → List ℕ
@@ -237,8 +236,8 @@ ReadsDoNotUse f said =
 -- W5: what is not allowed of a field: to be unset where it is carried and has no mark; a value where it is not carried, or one that is
 -- none of its own
 abbrev pub NotAllowed : ℕ → FieldRow → Wanted → Type 0
-NotAllowed revision f none = (f.first ≤ revision) × (f.mark ≡ 0)
-NotAllowed revision f (some said) = (revision < f.first) ⊎ NoneOfType f.kind said ⊎ ReadsDoNotUse f said
+NotAllowed revision f None = (f.first ≤ revision) × (f.mark ≡ 0)
+NotAllowed revision f (Some said) = (revision < f.first) ⊎ NoneOfType f.kind said ⊎ ReadsDoNotUse f said
 
 -- V8: TOW is a u4 and WNc a u2, with mark 1
 abbrev pub tow_field : FieldRow
@@ -249,12 +248,12 @@ wnc_field = record { offset = 12; kind = 2; first = 0; mark = 1 }
 
 -- W4: a value is set that has the number n or a higher one
 abbrev pub SetFrom : ℕ → List Wanted → Type 0
-SetFrom n ws = (i : ℕ) × ((n ≤ i) × IsSome (get_or ws i none))
+SetFrom n ws = (i : ℕ) × ((n ≤ i) × IsSome (get_or ws i None))
 
 -- W4, W5: value i is not allowed of row i, or one past the last row is set; a value that the list lacks is unset
 abbrev pub ListNotAllowed : ℕ → List FieldRow → List Wanted → Type 0
 ListNotAllowed revision fs ws =
-    ((i : ℕ) × ((f : FieldRow) × ((pick fs i ≡ some f) × NotAllowed revision f (get_or ws i none)))) ⊎ SetFrom (length fs) ws
+    ((i : ℕ) × ((f : FieldRow) × ((pick fs i ≡ Some f) × NotAllowed revision f (get_or ws i None)))) ⊎ SetFrom (length fs) ws
 
 -- R11: of a row with sub-fields, and of one without
 abbrev pub WithSubFields : BlockRow → Draft → Type 0
@@ -310,8 +309,8 @@ Given (d ∷ ds) n = ((d.number ≡ n) × d.condition) ⊎ ((d.condition → ⊥
 
 -- refused with n exactly when n is given; so a number outside the order never is
 pub record Exactly (o : Option ℕ) (order : Order) : Type 0 where
-  pub gives : (n : ℕ) → o ≡ some n → Given order n
-  pub given : (n : ℕ) → Given order n → o ≡ some n
+  pub gives : (n : ℕ) → o ≡ Some n → Given order n
+  pub given : (n : ℕ) → Given order n → o ≡ Some n
 
 -- R20: Body, Sub, Subbytes, Sub2, Range and Range2; 9's condition is each call's own, of the block's row. R5: no table is in force
 abbrev pub record_order : World → List ℕ → (BlockRow → Type 0) → Order

@@ -1,7 +1,6 @@
 -- Calls on a new reader, and a run among them: what its calls took and reported.
 -- Assumes nothing.
-use Rattle.std.specs.Prelude.{ℕ, ◌≡◌, List, [], ◌∷◌, ◌++◌, take}
-use Rattle.std.proofs.Math.Option.{Option, none, some, get_or, IsSome}
+use Rattle.std.specs.Prelude.{ℕ, ◌≡◌, List, [], ◌∷◌, ◌++◌, take, Option, None, Some, unwrap_or, IsSome}
 use Rattle.framing.specs.ReadRun.{ReadBlock}
 use Rattle.reader.specs.State.{new_state}
 use Rattle.reader.specs.Said.{Report}
@@ -23,7 +22,7 @@ piece_of (look l) = []
 -- no call answers End
 unfoldable pub NoEnd : List Call → World → Type 0
 NoEnd [] w = Unit {0}
-NoEnd (c ∷ cs) w = ((told (step c w).answer).end ≡ none) × NoEnd cs (step c w).world
+NoEnd (c ∷ cs) w = ((told (step c w).answer).end ≡ None) × NoEnd cs (step c w).world
 
 -- the world in which a run stands that was opened after `before`, with the settings x
 abbrev pub at_open : World → List Call → Settings → World
@@ -41,7 +40,7 @@ Closes w before x mid = IsSome (told (step finish (end mid (at_open w before x))
 
 -- the bytes of its piece that a call took
 abbrev pub took_of : Call → Reply → List ℕ
-took_of c a = take (get_or (told a).taken 0) (piece_of c)
+took_of c a = take (unwrap_or (told a).taken 0) (piece_of c)
 
 -- a run's bytes: all that Feeds took, in their order
 unfoldable pub taken : List Call → World → List ℕ
@@ -54,13 +53,13 @@ with_bytes r b = record { place = r.place; number = r.number; revision = r.revis
 
 -- C4: a reported block stands at the front of the hold
 abbrev pub in_hold : Option Report → World → List ReadBlock
-in_hold none w = []
-in_hold (some r) w = with_bytes r (take r.size w.hold) ∷ []
+in_hold None w = []
+in_hold (Some r) w = with_bytes r (take r.size w.hold) ∷ []
 
 -- C9: what Bytes then shows
 abbrev pub shown : Option Report → World → List ReadBlock
-shown none w = []
-shown (some r) w = with_bytes r (part_of (step (look bytes) w).answer) ∷ []
+shown None w = []
+shown (Some r) w = with_bytes r (part_of (step (look bytes) w).answer) ∷ []
 
 -- all blocks that calls reported, in their order
 unfoldable pub blocks : List Call → World → List ReadBlock

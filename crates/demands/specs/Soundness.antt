@@ -1,8 +1,7 @@
 -- Sound states: what every call keeps of a state, whatever the buffers. It has all that R1 asks of one; and the bytes taken are
 -- as many as those reported, skipped and held.
 -- Assumes nothing.
-use Rattle.std.specs.Prelude.{ℕ, ◌+◌, ◌-◌, ◌≤◌, ◌≡◌, true, cond}
-use Rattle.std.proofs.Math.Option.{Option, none, some}
+use Rattle.std.specs.Prelude.{ℕ, ◌+◌, ◌-◌, ◌≤◌, ◌≡◌, true, cond, Option, None, Some}
 use Rattle.frame.specs.Frame.{ceiling_ok}
 use Rattle.reader.specs.State.{limit, new_state, ceiling_of, sound}
 use Rattle.reader.specs.Said.{Report}
@@ -24,8 +23,8 @@ pub record Sound (s : State) (reported : ℕ) : Type 0 where
   pub ceiling : ceiling_ok (ceiling_of s) ≡ true
 
 abbrev pub report_size : Option Report → ℕ
-report_size none = 0
-report_size (some r) = r.size
+report_size None = 0
+report_size (Some r) = r.size
 
 -- `reported` after a call and what it told: a run that opens has reported no block
 abbrev pub since_open : Call → Told → ℕ → ℕ

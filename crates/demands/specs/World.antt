@@ -1,7 +1,6 @@
 -- The world of a reader, its calls, their answers, and what a call does: made of the very functions that the contracts of the reader's calls cite.
 -- Assumes nothing.
-use Rattle.std.specs.Prelude.{ℕ, Bool, List, [], ◌∷◌}
-use Rattle.std.proofs.Math.Option.{Option, none, some, get_or}
+use Rattle.std.specs.Prelude.{ℕ, Bool, List, [], ◌∷◌, Option, None, Some, unwrap_or}
 use Rattle.record.specs.Answer.{FieldSaid, do_not_use, double, field_refused, not_in_revision, signed, single, unsigned}
 use Rattle.reader.specs.Said.{Report, Said, refused, version, took, found, ended, waited}
 use Rattle.runs.specs.Refusals.{bytes_refusal}
@@ -84,55 +83,55 @@ pub record Told : Type 0 where
 -- what an answer tells that is not Write's
 abbrev pub tells : Option ℕ → Option ℕ → Option ℕ → Option Report → Option Counts → Option Bool → Option (List ℕ) → Told
 tells n v t b e w p =
-    record { refusal = n; version = v; taken = t; block = b; end = e; waited = w; part = p; wrote = none; buffer = none }
+    record { refusal = n; version = v; taken = t; block = b; end = e; waited = w; part = p; wrote = None; buffer = None }
 
 -- V7: the number, where a field is refused
 abbrev pub field_refusal : FieldSaid → Option ℕ
-field_refusal (unsigned n) = none
-field_refusal (signed z) = none
-field_refusal (single b) = none
-field_refusal (double b) = none
-field_refusal do_not_use = none
-field_refusal not_in_revision = none
-field_refusal (field_refused n) = some n
+field_refusal (unsigned n) = None
+field_refusal (signed z) = None
+field_refusal (single b) = None
+field_refusal (double b) = None
+field_refusal do_not_use = None
+field_refusal not_in_revision = None
+field_refusal (field_refused n) = Some n
 
 -- W1: the number, where Write is refused, and the length where it is not
 abbrev pub write_refusal : WriteSaid → Option ℕ
-write_refusal (wrote n) = none
-write_refusal (write_refused n) = some n
+write_refusal (wrote n) = None
+write_refusal (write_refused n) = Some n
 
 abbrev pub write_length : WriteSaid → Option ℕ
-write_length (wrote n) = some n
-write_length (write_refused n) = none
+write_length (wrote n) = Some n
+write_length (write_refused n) = None
 
 abbrev pub tells_write : WriteOutcome → Told
 tells_write o =
     record {
       refusal = write_refusal o.said;
-      version = none;
-      taken = none;
-      block = none;
-      end = none;
-      waited = none;
-      part = none;
+      version = None;
+      taken = None;
+      block = None;
+      end = None;
+      waited = None;
+      part = None;
       wrote = write_length o.said;
-      buffer = some o.buffer;
+      buffer = Some o.buffer;
     }
 
 abbrev pub told : Reply → Told
-told (said (refused n)) = tells (some n) none none none none none none
-told (said (version v)) = tells none (some v) none none none none none
-told (said (took n r)) = tells none none (some n) r none none none
-told (said (found r)) = tells none none none (some r) none none none
-told (said (ended c)) = tells none none none none (some c) none none
-told (said (waited b)) = tells none none none none none (some b) none
-told (part n p) = tells n none none none none none (some p)
-told (value v) = tells (field_refusal v) none none none none none none
+told (said (refused n)) = tells (Some n) None None None None None None
+told (said (version v)) = tells None (Some v) None None None None None
+told (said (took n r)) = tells None None (Some n) r None None None
+told (said (found r)) = tells None None None (Some r) None None None
+told (said (ended c)) = tells None None None None (Some c) None None
+told (said (waited b)) = tells None None None None None (Some b) None
+told (part n p) = tells n None None None None None (Some p)
+told (value v) = tells (field_refusal v) None None None None None None
 told (penned o) = tells_write o
 
 -- the part that is handed back, empty where the call hands back none
 abbrev pub part_of : Reply → List ℕ
-part_of a = get_or (told a).part []
+part_of a = unwrap_or (told a).part []
 
 -- ---- what a call does
 

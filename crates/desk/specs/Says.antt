@@ -1,7 +1,6 @@
 -- How a reply of Open, Feed, Finish, Stage or Withdraw is read (rule D9).
 -- Assumes nothing.
-use Rattle.std.specs.Prelude.{Bool, true, false}
-use Rattle.std.proofs.Math.Option.{none, some}
+use Rattle.std.specs.Prelude.{Bool, true, false, None, Some}
 use Rattle.refusal.specs.Numbers.{number_for}
 use Rattle.reader.specs.Said.{Said, report_of, refused, version, took, found, ended, waited}
 use Rattle.desk.specs.declared.RunReply.{RunReply}
@@ -11,8 +10,8 @@ abbrev pub reply_says : RunReply → Said
 reply_says (run.Opened v) = version v
 reply_says (run.Staged v) = version v
 reply_says (run.Withdrawn b) = waited b
-reply_says (run.More t) = took t none
-reply_says (run.FedBlock t b) = took t (some (report_of b))
+reply_says (run.More t) = took t None
+reply_says (run.FedBlock t b) = took t (Some (report_of b))
 reply_says (run.Found b) = found (report_of b)
 reply_says (run.End c) = ended c
 reply_says (run.Refused r) = refused (number_for r)

@@ -2,7 +2,7 @@
 -- Assumes nothing.
 use mathlib.Core.Bool.{true, false}
 use mathlib.Core.List.{List, []}
-use mathlib.Core.Option.{Option, none, some}
+use Rattle.std.proofs.Common.{Option, None, Some}
 use mathlib.Core.Path.{◌≡◌, refl, sym, ap, ◌∙◌}
 use Prim.Native.Nat.{ℕ, ◌+◌, ◌≤◌, ◌<◌}
 use native.Mathlib.Omega.{arith}
@@ -22,8 +22,8 @@ use Rattle.draft.specs.Code.{values_from, subs_from, Resting}
 
 -- a field
 fit_ok : (o : Option ℕ) {b : Fit} → b ≡ fit_of o → b.ok ≡ is_some o
-fit_ok none e = ap (λ (b : Fit). b.ok) e
-fit_ok (some x) e = ap (λ (b : Fit). b.ok) e
+fit_ok None e = ap (λ (b : Fit). b.ok) e
+fit_ok (Some x) e = ap (λ (b : Fit). b.ok) e
 
 module _ (revision : ℕ) (f : FieldRow) (w : Wanted) where
   pub wanted_carried : f.first ≤ revision → {b : Fit} → b ≡ fit_of (bits_of f w) → b.ok ≡ wanted_ok revision f w

@@ -1,9 +1,8 @@
 -- The table's rules, T1 to T17, T19 and T20, on both sides of their limits, but for the 8,192 bytes of a file: small tables with what is to
 -- come of them, computed from the definitions.
 -- Assumes nothing.
-use Rattle.std.specs.Prelude.{Bool, true, false, ◌≡◌, ℕ, ◌+◌, length, set, take, drop}
+use Rattle.std.specs.Prelude.{Bool, true, false, ◌≡◌, ℕ, ◌+◌, length, set, take, drop, Option, None, Some}
 use mathlib.Core.List.{List, [], ◌∷◌, ◌++◌, map, flat_map}
-use Rattle.std.proofs.Math.Option.{Option, none, some}
 use Prim.Native.String.{String}
 use Rattle.crc.specs.Crc.{crc_of}
 use Rattle.kinds.specs.Types.{u1, u2, u4, u8, i1, i2, i4, i8, f8}
@@ -152,7 +151,7 @@ types =
     ∷ bad "the mark of seeds on u1" (bears u1 seed)
     ∷ bad "the mark of seeds on u4" (bears u4 seed)
     ∷ bad "the mark of seeds on i2" (bears i2 seed)
-    ∷ bad "a mark that is none" (bears u8 6)
+    ∷ bad "a mark that is None" (bears u8 6)
     ∷ []
 
 -- a field of the type at 14, and the next one here
@@ -211,8 +210,8 @@ marks_pass r = map (λ (mark : ℕ). meaning_ok (decode (encode (table_with (bea
 
 -- V3: whether the type may bear the mark, by the grid's cell
 abbrev borne : Option (List ℕ) → Bool
-borne none = false
-borne (some bits) = true
+borne None = false
+borne (Some bits) = true
 
 abbrev marks_borne : GridRow → List Bool
 marks_borne r = map borne r.cells

@@ -1,7 +1,7 @@
 -- What fits as an optional number: a test and bits, a range, what is wanted by its kind, and a mark.
 -- Assumes nothing.
 use mathlib.Core.Bool.{Bool, true, false, not, ◌&&◌, cond}
-use mathlib.Core.Option.{Option, none, some}
+use Rattle.std.proofs.Common.{Option, None, Some}
 use mathlib.Core.Path.{◌≡◌, refl, sym, ap, ◌∙◌}
 use Prim.Native.Nat.{ℕ, zero, suc, ◌+◌, ◌-◌, ◌^◌, ◌≤◌, ◌<◌}
 use native.Mathlib.Omega.{arith}
@@ -16,11 +16,11 @@ use Rattle.entry.specs.Bits.{signed_within, bits_for, unless_marked, bits_of}
 use Rattle.entry.specs.Code.{fit_if, fit_of, wanted_bits}
 
 -- a test, and two
-pub fit_cond : (a : Bool) (x : ℕ) → fit_if a x ≡ fit_of (cond a (some x) none)
+pub fit_cond : (a : Bool) (x : ℕ) → fit_if a x ≡ fit_of (cond a (Some x) None)
 fit_cond true x = refl
 fit_cond false x = refl
 
-pub fit_both : (a b : Bool) (x : ℕ) → fit_if (a && b) x ≡ fit_of (cond a (cond b (some x) none) none)
+pub fit_both : (a b : Bool) (x : ℕ) → fit_if (a && b) x ≡ fit_of (cond a (cond b (Some x) None) None)
 fit_both true b x = fit_cond b x
 fit_both false b x = refl
 
@@ -73,13 +73,13 @@ unset_by_kind (suc (suc (suc (suc (suc k))))) x = sym (ne_eqb (suc (suc (suc (su
 -- what is not unset is written by its type, unless that is the mark's
 bits_by : (f : FieldRow) (w : Wanted) → is_unset w ≡ false → unless_marked f (wanted_bits f.kind w) ≡ bits_of f w
 unfolding bits_of
-bits_by f none e = let z : ◌≡◌ {A = ℕ} 0 1 = cc in let g : ⊥ = omega arith in absurd g
-bits_by f (some said) e = refl
+bits_by f None e = let z : ◌≡◌ {A = ℕ} 0 1 = cc in let g : ⊥ = omega arith in absurd g
+bits_by f (Some said) e = refl
 
 fit_unless : (f : FieldRow) (o : Option ℕ) → fit_if ((fit_of o).ok && not (is_do_not_use f.mark f.kind (fit_of o).bits)) (fit_of o).bits ≡ fit_of (unless_marked f o)
-fit_unless f none = refl
-fit_unless f (some x) = unless_by (is_do_not_use f.mark f.kind x) where
-  unless_by : (m : Bool) → fit_if (not m) x ≡ fit_of (cond m none (some x))
+fit_unless f None = refl
+fit_unless f (Some x) = unless_by (is_do_not_use f.mark f.kind x) where
+  unless_by : (m : Bool) → fit_if (not m) x ≡ fit_of (cond m None (Some x))
   unless_by true = refl
   unless_by false = refl
 

@@ -1,7 +1,6 @@
 -- Working definitions for the code: bits that fit as a struct, and a value taken from a list at a place.
 -- Assumes nothing.
-use Rattle.std.specs.Prelude.{ℕ, ◌≤◌, Bool, true, false, cond, List, ◌≡◌, length, get_or, drop}
-use Rattle.std.proofs.Math.Option.{Option, none, some}
+use Rattle.std.specs.Prelude.{ℕ, ◌≤◌, Bool, true, false, cond, List, ◌≡◌, length, get_or, drop, Option, None, Some}
 use Rattle.kinds.specs.Types.{size_of, is_signed, half}
 use Rattle.value.specs.Bits.{with_sign}
 use Rattle.entry.specs.declared.Fit.{Fit}
@@ -15,21 +14,21 @@ fit_if false x = record { ok = false; bits = 0 }
 
 -- bits that there may be
 abbrev pub fit_of : Option ℕ → Fit
-fit_of none = fit_if false 0
-fit_of (some x) = fit_if true x
+fit_of None = fit_if false 0
+fit_of (Some x) = fit_if true x
 
 -- the bits of a type that read as what is wanted; none for unset
 abbrev pub wanted_bits : ℕ → Wanted → Option ℕ
-wanted_bits kind none = none
-wanted_bits kind (some said) = bits_for kind said
+wanted_bits kind None = None
+wanted_bits kind (Some said) = bits_for kind said
 
 -- a number with sign, given in 64 bits, by a type
 abbrev pub signed_fit : ℕ → ℕ → Fit
-signed_fit kind x = fit_of (cond (is_signed kind) (signed_bits (size_of kind) (with_sign (half 8) x)) none)
+signed_fit kind x = fit_of (cond (is_signed kind) (signed_bits (size_of kind) (with_sign (half 8) x)) None)
 
 -- the value at p, and the list from the next one on
 pub record Taking (kinds bits : List ℕ) (p : ℕ) (t : Taken) : Type 0 where
-  pub is : wanted_of t.entry.kind t.entry.bits ≡ get_or (values_in (drop p kinds) (drop p bits)) 0 none
+  pub is : wanted_of t.entry.kind t.entry.bits ≡ get_or (values_in (drop p kinds) (drop p bits)) 0 None
   pub rest : values_in (drop t.next kinds) (drop t.next bits) ≡ drop 1 (values_in (drop p kinds) (drop p bits))
   pub subs : subs_in (drop t.next kinds) (drop t.next bits) ≡ subs_in (drop p kinds) (drop p bits)
   pub within : t.next ≤ length kinds

@@ -1,7 +1,6 @@
 -- What is wanted of a field (rules W2, W3): unset, or what it is to say; and how that is told from kinds and bits.
 -- Assumes nothing.
-use Rattle.std.specs.Prelude.{ℕ, Bool, not, cond, List, [], ◌∷◌, eqb, get_or, drop}
-use Rattle.std.proofs.Math.Option.{Option, none, some}
+use Rattle.std.specs.Prelude.{ℕ, Bool, not, cond, List, [], ◌∷◌, eqb, get_or, drop, Option, None, Some}
 use Rattle.kinds.specs.Types.{half}
 use Rattle.table.specs.Lists.{is_some}
 use Rattle.value.specs.Said.{FieldSaid, unsigned, signed, single, double, field_refused}
@@ -17,16 +16,16 @@ is_unset w = not (is_some w)
 -- W2: entry k is what 64 bits of kind k say
 abbrev pub wanted_kinds : List (ℕ → Wanted)
 wanted_kinds =
-    (λ x. none)
-    ∷ (λ x. some (unsigned x))
-    ∷ (λ x. some (signed (with_sign (half 8) x)))
-    ∷ (λ x. some (single x))
-    ∷ (λ x. some (double x))
+    (λ x. None)
+    ∷ (λ x. Some (unsigned x))
+    ∷ (λ x. Some (signed (with_sign (half 8) x)))
+    ∷ (λ x. Some (single x))
+    ∷ (λ x. Some (double x))
     ∷ []
 
 -- W2: any other number is the kind of no field: it stands for a refusal, which no bits read as
 unfoldable pub wanted_of : ℕ → ℕ → Wanted
-wanted_of kind x = get_or wanted_kinds kind (λ (y : ℕ). some (field_refused kind)) x
+wanted_of kind x = get_or wanted_kinds kind (λ (y : ℕ). Some (field_refused kind)) x
 
 -- W3: the kind that says that a sub-block begins
 abbrev pub begins : ℕ

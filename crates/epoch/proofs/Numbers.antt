@@ -2,7 +2,7 @@
 -- Assumes nothing.
 use mathlib.Core.Bool.{Bool, true, false, cond}
 use mathlib.Core.List.{List}
-use mathlib.Core.Option.{none, some}
+use Rattle.std.proofs.Common.{None, Some}
 use mathlib.Core.Path.{◌≡◌, refl, sym, ap, ◌∙◌, subst}
 use Prim.Native.Nat.{ℕ, zero, suc, ◌+◌, ◌<◌, ◌≤◌, ◌^◌}
 use native.Mathlib.Omega.{arith}
@@ -29,7 +29,7 @@ use Rattle.epoch.specs.declared.Number.TheVariants.{Is, Not}
 use Rattle.epoch.specs.Ranges.{unsigned_of, unsigned_at, both_of, pair_at}
 use Rattle.epoch.specs.Code.{number_says, NumberBelow}
 
-nothing : {X : Type 0} {x : ℕ} → none ≡ some x → X
+nothing : {X : Type 0} {x : ℕ} → None ≡ Some x → X
 nothing e = let z : ◌≡◌ {A = ℕ} 0 1 = cc in let f : ⊥ = omega arith in absurd f
 
 -- an unsigned type reads its bits as they are
@@ -42,29 +42,29 @@ plain (suc (suc (suc zero))) x h = refl
 plain (suc (suc (suc (suc zero)))) x h = refl
 plain (suc (suc (suc (suc (suc k))))) x h = let f : ⊥ = omega arith in absurd f
 
-told : (c d : Bool) (bits x : ℕ) → unsigned_of (cond c (cond d do_not_use (unsigned bits)) not_in_revision) ≡ some x → x ≡ bits
+told : (c d : Bool) (bits x : ℕ) → unsigned_of (cond c (cond d do_not_use (unsigned bits)) not_in_revision) ≡ Some x → x ≡ bits
 told true true bits x e = nothing e
 told true false bits x e = cc
 told false d bits x e = nothing e
 
-pub small : (v : ℕ) (s : List ℕ) (f : FieldRow) → f.kind ≤ 4 → Bytes s → (x : ℕ) → unsigned_of (field_said v s f) ≡ some x → x < 256 ^ size_of f.kind
+pub small : (v : ℕ) (s : List ℕ) (f : FieldRow) → f.kind ≤ 4 → Bytes s → (x : ℕ) → unsigned_of (field_said v s f) ≡ Some x → x < 256 ^ size_of f.kind
 unfolding field_said field_value value_of
 small v s f h bytes x e =
     let bits = little_at (size_of f.kind) s f.offset in
     let q : x ≡ bits = told (carried v f) (is_do_not_use f.mark f.kind bits) bits x (rw (plain f.kind bits h) at e) in
     rw q (range (size_of f.kind) s f.offset bytes)
 
-pub below_by : (r : Number) (n : ℕ) → ((x : ℕ) → number_says r ≡ some x → x < n) → NumberBelow n r
+pub below_by : (r : Number) (n : ℕ) → ((x : ℕ) → number_says r ≡ Some x → x < n) → NumberBelow n r
 below_by (Is x) n h = h x refl
 below_by Not n h = tt
 
 -- a field of these rows
 module _ (t s : List ℕ) (at count j kind v : ℕ) where
-  pub number_out : count ≤ j → none ≡ unsigned_at v s kind (pick (tabulate (field_at t) at count) j)
+  pub number_out : count ≤ j → None ≡ unsigned_at v s kind (pick (tabulate (field_at t) at count) j)
   number_out h = rw (pick_out (field_at t) at count j h)
 
   module _ (h : j < count) {f : FieldRow} (e : f ≡ field_at t (at + j)) where
-    pub number_other : (f.kind ≡ kind → ⊥) → none ≡ unsigned_at v s kind (pick (tabulate (field_at t) at count) j)
+    pub number_other : (f.kind ≡ kind → ⊥) → None ≡ unsigned_at v s kind (pick (tabulate (field_at t) at count) j)
     number_other n = rw (pick_in (field_at t) at count j h, ← e, ne_eqb f.kind kind n)
 
     number_is : f.kind ≡ kind → unsigned_of (field_said v s f) ≡ unsigned_at v s kind (pick (tabulate (field_at t) at count) j)

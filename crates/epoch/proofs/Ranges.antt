@@ -2,7 +2,7 @@
 -- Assumes nothing.
 use mathlib.Core.Bool.{Bool, true, false, not, ◌&&◌, ◌||◌}
 use mathlib.Core.List.{List}
-use mathlib.Core.Option.{Option, none, some}
+use Rattle.std.proofs.Common.{Option, None, Some}
 use mathlib.Core.Path.{◌≡◌, refl, sym, ap, ◌∙◌}
 use Prim.Native.Nat.{ℕ, ◌+◌, ◌-◌, ◌<◌, ◌≤◌}
 use borrow.Author.Tests.{leb-true}
@@ -32,9 +32,9 @@ use Rattle.epoch.specs.Ranges.{pair_at, first_pair, second_pair, is_epoch, range
 use Rattle.epoch.proofs.Seconds.{second_in, second_out, first_rows_lem, second_rows_lem}
 
 -- without a second number there is no range of the second level
-no_second : (p : Option Two) → range2_said p none ≡ field_refused 9
-no_second none = refl
-no_second (some p) = refl
+no_second : (p : Option Two) → range2_said p None ≡ field_refused 9
+no_second None = refl
+no_second (Some p) = refl
 
 -- the numbers of a sub-block, by the rows and the bytes that were read
 module _ (t b : List ℕ) (k : ℕ) (r : Row) (n : Nest) (fine : SubFine t b k r n) where
@@ -43,7 +43,7 @@ module _ (t b : List ℕ) (k : ℕ) (r : Row) (n : Nest) (fine : SubFine t b k r
   first_pair_is g e f q = q ∙ rw (first_rows_lem t b k r n fine g, e, f)
 
   pub second_pair_is : (m : ℕ) → m < n.count → {v : ℕ} {s : List ℕ} {z : Span} {p : Option Two} → v ≡ revision_in b → z ≡ second_at n m → s ≡ sub_slice b z
-      → p ≡ pair_at v s 6 2 (tabulate (field_at t) (r.start + r.bodies + r.firsts) (r.subs - r.firsts)) → p ≡ second_pair (block_of t r) b (some (second_at n m))
+      → p ≡ pair_at v s 6 2 (tabulate (field_at t) (r.start + r.bodies + r.firsts) (r.subs - r.firsts)) → p ≡ second_pair (block_of t r) b (Some (second_at n m))
   second_pair_is m h e z f q = q ∙ rw (second_rows_lem t b k r n fine (omega arith), e, f, z)
 
 -- a test of two parts that fails, and one that holds
@@ -99,6 +99,6 @@ module _ (t b : List ℕ) (k : ℕ) {l : SubMatched} (d : SubMatching t b k l) w
         by false g q = range2_9 g
         by true g q = range2_none g (leb-true _ _ q)
 
-      pub range2_says : e ≡ true → m < n.count → {p q : Option Two} {a : Answer} → p ≡ first_pair (block_of t r) b n → q ≡ second_pair (block_of t r) b (some (second_at n m))
+      pub range2_says : e ≡ true → m < n.count → {p q : Option Two} {a : Answer} → p ≡ first_pair (block_of t r) b n → q ≡ second_pair (block_of t r) b (Some (second_at n m))
           → Answers a (range2_said p q) → Answers a (range2_field (decode t) b k m)
       range2_says f i u v w = same (sym (rw (epoch_is ∙ f, stood, second_in n m i, ← u, ← v)) ∙ by_range2) w

@@ -2,7 +2,7 @@
 -- Assumes nothing.
 use mathlib.Core.Bool.{true}
 use mathlib.Core.List.{List}
-use mathlib.Core.Option.{none, some}
+use Rattle.std.proofs.Common.{None, Some}
 use mathlib.Core.Path.{◌≡◌, sym, ap, ◌∙◌}
 use Prim.Native.Nat.{ℕ, suc, ◌+◌, ◌-◌, ◌*◌, ◌<◌, ◌≤◌}
 use native.Mathlib.Nat.{mul-le-mul_right, suc-mul, zero-add}
@@ -21,11 +21,11 @@ use Rattle.walk.specs.Walk.{nest_end, second_at, seconds}
 use Rattle.block.specs.Block.{revision_in, ends_by, nest_of, SubFine}
 
 -- those nested in a first-level one, by their number
-pub second_in : (n : Nest) (m : ℕ) → m < n.count → pick (seconds n) m ≡ some (second_at n m)
+pub second_in : (n : Nest) (m : ℕ) → m < n.count → pick (seconds n) m ≡ Some (second_at n m)
 unfolding seconds
 second_in n m h = pick_in (second_at n) 0 n.count m h ∙ rw (zero-add m)
 
-pub second_out : (n : Nest) (m : ℕ) → n.count ≤ m → pick (seconds n) m ≡ none
+pub second_out : (n : Nest) (m : ℕ) → n.count ≤ m → pick (seconds n) m ≡ None
 unfolding seconds
 second_out n m h = pick_out (second_at n) 0 n.count m h
 

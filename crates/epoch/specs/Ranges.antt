@@ -1,8 +1,7 @@
 -- What Range and Range2 answer, of a decoded table and a block's bytes: which fields V11 and V12 read, and when there is no range (rules
 -- C16, R9).
 -- Assumes nothing.
-use Rattle.std.specs.Prelude.{ℕ, Bool, not, ◌&&◌, cond, List, eqb}
-use Rattle.std.proofs.Math.Option.{Option, none, some}
+use Rattle.std.specs.Prelude.{ℕ, Bool, not, ◌&&◌, cond, List, eqb, Option, None, Some}
 use Rattle.kinds.specs.Types.{u1, u2, u4}
 use Rattle.rows.specs.declared.FieldRow.{FieldRow}
 use Rattle.table.specs.Lists.{pick}
@@ -17,23 +16,23 @@ use Rattle.pseudorange.specs.Range.{Two, range_said, range2_said}
 
 -- R9: the number, where an unsigned one is answered
 abbrev pub unsigned_of : FieldSaid → Option ℕ
-unsigned_of (unsigned n) = some n
-unsigned_of (signed z) = none
-unsigned_of (single b) = none
-unsigned_of (double b) = none
-unsigned_of do_not_use = none
-unsigned_of not_in_revision = none
-unsigned_of (field_refused n) = none
+unsigned_of (unsigned n) = Some n
+unsigned_of (signed z) = None
+unsigned_of (single b) = None
+unsigned_of (double b) = None
+unsigned_of do_not_use = None
+unsigned_of not_in_revision = None
+unsigned_of (field_refused n) = None
 
 -- R9: the number in a field, in these bytes, where its row is there and of the type
 abbrev pub unsigned_at : ℕ → List ℕ → ℕ → Option FieldRow → Option ℕ
-unsigned_at revision s kind none = none
-unsigned_at revision s kind (some f) = cond (eqb f.kind kind) (unsigned_of (field_said revision s f)) none
+unsigned_at revision s kind None = None
+unsigned_at revision s kind (Some f) = cond (eqb f.kind kind) (unsigned_of (field_said revision s f)) None
 
 abbrev pub both_of : Option ℕ → Option ℕ → Option Two
-both_of none y = none
-both_of (some x) none = none
-both_of (some x) (some y) = some (record { high = x; low = y })
+both_of None y = None
+both_of (Some x) None = None
+both_of (Some x) (Some y) = Some (record { high = x; low = y })
 
 -- V11, V12: of these rows field 3, a u1, and field j, of the type given
 unfoldable pub pair_at : ℕ → List ℕ → ℕ → ℕ → List FieldRow → Option Two
@@ -45,8 +44,8 @@ first_pair r b n = pair_at (revision_in b) (sub_slice b n.first) 4 u4 (first_row
 
 -- V12: OffsetsMSB and CodeOffsetLSB of a second-level one
 abbrev pub second_pair : BlockRow → List ℕ → Option Span → Option Two
-second_pair r b none = none
-second_pair r b (some s) = pair_at (revision_in b) (sub_slice b s) 6 u2 (second_rows r)
+second_pair r b None = None
+second_pair r b (Some s) = pair_at (revision_in b) (sub_slice b s) 6 u2 (second_rows r)
 
 -- R9: a MeasEpoch, by a row of two levels
 abbrev pub is_epoch : List ℕ → BlockRow → Bool

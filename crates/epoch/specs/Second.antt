@@ -1,7 +1,6 @@
 -- What Sub2 answers, of a decoded table and a block's bytes (rules C16, T21).
 -- Assumes nothing.
-use Rattle.std.specs.Prelude.{ℕ, List}
-use Rattle.std.proofs.Math.Option.{Option, none, some}
+use Rattle.std.specs.Prelude.{ℕ, List, Option, None, Some}
 use Rattle.table.specs.Lists.{pick}
 use Rattle.table.specs.Rows.{BlockRow, Table, second_rows}
 use Rattle.value.specs.Said.{FieldSaid, field_refused}
@@ -12,8 +11,8 @@ use Rattle.record.specs.Calls.{field_or9, sub_slice}
 
 -- R9: no such second-level sub-block; by a row of one level none is nested
 abbrev pub in_second : List ℕ → BlockRow → ℕ → Option Span → FieldSaid
-in_second b r j none = field_refused 9
-in_second b r j (some s) = field_or9 (revision_in b) (sub_slice b s) (pick (second_rows r) j)
+in_second b r j None = field_refused 9
+in_second b r j (Some s) = field_or9 (revision_in b) (sub_slice b s) (pick (second_rows r) j)
 
 -- C16: Sub2, with the numbers k, m and j
 abbrev pub second_by : List ℕ → ℕ → ℕ → ℕ → Seen → FieldSaid

@@ -7,7 +7,6 @@ ghost use Rattle.kinds.specs.Types.{size_of};
 ghost use Rattle.table.specs.Lists.{tabulate, every, pick};
 ghost use Rattle.table.specs.Decode.{decode, block_of};
 ghost use Rattle.table.specs.Rules.{table_ok};
-ghost use Rattle.std.proofs.Math.Option.{some};
 ghost use Rattle.walk.specs.Walk.{nest_end, second_at};
 ghost use Rattle.block.specs.Block.{number_in, ends_by, SubFine};
 ghost use Rattle.record.specs.Answer.{Answers, answer_says};
@@ -151,7 +150,7 @@ fn first_pair(table: &[u8], row: Row, block: &[u8], k: usize, nest: Nest) -> Pai
 // OffsetsMSB and CodeOffsetLSB of a second-level one.
 fn second_pair(table: &[u8], row: Row, block: &[u8], k: usize, nest: Nest, m: usize) -> Pair
     requires { (table_ok table.now ≡ true) × SubFine table.now block.now k row nest × (m < nest.count) }
-    ensures result_value { pair_says result ≡ second_pair (block_of table.now row) block.now (some (second_at nest m)) }
+    ensures result_value { pair_says result ≡ second_pair (block_of table.now row) block.now (Some (second_at nest m)) }
     ensures pair_below { PairBelow 65536 result }
 {
     let first = row.firsts;

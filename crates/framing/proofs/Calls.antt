@@ -3,7 +3,7 @@
 use mathlib.Core.Path.{◌≡◌, refl, ap, ◌∙◌, subst}
 use mathlib.Core.Logic.{⊎_elim}
 use mathlib.Core.List.{List, [], ◌∷◌, ◌++◌}
-use mathlib.Core.Option.{Option, none, some}
+use Rattle.std.proofs.Common.{Option, None, Some}
 use Prim.Native.Nat.{ℕ, zero, suc, min, ◌<◌}
 use native.Mathlib.Omega.{arith}
 use lib.ListN.{length, take}
@@ -18,10 +18,10 @@ use Rattle.framing.specs.Theorems.{MoreDecidesAll, BlockDecidesNoMore}
 
 module _ (judge : List ℕ → Verdict) where
   abbrev Least : List ℕ → List ℕ → ℕ → Intake → Type 0
-  Least h piece room f = (t : ℕ) → t < f.taken → (feed_by judge h (take t piece) room).standing ≡ none
+  Least h piece room f = (t : ℕ) → t < f.taken → (feed_by judge h (take t piece) room).standing ≡ None
 
-  least_none : (h : List ℕ) (b : ℕ) (bs : List ℕ) (room t : ℕ) (next : Intake) → (settle judge h).standing ≡ none
-      → Least ((settle judge h).rest ++ b ∷ []) bs room next → t < suc next.taken → (feed_by judge h (take t (b ∷ bs)) (suc room)).standing ≡ none
+  least_none : (h : List ℕ) (b : ℕ) (bs : List ℕ) (room t : ℕ) (next : Intake) → (settle judge h).standing ≡ None
+      → Least ((settle judge h).rest ++ b ∷ []) bs room next → t < suc next.taken → (feed_by judge h (take t (b ∷ bs)) (suc room)).standing ≡ None
   unfolding feed_by
   least_none h b bs room zero next e rec l = e
   least_none h b bs room (suc t) next e rec l =
@@ -29,8 +29,8 @@ module _ (judge : List ℕ → Verdict) where
 
   least_by : (o : Option ℕ) (h : List ℕ) (b : ℕ) (bs : List ℕ) (room : ℕ) (next : Intake) → (settle judge h).standing ≡ o
       → Least ((settle judge h).rest ++ b ∷ []) bs room next → Least h (b ∷ bs) (suc room) (unless_block o (settle judge h) next)
-  least_by (some n) h b bs room next e rec t l = let f : ⊥ = omega arith in absurd f
-  least_by none h b bs room next e rec t l = least_none h b bs room t next e rec l
+  least_by (Some n) h b bs room next e rec t l = let f : ⊥ = omega arith in absurd f
+  least_by None h b bs room next e rec t l = least_none h b bs room t next e rec l
 
   fed_least : (piece : List ℕ) (room : ℕ) (h : List ℕ) → Least h piece room (feed_by judge h piece room)
   unfolding feed_by

@@ -4,7 +4,7 @@ use mathlib.Core.Path.{◌≡◌, refl, sym, ap, ap₂, ◌∙◌, subst}
 use mathlib.Core.Logic.{⊎_elim}
 use mathlib.Core.List.{List, [], ◌∷◌, ◌++◌, append-nil, append_assoc}
 use mathlib.Core.Bool.{Bool, true, false}
-use mathlib.Core.Option.{Option, none, some}
+use Rattle.std.proofs.Common.{Option, None, Some}
 use Prim.Native.Nat.{ℕ, zero, suc, ◌+◌, ◌-◌, ◌≤◌}
 use native.Mathlib.Nat.{add-zero, zero-add, add_assoc}
 use native.Mathlib.Numerals.{add-one}
@@ -45,8 +45,8 @@ skip_many p n r = record { blocks = r.blocks; skipped = places_from p n ++ r.ski
 
 -- the block at the front of v, where one stands; v begins at the place p
 abbrev pub blocks_of : Option ℕ → ℕ → List ℕ → List ReadBlock
-blocks_of none p v = []
-blocks_of (some n) p v = block_at p n v ∷ []
+blocks_of None p v = []
+blocks_of (Some n) p v = block_at p n v ∷ []
 
 -- what one call answers that began at the place p, skipped so many bytes and left v
 abbrev pub answer : Option ℕ → ℕ → ℕ → List ℕ → Reading
@@ -195,8 +195,8 @@ module _ (c : ℕ) where
     feed_by_lem : (o : Option ℕ) (p : ℕ) (h : List ℕ) (b : ℕ) (bs : List ℕ) (next : Intake)
         → FedSame (p + length (settle judge h).passed) ((settle judge h).rest ++ b ∷ []) bs next
         → FedSame p h (b ∷ bs) (unless_block o (settle judge h) next)
-    feed_by_lem (some n) p h b bs next rec = settle_read judge zs (skips zs) h p
-    feed_by_lem none p h b bs next rec =
+    feed_by_lem (Some n) p h b bs next rec = settle_read judge zs (skips zs) h p
+    feed_by_lem None p h b bs next rec =
         let s = settle judge h in
         let k = length (settle judge h).passed in
         let l = length next.passed in
@@ -220,13 +220,13 @@ module _ (c : ℕ) where
 
   -- the standing block, judged while the run is fed
   abbrev pub StandsThere : Option ℕ → List ℕ → Type 0
-  StandsThere none v = Unit {0}
-  StandsThere (some n) v = judged c v ≡ Frame n
+  StandsThere None v = Unit {0}
+  StandsThere (Some n) v = judged c v ≡ Frame n
 
   stands_if : (judge : List ℕ → Verdict) → ((v : List ℕ) (n : ℕ) → judge v ≡ Frame n → judged c v ≡ Frame n)
       → (o : Option ℕ) (v : List ℕ) → Stopped judge o v → StandsThere o v
-  stands_if judge f none v s = tt
-  stands_if judge f (some n) v s = f v n s
+  stands_if judge f None v s = tt
+  stands_if judge f (Some n) v s = f v n s
 
   pub fed_stands : (piece : List ℕ) (room : ℕ) (h : List ℕ) → StandsThere (feed_lit c h piece room).standing (feed_lit c h piece room).held
   fed_stands piece room h =
@@ -236,7 +236,7 @@ module _ (c : ℕ) where
   last_stands h = let s = settle (judged_last c) h in stands_if (judged_last c) (last_frame c) s.standing s.rest (settle_stopped (judged_last c) h)
 
   -- with none standing nothing is left
-  pub last_empty : (h : List ℕ) → (settle (judged_last c) h).standing ≡ none → (settle (judged_last c) h).rest ≡ []
+  pub last_empty : (h : List ℕ) → (settle (judged_last c) h).standing ≡ None → (settle (judged_last c) h).rest ≡ []
   last_empty h e =
       let s = settle (judged_last c) h in
       ⊎_elim (λ z. z) (λ u. absurd (last_decides c s.rest u)) (subst (λ (o : Option ℕ). Stopped (judged_last c) o s.rest) e (settle_stopped (judged_last c) h))
@@ -249,8 +249,8 @@ module _ (c : ℕ) where
 
   answered : (o : Option ℕ) (p s : ℕ) (v zs : List ℕ) → StandsThere o v
       → skip_many p s (read_run c (p + s) (v ++ zs)) ≡ both (answer o p s v) (read_run c (p + s + size o) (drop (size o) v ++ zs))
-  answered none p s v zs e = ap (λ (k : ℕ). skip_many p s (read_run c k (v ++ zs))) (sym (add-zero (p + s)))
-  answered (some n) p s v zs e = ap (skip_many p s) (framed (p + s) n v zs e)
+  answered None p s v zs e = ap (λ (k : ℕ). skip_many p s (read_run c k (v ++ zs))) (sym (add-zero (p + s)))
+  answered (Some n) p s v zs e = ap (skip_many p s) (framed (p + s) n v zs e)
 
   -- Feed answers what the rule reads up to where it goes on
   pub fed_answers : (piece : List ℕ) (room p : ℕ) (h zs : List ℕ) → let f = feed_lit c h piece room in

@@ -3,7 +3,7 @@
 use mathlib.Core.Path.{◌≡◌, refl, sym, ap, ap₂, ◌∙◌, subst}
 use mathlib.Core.List.{List, [], ◌∷◌, ◌++◌, append-nil}
 use mathlib.Core.Bool.{Bool, true, false, not, cond, ◌&&◌}
-use mathlib.Core.Option.{Option, none, some}
+use Rattle.std.proofs.Common.{Option, None, Some}
 use Prim.Native.Nat.{ℕ, zero, suc, ◌+◌, ◌≤◌}
 use native.Mathlib.Nat.{add-zero}
 use native.Mathlib.Omega.{arith}
@@ -47,9 +47,9 @@ reason_drops c w p l = simp (sync_drops w p l, few_drops w p l, length_drops w p
 
 -- the reason that a verdict has
 abbrev reason_in : Verdict → Option Reason
-reason_in (NoFrame r) = some r
-reason_in (Frame n) = none
-reason_in Undecided = none
+reason_in (NoFrame r) = Some r
+reason_in (Frame n) = None
+reason_in Undecided = None
 
 module _ (v : List ℕ) (s : sync_at v 0 ≡ true) where
   first : get_or v 0 0 ≡ 0x24
@@ -103,8 +103,8 @@ front_why c v =
 -- ---- a place has the cause that counts its reason
 
 abbrev says_of : Cause → Option Reason → ℕ
-says_of k none = 0
-says_of k (some r) = says k r
+says_of k None = 0
+says_of k (Some r) = says k r
 
 -- by what the five tests say: the pair, fewer than eight left, the length, the end, the CRC
 abbrev cause_by : Cause → Bool → Bool → Bool → Bool → Bool → Bool
@@ -115,8 +115,8 @@ cause_by badcrc s f a e r = s && not f && a && e && not r
 
 abbrev reason_by : ℕ → Bool → Bool → Bool → Bool → Bool → Option Reason
 reason_by n s f a e r =
-    cond (not s) (some NoSync)
-    (cond f (some FewLeft) (cond (not a) (some LengthNotAllowed) (cond (not e) (some PastEnd) (cond (not r) (some (CrcWrong n)) none))))
+    cond (not s) (Some NoSync)
+    (cond f (Some FewLeft) (cond (not a) (Some LengthNotAllowed) (cond (not e) (Some PastEnd) (cond (not r) (Some (CrcWrong n)) None))))
 
 says_by : (k : Cause) (n : ℕ) (s f a e r : Bool) → cond (cause_by k s f a e r) 1 0 ≡ says_of k (reason_by n s f a e r)
 says_by few n false f a e r = refl
@@ -163,7 +163,7 @@ module _ (c : ℕ) where
   fed_last v zs r e =
       ap (λ (x : Verdict). last_by x (v ++ zs)) ((judging c).stays v zs (λ u. let z : ◌≡◌ {A = ℕ} 0 1 = cc in omega arith) ∙ e)
 
-  no_reason : (v : List ℕ) (x : Verdict) → judged_last c v ≡ x → reason_in x ≡ none → frame_at c v 0 ≡ true
+  no_reason : (v : List ℕ) (x : Verdict) → judged_last c v ≡ x → reason_in x ≡ None → frame_at c v 0 ≡ true
   no_reason v (NoFrame r) e n = let z : ◌≡◌ {A = ℕ} 0 1 = cc in let f : ⊥ = omega arith in absurd f
   no_reason v (Frame n) e t = (judged_front c v n (last_frame c v n e)).0
   no_reason v Undecided e n = absurd (last_decides c v e)
@@ -217,7 +217,7 @@ module _ (c : ℕ) (v : List ℕ) where
   paired : {r : Reason} → judged_last c v ≡ NoFrame r → (NoFrame NoSync ≡ NoFrame r → ⊥) → sync_at v 0 ≡ true
   paired e n = bool? (sync_at v 0) (λ s. s) (λ s. absurd (n (sym ((last_right c).no_pair v s) ∙ e)))
 
-  counts_pair : (r : Reason) → judged_last c v ≡ NoFrame r → counts (some r) ≡ cond (sync_at v 0) 1 0
+  counts_pair : (r : Reason) → judged_last c v ≡ NoFrame r → counts (Some r) ≡ cond (sync_at v 0) 1 0
   counts_pair NoSync e = rw ((last_right c).pair v e) refl
   counts_pair LengthNotAllowed e = rw (paired e (λ q. let z : ◌≡◌ {A = ℕ} 0 1 = cc in omega arith)) refl
   counts_pair (CrcWrong n) e = rw (paired e (λ q. let z : ◌≡◌ {A = ℕ} 0 1 = cc in omega arith)) refl
@@ -273,7 +273,7 @@ how_many_append k (x ∷ xs) ys = omega (arith, how_many_append k xs ys)
 -- the places of w from p on have these reasons, in this order
 data Reasons (c : ℕ) (w : List ℕ) : ℕ → List Reason → Type 0 where
   no_more : (p : ℕ) → Reasons c w p []
-  one_more : (p : ℕ) (r : Reason) (rs : List Reason) → reason_at c w p ≡ some r → Reasons c w (p + 1) rs → Reasons c w p (r ∷ rs)
+  one_more : (p : ℕ) (r : Reason) (rs : List Reason) → reason_at c w p ≡ Some r → Reasons c w (p + 1) rs → Reasons c w p (r ∷ rs)
 
 module _ (c : ℕ) (w : List ℕ) where
   reasons_append : {p : ℕ} {rs : List Reason} (qs : List Reason) → Reasons c w p rs → Reasons c w (p + length rs) qs → Reasons c w p (rs ++ qs)
@@ -323,8 +323,8 @@ module _ (c : ℕ) (w : List ℕ) where
     feed_by_lem : (o : Option ℕ) (p : ℕ) (h : List ℕ) (b : ℕ) (bs : List ℕ) (next : Intake)
         → Fed (p + length (settle (judged c) h).passed) ((settle (judged c) h).rest ++ b ∷ []) bs next
         → Fed p h (b ∷ bs) (unless_block o (settle (judged c) h) next)
-    feed_by_lem (some n) p h b bs next rec f = settle_reasons (judged c) zs (λ v. fed_last c v zs) h p f
-    feed_by_lem none p h b bs next rec f =
+    feed_by_lem (Some n) p h b bs next rec f = settle_reasons (judged c) zs (λ v. fed_last c v zs) h p f
+    feed_by_lem None p h b bs next rec f =
         let s = settle (judged c) h in
         let ys = take next.taken bs ++ zs in
         let q = from_rest (judged c) h (b ∷ ys) p f in
@@ -370,8 +370,8 @@ module _ (k : Cause) (c : ℕ) (silent : (v : List ℕ) (r : Reason) → judged 
 
   block_none : (o : Option ℕ) (s : Settled) (next : Intake) → how_many k s.passed ≡ 0 → how_many k next.passed ≡ 0
       → how_many k (unless_block o s next).passed ≡ 0
-  block_none (some n) s next e f = e
-  block_none none s next e f = omega (arith, how_many_append k s.passed next.passed)
+  block_none (Some n) s next e f = e
+  block_none None s next e f = omega (arith, how_many_append k s.passed next.passed)
 
   feed_none : (piece : List ℕ) (room : ℕ) (h : List ℕ) → how_many k (feed_lit c h piece room).passed ≡ 0
   unfolding feed_by

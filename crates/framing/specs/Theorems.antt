@@ -1,8 +1,7 @@
 -- What holds of the definitions of framing (rules F8, F11 to F13, F16, C14) under every ceiling c, as statements. Each is the
 -- `ensures` of a function with no code, so that a check names it.
 -- Assumes nothing.
-use Rattle.std.specs.Prelude.{◌≡◌, List, ◌++◌, true, false, ℕ, ◌+◌, ◌≤◌, ◌<◌, min, length, get_or, take, drop}
-use Rattle.std.proofs.Math.Option.{none, some}
+use Rattle.std.specs.Prelude.{◌≡◌, List, ◌++◌, true, false, ℕ, ◌+◌, ◌≤◌, ◌<◌, min, length, get_or, take, drop, None, Some}
 use Rattle.frame.specs.Frame.{sync_at, length_at, allowed, frame_at}
 use Rattle.frame.specs.Judge.{judged, judged_last}
 use Rattle.frame.specs.declared.Reason.TheVariants.{NoSync, FewLeft, PastEnd}
@@ -70,13 +69,13 @@ pub record ReadByTheRule (c : ℕ) : Type 0 where
 -- C14, of More: all it may take is taken, and the held bytes are none or begin with an undecided place (F15)
 abbrev pub MoreDecidesAll : ℕ → Type 0
 MoreDecidesAll c =
-    (held piece : List ℕ) (room : ℕ) → (feed_lit c held piece room).standing ≡ none
+    (held piece : List ℕ) (room : ℕ) → (feed_lit c held piece room).standing ≡ None
     → ((feed_lit c held piece room).taken ≡ min room (length piece)) × (judged c (feed_lit c held piece room).held ≡ Undecided)
 
 -- C14, of a block: a frame of n bytes stands at the front of what is held, all bytes behind the skipped ones are held, and no
 -- fewer bytes of the piece give a block
 pub record BlockDecidesNoMore (c : ℕ) : Type 0 where
-  pub stands : (held piece : List ℕ) (room n : ℕ) → (feed_lit c held piece room).standing ≡ some n → judged c (feed_lit c held piece room).held ≡ Frame n
+  pub stands : (held piece : List ℕ) (room n : ℕ) → (feed_lit c held piece room).standing ≡ Some n → judged c (feed_lit c held piece room).held ≡ Frame n
   pub held : (held piece : List ℕ) (room : ℕ)
       → (feed_lit c held piece room).held ≡ drop (length (feed_lit c held piece room).passed) (held ++ take (feed_lit c held piece room).taken piece)
-  pub least : (held piece : List ℕ) (room t : ℕ) → t < (feed_lit c held piece room).taken → (feed_lit c held (take t piece) room).standing ≡ none
+  pub least : (held piece : List ℕ) (room t : ℕ) → t < (feed_lit c held piece room).taken → (feed_lit c held (take t piece) room).standing ≡ None

@@ -2,7 +2,7 @@
 -- Assumes nothing.
 use mathlib.Core.Path.{◌≡◌, refl, sym, ap}
 use mathlib.Core.Bool.{false}
-use mathlib.Core.Option.{none}
+use Rattle.std.proofs.Common.{None}
 use Prim.Native.Nat.{ℕ, zero, suc, ◌<◌}
 use native.Mathlib.Omega.{arith}
 use lib.ListN.{get_or-eq_default}
@@ -24,7 +24,7 @@ marks_nothing (suc (suc (suc (suc (suc zero))))) kind x a b c d e = absurd (e re
 marks_nothing (suc (suc (suc (suc (suc (suc m)))))) kind x a b c d e = refl
 
 -- nor can a field of such a mark be unset
-pub unset_nothing : (mark kind : ℕ) → (mark ≡ 1 → ⊥) → (mark ≡ 2 → ⊥) → (mark ≡ 3 → ⊥) → (mark ≡ 4 → ⊥) → (mark ≡ 5 → ⊥) → none ≡ unset_of mark kind
+pub unset_nothing : (mark kind : ℕ) → (mark ≡ 1 → ⊥) → (mark ≡ 2 → ⊥) → (mark ≡ 3 → ⊥) → (mark ≡ 4 → ⊥) → (mark ≡ 5 → ⊥) → None ≡ unset_of mark kind
 unfolding unset_of
 unset_nothing zero kind a b c d e = refl
 unset_nothing (suc zero) kind a b c d e = absurd (a refl)

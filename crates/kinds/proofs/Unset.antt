@@ -1,7 +1,7 @@
 -- What an unset field is written with reads as Do-Not-Use: antt computes the test at every type and mark.
 -- Assumes nothing.
 use mathlib.Core.Bool.{Bool, true, false, ◌&&◌, cond}
-use mathlib.Core.Option.{Option, none, some}
+use Rattle.std.proofs.Common.{Option, None, Some}
 use mathlib.Core.Path.{◌≡◌, refl, ap, ◌∙◌, subst}
 use Prim.Native.Nat.{ℕ, ◌^◌, ◌<◌}
 use native.Mathlib.Omega.{arith}
@@ -13,8 +13,8 @@ use Rattle.kinds.proofs.Below.{both, all_below, at}
 use Rattle.kinds.proofs.Marks.{fits_none}
 
 abbrev reads : ℕ → ℕ → Option ℕ → Bool
-reads mark kind none = eqb mark unmarked
-reads mark kind (some bits) = ltb bits (256 ^ size_of kind) && is_do_not_use mark kind bits
+reads mark kind None = eqb mark unmarked
+reads mark kind (Some bits) = ltb bits (256 ^ size_of kind) && is_do_not_use mark kind bits
 
 abbrev right : ℕ → ℕ → Bool
 right kind mark = cond (listed kind && mark_fits kind mark) (reads mark kind (unset_of mark kind)) true
@@ -27,8 +27,8 @@ unfolding size_of mark_fits is_do_not_use unset_of
 all_right = refl
 
 reads-it : (mark kind : ℕ) (o : Option ℕ) → reads mark kind o ≡ true → ReadsUnset mark kind o
-reads-it mark kind none e = eqb-true mark unmarked e
-reads-it mark kind (some bits) e =
+reads-it mark kind None e = eqb-true mark unmarked e
+reads-it mark kind (Some bits) e =
     let b = both (ltb bits (256 ^ size_of kind)) (is_do_not_use mark kind bits) e in
     (ltb-true bits (256 ^ size_of kind) b.0, b.1)
 

@@ -1,8 +1,7 @@
 -- The ten types by the marks, one table: the size of each type, the marks that it may bear, and the bits that are then Do-Not-Use
 -- (rules V1, V3, V4, V10). Computed from the definitions it is the same.
 -- Assumes nothing.
-use Rattle.std.specs.Prelude.{Bool, cond, List, [], ◌∷◌, map, ◌≡◌, ℕ}
-use Rattle.std.proofs.Math.Option.{Option, none, some}
+use Rattle.std.specs.Prelude.{Bool, cond, List, [], ◌∷◌, map, ◌≡◌, ℕ, Option, None, Some}
 use Rattle.kinds.specs.Types.{u1, u2, u4, u8, i1, i2, i4, i8, f4, f8, size_of}
 use Rattle.kinds.specs.Marks.{unmarked, ones, zeroes, minus2e10, least, seed, mark_fits, is_do_not_use}
 
@@ -19,13 +18,13 @@ grid_row kind size tried cells = record { kind = kind; size = size; tried = trie
 
 -- the type may not bear the mark; it may, and of the bits tried none are Do-Not-Use; it may, and of those tried only these are
 abbrev no : Option (List ℕ)
-no = none
+no = None
 
 abbrev never : Option (List ℕ)
-never = some []
+never = Some []
 
 abbrev only : ℕ → Option (List ℕ)
-only bits = some (bits ∷ [])
+only bits = Some (bits ∷ [])
 
 -- tried in 1, 2, 4 and 8 bytes: the bits that a mark names there, and on both sides of each its neighbours; in 2 also both sides
 -- of 2 ^ 12 and of 2 ^ 13
@@ -55,7 +54,7 @@ in8 =
 
 -- V10: those of `in2` whose three highest bits are clear
 abbrev seedless : Option (List ℕ)
-seedless = some (0x0000 ∷ 0x0001 ∷ 0x0FFF ∷ 0x1000 ∷ 0x1FFF ∷ [])
+seedless = Some (0x0000 ∷ 0x0001 ∷ 0x0FFF ∷ 0x1000 ∷ 0x1FFF ∷ [])
 
 -- V3: the marks, and a number that is none
 abbrev pub marks_tried : List ℕ
@@ -81,7 +80,7 @@ those_that p [] = []
 those_that p (x ∷ xs) = cond (p x) (x ∷ those_that p xs) (those_that p xs)
 
 abbrev cell_of : ℕ → List ℕ → ℕ → Option (List ℕ)
-cell_of kind tried mark = cond (mark_fits kind mark) (some (those_that (is_do_not_use mark kind) tried)) none
+cell_of kind tried mark = cond (mark_fits kind mark) (Some (those_that (is_do_not_use mark kind) tried)) None
 
 abbrev computed : GridRow → GridRow
 computed r = grid_row r.kind (size_of r.kind) r.tried (map (cell_of r.kind r.tried) marks_tried)

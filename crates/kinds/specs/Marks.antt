@@ -1,8 +1,7 @@
 -- The marks, one list (rules V3, V4, V10, W6): the types that may bear each, its test for Do-Not-Use, and what an unset field is written
 -- with.
 -- Assumes nothing.
-use Rattle.std.specs.Prelude.{Bool, true, false, cond, List, [], ◌∷◌, ◌≡◌, ℕ, ◌-◌, ◌/◌, ◌^◌, ◌<◌, eqb, get_or}
-use Rattle.std.proofs.Math.Option.{Option, none, some}
+use Rattle.std.specs.Prelude.{Bool, true, false, cond, List, [], ◌∷◌, ◌≡◌, ℕ, ◌-◌, ◌/◌, ◌^◌, ◌<◌, eqb, get_or, Option, None, Some}
 use Rattle.kinds.specs.declared.UnsetAs.{UnsetAs}
 use Rattle.kinds.specs.Types.{u2, size_of, listed, is_unsigned, is_signed, is_float, half}
 
@@ -47,7 +46,7 @@ abbrev pub equals : (ℕ → ℕ) → ℕ → ℕ → Bool
 equals bits size x = eqb x (bits size)
 
 abbrev pub written : (ℕ → ℕ) → ℕ → Option ℕ
-written bits size = some (bits size)
+written bits size = Some (bits size)
 
 -- V10, mark 5: the bits of a u2 from 13 up, the type of PPPInfo's last seed; Do-Not-Use where it is 0, whatever the bits below are
 abbrev pub seed_type : ℕ → ℕ
@@ -61,7 +60,7 @@ abbrev pub no_test : ℕ → ℕ → Bool
 no_test size x = false
 
 abbrev pub cannot : ℕ → Option ℕ
-cannot size = none
+cannot size = None
 
 -- V3: in the order of their numbers
 abbrev pub marks : List Mark
@@ -95,12 +94,12 @@ unset_of mark kind = (mark_of mark).unset (size_of kind)
 
 -- D9: the same by the code's answer
 abbrev pub unset_says : UnsetAs → Option ℕ
-unset_says u = cond u.can (some u.bits) none
+unset_says u = cond u.can (Some u.bits) None
 
 -- what is written for a mark fits the type, and is told as Do-Not-Use; only a field without a mark cannot be unset
 abbrev pub ReadsUnset : ℕ → ℕ → Option ℕ → Type 0
-ReadsUnset mark kind none = mark ≡ unmarked
-ReadsUnset mark kind (some bits) = (bits < 256 ^ size_of kind) × (is_do_not_use mark kind bits ≡ true)
+ReadsUnset mark kind None = mark ≡ unmarked
+ReadsUnset mark kind (Some bits) = (bits < 256 ^ size_of kind) × (is_do_not_use mark kind bits ≡ true)
 
 abbrev pub UnsetIsTold : Type 0
 UnsetIsTold = (kind mark : ℕ) → listed kind ≡ true → mark_fits kind mark ≡ true → ReadsUnset mark kind (unset_of mark kind)

@@ -3,7 +3,6 @@
 #![tactic(auto)]
 
 ghost use Rattle.std.specs.Prelude.{◌≡◌, ◌≤◌};
-ghost use Rattle.std.proofs.Math.Option.{some};
 ghost use Rattle.kinds.specs.Types.{size_of, half};
 ghost use Rattle.kinds.specs.Marks.{all_ones, minus, seed_type, mark_fits, is_do_not_use, unset_of, unset_says, UnsetIsTold};
 ghost use Rattle.kinds.specs.Grid.{GridHolds};
@@ -108,7 +107,7 @@ pub struct UnsetAs {
 }
 
 fn can_be(bits: u64) -> UnsetAs
-    ensures { unset_says result ≡ some bits }
+    ensures { unset_says result ≡ Some bits }
 {
     UnsetAs { can: true, bits }
 }

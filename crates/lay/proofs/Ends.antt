@@ -1,7 +1,7 @@
 -- Where the last carried field ends is the least that holds the carried ones.
 -- Assumes nothing.
 use mathlib.Core.List.{List, [], ◌∷◌}
-use mathlib.Core.Option.{some}
+use Rattle.std.proofs.Common.{Some}
 use mathlib.Core.Path.{◌≡◌, refl, sym, subst}
 use mathlib.Core.Bool.{true}
 use Prim.Native.Nat.{ℕ, zero, suc, ◌≤◌}
@@ -16,7 +16,7 @@ use Rattle.lay.proofs.Low.{none_some}
 
 module _ (revision : ℕ) where
   -- it holds them
-  pub last_holds : (at : ℕ) (fs : List FieldRow) → in_order at fs ≡ true → (i : ℕ) (g : FieldRow) → pick fs i ≡ some g → g.first ≤ revision → ends g ≤ last_end revision at fs
+  pub last_holds : (at : ℕ) (fs : List FieldRow) → in_order at fs ≡ true → (i : ℕ) (g : FieldRow) → pick fs i ≡ Some g → g.first ≤ revision → ends g ≤ last_end revision at fs
   unfolding pick
   last_holds at [] e i g p h = none_some p
   last_holds at (f ∷ fs) e zero g p h =
@@ -29,7 +29,7 @@ module _ (revision : ℕ) where
       (λ l. rw (last_put revision at f fs [] l) (last_holds (ends f) fs (order_rest at f fs e) i g p h))
 
   -- and nothing less does
-  pub last_least : (at : ℕ) (fs : List FieldRow) (m : ℕ) → at ≤ m → ((i : ℕ) (g : FieldRow) → pick fs i ≡ some g → g.first ≤ revision → ends g ≤ m) → last_end revision at fs ≤ m
+  pub last_least : (at : ℕ) (fs : List FieldRow) (m : ℕ) → at ≤ m → ((i : ℕ) (g : FieldRow) → pick fs i ≡ Some g → g.first ≤ revision → ends g ≤ m) → last_end revision at fs ≤ m
   unfolding last_end pick
   last_least at [] m l h = l
   last_least at (f ∷ fs) m l h =

@@ -1,7 +1,7 @@
 -- A field's bytes, and fields one after the other: how long they are, and a loop that stores them, where what is left gives the whole.
 -- Assumes nothing.
 use mathlib.Core.Bool.{Bool, true, ◌&&◌}
-use mathlib.Core.Option.{none}
+use Rattle.std.proofs.Common.{None}
 use mathlib.Core.List.{List, [], ◌∷◌, ◌++◌, append_assoc}
 use mathlib.Core.Path.{◌≡◌, refl, sym, ap, ◌∙◌}
 use Prim.Native.Nat.{ℕ, ◌+◌, ◌-◌, ◌≤◌, ◌<◌}
@@ -64,7 +64,7 @@ module _ (at : ℕ) (f : FieldRow) (fs : List FieldRow) (e : in_order at (f ∷ 
 -- a field that is carried, and one that is not
 module _ (revision at : ℕ) (f : FieldRow) (fs : List FieldRow) (ws : List Wanted) where
   module _ (h : f.first ≤ revision) where
-    pub laid_put : laid revision at (f ∷ fs) ws ≡ zeros (f.offset - at) ++ (field_out f (get_or ws 0 none) ++ laid revision (ends f) fs (drop 1 ws))
+    pub laid_put : laid revision at (f ∷ fs) ws ≡ zeros (f.offset - at) ++ (field_out f (get_or ws 0 None) ++ laid revision (ends f) fs (drop 1 ws))
     unfolding laid
     laid_put = rw (le-leb f.first revision h)
 
@@ -107,10 +107,10 @@ module _ (revision : ℕ) where
       rw (
         laid_put revision at f fs ws h,
         last_put revision at f fs ws h,
-        length-append (zeros (f.offset - at)) (field_out f (get_or ws 0 none) ++ rest),
-        length-append (field_out f (get_or ws 0 none)) rest,
+        length-append (zeros (f.offset - at)) (field_out f (get_or ws 0 None) ++ rest),
+        length-append (field_out f (get_or ws 0 None)) rest,
         length-replicate {A = ℕ} (f.offset - at) 0,
-        length_field f (get_or ws 0 none),
+        length_field f (get_or ws 0 None),
       )
       (omega (arith, b)))
 
@@ -149,16 +149,16 @@ module _ {revision base at : ℕ} {fs : List FieldRow} {ws : List Wanted} {out w
     stores_by : sets out (base + at) (laid revision at (f ∷ rest) ws) ≡ whole
     stores_by = sym (ap (λ (x : List FieldRow). sets out (base + at) (laid revision at x ws)) e) ∙ inv.stores
 
-    allowed_by : (wanted_ok revision f (get_or ws 0 none) && list_ok revision rest (drop 1 ws)) ≡ true
+    allowed_by : (wanted_ok revision f (get_or ws 0 None) && list_ok revision rest (drop 1 ws)) ≡ true
     unfolding list_ok
     allowed_by = sym (ap (λ (x : List FieldRow). list_ok revision x ws) e) ∙ inv.allowed
 
-    pub put_allowed : f.first ≤ revision → {w : Wanted} → w ≡ get_or ws 0 none → is_some (bits_of f w) ≡ true
+    pub put_allowed : f.first ≤ revision → {w : Wanted} → w ≡ get_or ws 0 None → is_some (bits_of f w) ≡ true
     unfolding wanted_ok
-    put_allowed h i = rw i (rw (le-leb f.first revision h) at (both (wanted_ok revision f (get_or ws 0 none)) _ allowed_by).0)
+    put_allowed h i = rw i (rw (le-leb f.first revision h) at (both (wanted_ok revision f (get_or ws 0 None)) _ allowed_by).0)
 
     allowed_rest : {vs : List Wanted} → vs ≡ drop 1 ws → list_ok revision rest vs ≡ true
-    allowed_rest g = rw g (both (wanted_ok revision f (get_or ws 0 none)) _ allowed_by).1
+    allowed_rest g = rw g (both (wanted_ok revision f (get_or ws 0 None)) _ allowed_by).1
 
     pub put_from : at ≤ f.offset
     put_from = order_first at f rest ordered_by
@@ -182,7 +182,7 @@ module _ {revision base at : ℕ} {fs : List FieldRow} {ws : List Wanted} {out w
             stores = rw (g, ← laid_skip revision at f rest ws h) stores_by;
           }
 
-      pub laying_put : f.first ≤ revision → {w : Wanted} → w ≡ get_or ws 0 none → next ≡ sets out (base + at) (zeros (f.offset - at) ++ field_out f w)
+      pub laying_put : f.first ≤ revision → {w : Wanted} → w ≡ get_or ws 0 None → next ≡ sets out (base + at) (zeros (f.offset - at) ++ field_out f w)
           → to ≡ ends f → Laying revision base to rest vs next whole last
       laying_put h {w} i j k =
           let a = put_from in

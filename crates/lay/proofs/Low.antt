@@ -3,7 +3,7 @@
 -- Assumes nothing.
 use mathlib.Core.Bool.{Bool, true, false, cond}
 use mathlib.Core.List.{List, ◌∷◌}
-use mathlib.Core.Option.{Option, none, some, get_or}
+use Rattle.std.proofs.Common.{Option, None, Some, unwrap_or}
 use mathlib.Core.Path.{◌≡◌, refl, ap, ap₂, ◌∙◌}
 use Prim.Native.Nat.{ℕ, zero, suc, ◌+◌, ◌-◌, ◌*◌, ◌/◌, ◌%◌, ◌^◌, ◌<◌, ◌≤◌}
 use native.Mathlib.Nat.{pow-succ', mul_assoc}
@@ -35,45 +35,45 @@ little_over (suc k) n m =
     ap₂ (λ (x : ℕ) (y : List ℕ). x ∷ y) r (ap (little_bytes k) d ∙ little_over k (n / 256) m)
 
 -- none is not some
-pub none_some : {X : Type 0} {A : Type 0} {x : A} → ◌≡◌ {A = Option A} none (some x) → X
+pub none_some : {X : Type 0} {A : Type 0} {x : A} → ◌≡◌ {A = Option A} None (Some x) → X
 none_some e = let z : ◌≡◌ {A = ℕ} 0 1 = cc in let f : ⊥ = omega arith in absurd f
 
 -- where a test decides that there is something, it holds
-pub only_if : {A : Type 0} (b : Bool) (o : Option A) {x : A} → cond b o none ≡ some x → (b ≡ true) × (o ≡ some x)
+pub only_if : {A : Type 0} (b : Bool) (o : Option A) {x : A} → cond b o None ≡ Some x → (b ≡ true) × (o ≡ Some x)
 only_if true o e = (refl, e)
 only_if false o e = none_some e
 
-same_unsigned : (size n y : ℕ) → unsigned_bits size n ≡ some y → n ≡ y
-same_unsigned size n y e = cc (only_if (ltb n (256 ^ size)) (some n) e).1
+same_unsigned : (size n y : ℕ) → unsigned_bits size n ≡ Some y → n ≡ y
+same_unsigned size n y e = cc (only_if (ltb n (256 ^ size)) (Some n) e).1
 
-not_marked : (f : FieldRow) (o : Option ℕ) (y : ℕ) → unless_marked f o ≡ some y → o ≡ some y
-not_marked f none y e = e
-not_marked f (some x) y e = by (is_do_not_use f.mark f.kind x) e where
-  by : (b : Bool) → cond b none (some x) ≡ some y → some x ≡ some y
+not_marked : (f : FieldRow) (o : Option ℕ) (y : ℕ) → unless_marked f o ≡ Some y → o ≡ Some y
+not_marked f None y e = e
+not_marked f (Some x) y e = by (is_do_not_use f.mark f.kind x) e where
+  by : (b : Bool) → cond b None (Some x) ≡ Some y → Some x ≡ Some y
   by true g = none_some g
   by false g = g
 
 -- a negative number in 64 bits, and in fewer: 256 ^ k * m more make 2 ^ 64
 module _ (k h m x y : ℕ) (w : x < 2 ^ 64) (t : 256 ^ k + 256 ^ k * m ≡ 2 ^ 64) where
-  below : x < 2 ^ 63 → signed_within h (256 ^ k) (pos x) ≡ some y → little_bytes k x ≡ little_bytes k y
-  below l e = ap (little_bytes k) (cc (only_if (ltb x h) (some x) e).1)
+  below : x < 2 ^ 63 → signed_within h (256 ^ k) (pos x) ≡ Some y → little_bytes k x ≡ little_bytes k y
+  below l e = ap (little_bytes k) (cc (only_if (ltb x h) (Some x) e).1)
 
-  above : 2 ^ 63 ≤ x → h ≤ 256 ^ k → signed_within h (256 ^ k) (negsuc (2 ^ 63 + 2 ^ 63 - suc x)) ≡ some y → little_bytes k x ≡ little_bytes k y
+  above : 2 ^ 63 ≤ x → h ≤ 256 ^ k → signed_within h (256 ^ k) (negsuc (2 ^ 63 + 2 ^ 63 - suc x)) ≡ Some y → little_bytes k x ≡ little_bytes k y
   above l s e =
       let n = 2 ^ 63 + 2 ^ 63 - suc x in
-      let o = only_if (ltb n h) (some (256 ^ k - suc n)) e in
+      let o = only_if (ltb n h) (Some (256 ^ k - suc n)) e in
       let u : n < h = ltb-true _ _ o.0 in
       let q : 256 ^ k - suc n ≡ y = cc o.1 in
       let v : x ≡ y + 256 ^ k * m = omega arith in
       ap (little_bytes k) v ∙ little_over k y m
 
-  signed_low : h ≤ 256 ^ k → signed_within h (256 ^ k) (with_sign (2 ^ 63) x) ≡ some y → little_bytes k x ≡ little_bytes k y
+  signed_low : h ≤ 256 ^ k → signed_within h (256 ^ k) (with_sign (2 ^ 63) x) ≡ Some y → little_bytes k x ≡ little_bytes k y
   unfolding with_sign
   signed_low s e =
       lt? x (2 ^ 63) (λ l. below l (rw (lt-ltb x (2 ^ 63) l) at e)) (λ g. above g s (rw (le-ltb x (2 ^ 63) g) at e))
 
 -- by the types with sign
-signed_kinds : (kind x y : ℕ) → x < 2 ^ 64 → 5 ≤ kind → kind ≤ 8 → signed_bits (size_of kind) (with_sign (half 8) x) ≡ some y
+signed_kinds : (kind x y : ℕ) → x < 2 ^ 64 → 5 ≤ kind → kind ≤ 8 → signed_bits (size_of kind) (with_sign (half 8) x) ≡ Some y
     → little_bytes (size_of kind) x ≡ little_bytes (size_of kind) y
 unfolding size_of
 signed_kinds kind x y w a b e =
@@ -86,7 +86,7 @@ module _ (f : FieldRow) (x y : ℕ) (w : x < 2 ^ 64) where
   abbrev Low : Type 0
   Low = little_bytes (size_of f.kind) x ≡ little_bytes (size_of f.kind) y
 
-  low_bytes : (k : ℕ) → (k ≡ 0 → ⊥) → bits_of f (wanted_of k x) ≡ some y → Low
+  low_bytes : (k : ℕ) → (k ≡ 0 → ⊥) → bits_of f (wanted_of k x) ≡ Some y → Low
   unfolding wanted_of bits_of bits_for
   low_bytes zero n e = absurd (n refl)
   low_bytes (suc zero) n e =
@@ -102,11 +102,11 @@ module _ (f : FieldRow) (x y : ℕ) (w : x < 2 ^ 64) where
   low_bytes (suc (suc (suc (suc (suc k))))) n e = none_some (not_marked f _ y e)
 
 -- what is there is there
-there : (o : Option ℕ) → is_some o ≡ true → o ≡ some (get_or o 0)
-there none e = let z : ◌≡◌ {A = ℕ} 0 1 = ap (λ (b : Bool). cond b 1 0) e in let f : ⊥ = omega arith in absurd f
-there (some x) e = refl
+there : (o : Option ℕ) → is_some o ≡ true → o ≡ Some (unwrap_or o 0)
+there None e = let z : ◌≡◌ {A = ℕ} 0 1 = ap (λ (b : Bool). cond b 1 0) e in let f : ⊥ = omega arith in absurd f
+there (Some x) e = refl
 
-by_answer : (b : Bool) (x y : ℕ) → cond b (some x) none ≡ some y → x ≡ y
+by_answer : (b : Bool) (x y : ℕ) → cond b (Some x) None ≡ Some y → x ≡ y
 by_answer true x y e = cc
 by_answer false x y e = none_some e
 
@@ -115,8 +115,8 @@ module _ (f : FieldRow) (k x : ℕ) (a : is_some (bits_of f (wanted_of k x)) ≡
   pub given_unset : k ≡ 0 → (u : UnsetAs) → unset_says u ≡ unset_of f.mark f.kind → little_bytes (size_of f.kind) u.bits ≡ field_out f (wanted_of k x)
   unfolding wanted_of bits_of
   given_unset e u g =
-      let o : unset_of f.mark f.kind ≡ some (get_or (unset_of f.mark f.kind) 0) = there (unset_of f.mark f.kind) (rw e at a) in
+      let o : unset_of f.mark f.kind ≡ Some (unwrap_or (unset_of f.mark f.kind) 0) = there (unset_of f.mark f.kind) (rw e at a) in
       rw e (ap (little_bytes (size_of f.kind)) (by_answer u.can u.bits _ (g ∙ o)))
 
   pub given_value : (k ≡ 0 → ⊥) → x < 2 ^ 64 → little_bytes (size_of f.kind) x ≡ field_out f (wanted_of k x)
-  given_value n w = low_bytes f x (get_or (bits_of f (wanted_of k x)) 0) w k n (there (bits_of f (wanted_of k x)) a)
+  given_value n w = low_bytes f x (unwrap_or (bits_of f (wanted_of k x)) 0) w k n (there (bits_of f (wanted_of k x)) a)

@@ -1,8 +1,6 @@
 -- The bytes of fields (rules W6, W8).
 -- Assumes nothing.
-use Rattle.std.specs.Prelude.{ℕ, ◌-◌, cond, List, [], ◌∷◌, ◌++◌, get_or, drop, replicate}
-use Rattle.std.proofs.Math.Option
-use Rattle.std.proofs.Math.Option.{none}
+use Rattle.std.specs.Prelude.{ℕ, ◌-◌, cond, List, [], ◌∷◌, ◌++◌, get_or, drop, replicate, None, unwrap_or}
 use Rattle.kinds.specs.Types.{size_of}
 use Rattle.rows.specs.declared.FieldRow.{FieldRow}
 use Rattle.table.specs.Rows.{ends}
@@ -13,7 +11,7 @@ use Rattle.entry.specs.Bits.{bits_of}
 
 -- W6: the bytes of a field
 abbrev pub field_bits : FieldRow → Wanted → ℕ
-field_bits f w = Option.get_or (bits_of f w) 0
+field_bits f w = unwrap_or (bits_of f w) 0
 
 abbrev pub field_out : FieldRow → Wanted → List ℕ
 field_out f w = little_bytes (size_of f.kind) (field_bits f w)
@@ -26,5 +24,5 @@ unfoldable pub laid : ℕ → ℕ → List FieldRow → List Wanted → List ℕ
 laid revision at [] ws = []
 laid revision at (f ∷ fs) ws =
     cond (carried revision f)
-    (zeros (f.offset - at) ++ (field_out f (get_or ws 0 none) ++ laid revision (ends f) fs (drop 1 ws)))
+    (zeros (f.offset - at) ++ (field_out f (get_or ws 0 None) ++ laid revision (ends f) fs (drop 1 ws)))
     (laid revision at fs (drop 1 ws))

@@ -1,7 +1,7 @@
 -- What the loops ask of the reader: a call takes no more than it is offered.
 -- Assumes nothing.
 use mathlib.Core.List.{List}
-use mathlib.Core.Option.{Option, none, some}
+use Rattle.std.proofs.Common.{Option, None, Some}
 use Prim.Native.Nat.{ℕ, ◌+◌, ◌-◌, ◌≤◌}
 use native.Mathlib.Omega.{arith}
 use lib.ListN.{length, take, drop, length-drop}
@@ -28,8 +28,8 @@ taken_of (ended c) = 0
 taken_of (waited w) = 0
 
 few_by : (o : Option ℕ) (s : State) (hold piece h : List ℕ) (c room : ℕ) → taken_of (unless o s hold (feeding_by (feed_lit c h piece room) s hold)).said ≤ length piece
-few_by (some n) s hold piece h c room = omega arith
-few_by none s hold piece h c room = omega (arith, (call (judged c) (judging c).fits h piece room).taken)
+few_by (Some n) s hold piece h c room = omega arith
+few_by None s hold piece h c room = omega (arith, (call (judged c) (judging c).fits h piece room).taken)
 
 pub taken_few : (s : State) (hold piece : List ℕ) → taken_of (feed_of s hold piece).said ≤ length piece
 unfolding feed_of feeding_of

@@ -4,7 +4,7 @@ use Prim.Native.Nat.{ℕ, suc, ◌+◌, ◌-◌, ◌≤◌, ◌<◌}
 use mathlib.Core.Path.{◌≡◌, refl, sym, ap, ap₂, ◌∙◌}
 use mathlib.Core.Bool.{Bool, true, false, ◌&&◌}
 use mathlib.Core.List.{List, [], ◌∷◌, ◌++◌, append_assoc, append-nil}
-use mathlib.Core.Option.{Option, none, some}
+use Rattle.std.proofs.Common.{Option, None, Some}
 use native.Mathlib.Numerals.{add-one}
 use native.Mathlib.Omega.{arith}
 use lib.Dec.{eqb, ltb}
@@ -165,7 +165,7 @@ module _ (s : List ℕ) where
 
 pub stamped : (n r k x l y : ℕ) (a b : Bool)
     → head_says (a && b) (record { number = n; revision = r; tow = entry_of (k, x); wnc = entry_of (l, y) })
-    ≡ head_by (some n) (some r) (kind_says a k x) (kind_says b l y)
+    ≡ head_by (Some n) (Some r) (kind_says a k x) (kind_says b l y)
 stamped n r k x l y true true = refl
 stamped n r k x l y true false = refl
 stamped n r k x l y false true = refl
@@ -179,12 +179,12 @@ same_head {a} {b} {c} {d} {k} {l} {m} {n} e f g h =
 
 -- lists found, and those of the rest behind them
 abbrev pub behind_lists : List ℕ → List ℕ → Option TwoLists → Option TwoLists
-behind_lists ks xs none = none
-behind_lists ks xs (some l) = some (ks ++ l.0, xs ++ l.1)
+behind_lists ks xs None = None
+behind_lists ks xs (Some l) = Some (ks ++ l.0, xs ++ l.1)
 
 pub lists_start : (o : Option TwoLists) → behind_lists [] [] o ≡ o
-lists_start none = refl
-lists_start (some l) = refl
+lists_start None = refl
+lists_start (Some l) = refl
 
 grown : (g : List ℕ) (n x : ℕ) (m : List ℕ) → n < length g → take (n + 1) (set g n x) ++ m ≡ take n g ++ (x ∷ m)
 grown g n x m h =
@@ -192,25 +192,25 @@ grown g n x m h =
     ap (λ (l : List ℕ). l ++ m) e ∙ append_assoc (take n g) (x ∷ []) m
 
 lists_more : (ks xs : List ℕ) (n k x : ℕ) (o : Option TwoLists) → n < length ks → n < length xs
-    → behind_lists (take (n + 1) (set ks n k)) (take (n + 1) (set xs n x)) o ≡ behind_lists (take n ks) (take n xs) (value_before (some (k, x)) o)
-lists_more ks xs n k x none h j = refl
-lists_more ks xs n k x (some l) h j = ap₂ (λ (a b : List ℕ). some (a, b)) (grown ks n k l.0 h) (grown xs n x l.1 j)
+    → behind_lists (take (n + 1) (set ks n k)) (take (n + 1) (set xs n x)) o ≡ behind_lists (take n ks) (take n xs) (value_before (Some (k, x)) o)
+lists_more ks xs n k x None h j = refl
+lists_more ks xs n k x (Some l) h j = ap₂ (λ (a b : List ℕ). Some (a, b)) (grown ks n k l.0 h) (grown xs n x l.1 j)
 
 abbrev many : Option (ℕ × ℕ) → ℕ
-many none = 0
-many (some v) = 1
+many None = 0
+many (Some v) = 1
 
 -- a word that is a value has a byte at least
-pub value_long : (w : List ℕ) (v : ℕ × ℕ) → value_in w ≡ some v → 0 < length w
+pub value_long : (w : List ℕ) (v : ℕ × ℕ) → value_in w ≡ Some v → 0 < length w
 value_long [] v e = let z : ◌≡◌ {A = ℕ} 0 1 = ap many (value_empty [] refl ∙ e) in omega arith
 value_long (c ∷ w) v e = omega arith
 
 module _ (s : List ℕ) (p : ℕ) (ks xs : List ℕ) (n : ℕ) (h : p ≤ length s) where
-  pub lists_stop : value_in (word_at s p) ≡ none → none ≡ behind_lists (take n ks) (take n xs) (lists_in (words_from s p))
+  pub lists_stop : value_in (word_at s p) ≡ None → None ≡ behind_lists (take n ks) (take n xs) (lists_in (words_from s p))
   unfolding lists_in
   lists_stop e = sym (ap (λ (ws : List (List ℕ)). behind_lists (take n ks) (take n xs) (lists_in ws)) (words_at s p h) ∙ rw e)
 
-  pub lists_go : (k x : ℕ) → n < length ks → n < length xs → value_in (word_at s p) ≡ some (k, x)
+  pub lists_go : (k x : ℕ) → n < length ks → n < length xs → value_in (word_at s p) ≡ Some (k, x)
       → behind_lists (take (n + 1) (set ks n k)) (take (n + 1) (set xs n x)) (lists_in (words_from s (behind_word s p)))
       ≡ behind_lists (take n ks) (take n xs) (lists_in (words_from s p))
   unfolding lists_in
@@ -219,9 +219,9 @@ module _ (s : List ℕ) (p : ℕ) (ks xs : List ℕ) (n : ℕ) (h : p ≤ length
       ∙ ap (λ (o : Option (ℕ × ℕ)). behind_lists (take n ks) (take n xs) (value_before o (lists_in (words_from s (behind_word s p))))) (sym e)
       ∙ sym (ap (λ (ws : List (List ℕ)). behind_lists (take n ks) (take n xs) (lists_in ws)) (words_at s p h))
 
-pub lists_end : (s : List ℕ) (p : ℕ) (ks xs : List ℕ) → length s < p → some (ks, xs) ≡ behind_lists ks xs (lists_in (words_from s p))
+pub lists_end : (s : List ℕ) (p : ℕ) (ks xs : List ℕ) → length s < p → Some (ks, xs) ≡ behind_lists ks xs (lists_in (words_from s p))
 unfolding lists_in
-lists_end s p ks xs h = rw (words_past s p h) (ap₂ (λ (a b : List ℕ). some (a, b)) (sym (append-nil ks)) (sym (append-nil xs)))
+lists_end s p ks xs h = rw (words_past s p h) (ap₂ (λ (a b : List ℕ). Some (a, b)) (sym (append-nil ks)) (sym (append-nil xs)))
 
 -- ---- the line
 

@@ -1,7 +1,6 @@
 -- Working definitions for the code: words from a place of a text on, and what the answers say.
 -- Assumes nothing.
-use Rattle.std.specs.Prelude.{ℕ, ◌+◌, Bool, true, false, cond, List, [], leb, length, take, drop}
-use Rattle.std.proofs.Math.Option.{Option, none, some}
+use Rattle.std.specs.Prelude.{ℕ, ◌+◌, Bool, true, false, cond, List, [], leb, length, take, drop, Option, None, Some}
 use Rattle.words.specs.Words.{up_to}
 use Rattle.draft.specs.declared.Head.{Head}
 use Rattle.lists.specs.Line.{TwoLists, words_of}
@@ -18,13 +17,13 @@ unfoldable pub words_from : List ℕ → ℕ → List (List ℕ)
 words_from s p = cond (leb p (length s)) (words_of (drop p s)) []
 
 abbrev pub head_says : Bool → Head → Option Head
-head_says true h = some h
-head_says false h = none
+head_says true h = Some h
+head_says false h = None
 
 abbrev pub lists_say : Bool → List ℕ → List ℕ → Option TwoLists
-lists_say true kinds bits = some (kinds, bits)
-lists_say false kinds bits = none
+lists_say true kinds bits = Some (kinds, bits)
+lists_say false kinds bits = None
 
 abbrev pub line_says : Bool → Head → List ℕ → List ℕ → Option (Head × TwoLists)
-line_says true h kinds bits = some (h, (kinds, bits))
-line_says false h kinds bits = none
+line_says true h kinds bits = Some (h, (kinds, bits))
+line_says false h kinds bits = None

@@ -2,7 +2,6 @@
 #![tactic(auto)]
 
 ghost use Rattle.std.specs.Prelude.{◌*◌, ◌≤◌, ◌≡◌, false, length, take};
-ghost use Rattle.std.proofs.Math.Option.{none};
 ghost use Rattle.words.specs.Words.{number_says};
 ghost use Rattle.words.specs.Values.{valued_says};
 ghost use Rattle.lists.specs.Line.{lists_in, head_by, line_in};
@@ -57,7 +56,7 @@ fn word_at(text: &[u8], from: usize) -> &[u8]
 }
 
 fn no_head() -> HeadRead
-    ensures { head_says result.good result.head ≡ none }
+    ensures { head_says result.good result.head ≡ None }
 {
     let unset = Entry { kind: 0, bits: 0 };
     HeadRead {

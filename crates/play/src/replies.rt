@@ -1,7 +1,6 @@
 // What a call that may write answered, as a reply: it says what the answer says, and a version is told as its call's. The same of
 // Write.
 ghost use Rattle.std.specs.Prelude.{◌≡◌, false, T};
-ghost use Rattle.std.proofs.Math.Option.{some};
 ghost use Rattle.tables.specs.Said.{said_opened, said_staged, said_withdrawn};
 ghost use Rattle.runs.specs.Said.{said_fed, said_finished};
 ghost use Rattle.writer.specs.Write.{written_says};
@@ -66,7 +65,7 @@ pub fn withdrawn(a: Withdrawn) -> RunReply
 // The CRC is told where a block was written.
 pub fn written(a: Written, crc: u16) -> AskReply
     ensures t { T (plainly result) }
-    ensures result_value { (wrote_says result ≡ some (written_says a)) × (crc_told result crc ≡ crc) }
+    ensures result_value { (wrote_says result ≡ Some (written_says a)) × (crc_told result crc ≡ crc) }
 {
     match a {
         Written::Length(count) => AskReply::Written(PartCrc { count, crc }),

@@ -1,7 +1,6 @@
 -- Pseudoranges in whole millimetres (rules V11, V12), by the numbers in the fields.
 -- Assumes nothing.
-use Rattle.std.specs.Prelude.{ℕ, ◌+◌, ◌*◌, ◌%◌, Bool, false, ◌&&◌, ◌||◌, cond, eqb, ℤ, pos, negsuc, ◌+ℤ◌, ◌*ℤ◌}
-use Rattle.std.proofs.Math.Option.{Option, none, some}
+use Rattle.std.specs.Prelude.{ℕ, ◌+◌, ◌*◌, ◌%◌, Bool, false, ◌&&◌, ◌||◌, cond, eqb, ℤ, pos, negsuc, ◌+ℤ◌, ◌*ℤ◌, Option, None, Some}
 use Rattle.value.specs.Said.{FieldSaid, signed, do_not_use, field_refused}
 use Rattle.value.specs.Bits.{with_sign}
 
@@ -44,13 +43,13 @@ pub record Two : Type 0 where
 
 -- C16: what Range answers; R9: one of them is no number
 abbrev pub range_said : Option Two → FieldSaid
-range_said none = field_refused 9
-range_said (some p) = cond (no_first p.high p.low) do_not_use (signed (pos (first_range p.high p.low)))
+range_said None = field_refused 9
+range_said (Some p) = cond (no_first p.high p.low) do_not_use (signed (pos (first_range p.high p.low)))
 
 -- C16: what Range2 answers; R9 comes before Do-Not-Use
 abbrev pub range2_said : Option Two → Option Two → FieldSaid
-range2_said none q = field_refused 9
-range2_said (some p) none = field_refused 9
-range2_said (some p) (some q) =
+range2_said None q = field_refused 9
+range2_said (Some p) None = field_refused 9
+range2_said (Some p) (Some q) =
     cond (no_first p.high p.low || no_offset q.high q.low) do_not_use
     (signed (second_range (first_range p.high p.low) q.high q.low))

@@ -2,7 +2,7 @@
 -- Assumes nothing.
 use mathlib.Core.Path.{◌≡◌, refl, sym, ap, ◌∙◌}
 use mathlib.Core.List.{List}
-use mathlib.Core.Option.{Option, none, some}
+use Rattle.std.proofs.Common.{Option, None, Some}
 use Prim.Native.Nat.{ℕ}
 use native.Mathlib.Omega.{arith}
 use Rattle.reader.specs.Said.{Said, refused, version}
@@ -14,17 +14,17 @@ refusal_keeps = record { all = λ n s lent done. refl; empty = λ n part. refl }
 
 module _ (s : State) (l : List ℕ) (d : Outcome) where
   pub refused_by_lem : (o : Option ℕ) (n : ℕ) {v : ℕ} → d.said ≡ version v → (unless o s l d).said ≡ refused n → unless o s l d ≡ outcome (refused n) s l
-  refused_by_lem (some m) n e f = let q : m ≡ n = cc in ap (λ (k : ℕ). outcome (refused k) s l) q
-  refused_by_lem none n e f = let z : ◌≡◌ {A = ℕ} 0 1 = cc in let g : ⊥ = omega arith in absurd g
+  refused_by_lem (Some m) n e f = let q : m ≡ n = cc in ap (λ (k : ℕ). outcome (refused k) s l) q
+  refused_by_lem None n e f = let z : ◌≡◌ {A = ℕ} 0 1 = cc in let g : ⊥ = omega arith in absurd g
 
-  pub accepted_by : (o : Option ℕ) {v : ℕ} → (unless o s l d).said ≡ version v → o ≡ none
-  accepted_by (some m) f = let z : ◌≡◌ {A = ℕ} 0 1 = cc in let g : ⊥ = omega arith in absurd g
-  accepted_by none f = refl
+  pub accepted_by : (o : Option ℕ) {v : ℕ} → (unless o s l d).said ≡ version v → o ≡ None
+  accepted_by (Some m) f = let z : ◌≡◌ {A = ℕ} 0 1 = cc in let g : ⊥ = omega arith in absurd g
+  accepted_by None f = refl
 
-  pub is_refused : (o : Option ℕ) (n : ℕ) → o ≡ some n → outcome (refused n) s l ≡ unless o s l d
+  pub is_refused : (o : Option ℕ) (n : ℕ) → o ≡ Some n → outcome (refused n) s l ≡ unless o s l d
   is_refused o n e = sym (ap (λ (x : Option ℕ). unless x s l d) e)
 
-  pub is_done : (o : Option ℕ) → o ≡ none → d ≡ unless o s l d
+  pub is_done : (o : Option ℕ) → o ≡ None → d ≡ unless o s l d
   is_done o e = sym (ap (λ (x : Option ℕ). unless x s l d) e)
 
 -- ---- outcomes that are equal part by part

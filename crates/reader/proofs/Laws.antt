@@ -3,7 +3,7 @@
 use mathlib.Core.Path.{◌≡◌, refl}
 use mathlib.Core.Bool.{Bool, true, false, ◌&&◌}
 use mathlib.Core.List.{List}
-use mathlib.Core.Option.{Option, none}
+use Rattle.std.proofs.Common.{Option, None}
 use Prim.Native.Nat.{ℕ, ◌≤◌}
 use native.Mathlib.Omega.{arith}
 use lib.ListN.{length}
@@ -18,7 +18,7 @@ use Rattle.reader.specs.declared.State.{State}
 
 -- ---- refusals in a row
 
-pub passes : (b : Bool) (n : ℕ) (rest : Option ℕ) → need b n rest ≡ none → (b ≡ true) × (rest ≡ none)
+pub passes : (b : Bool) (n : ℕ) (rest : Option ℕ) → need b n rest ≡ None → (b ≡ true) × (rest ≡ None)
 passes true n rest e = (refl, e)
 passes false n rest e = let z : ◌≡◌ {A = ℕ} 0 1 = cc in let f : ⊥ = omega arith in absurd f
 

@@ -1,7 +1,6 @@
 -- What a call did is counted (rule F14).
 -- Assumes nothing.
-use Rattle.std.specs.Prelude.{ℕ, ◌+◌, length}
-use Rattle.std.proofs.Math.Option.{Option, none, some}
+use Rattle.std.specs.Prelude.{ℕ, ◌+◌, length, Option, None, Some}
 use Rattle.scan.specs.Feed.{Intake}
 use Rattle.reader.specs.declared.Counts.{Counts}
 use Rattle.reader.specs.declared.Run.{Run}
@@ -9,8 +8,8 @@ use Rattle.reader.specs.declared.State.{State}
 
 -- F14: a block, or none
 abbrev pub one : Option ℕ → ℕ
-one none = 0
-one (some n) = 1
+one None = 0
+one (Some n) = 1
 
 -- F14: the bytes taken, the block that stands, the bytes skipped
 abbrev pub counted : Counts → Intake → Counts

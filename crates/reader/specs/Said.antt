@@ -1,8 +1,7 @@
 -- What a call answers, by the numbers and values of the rules (D9). How a block's report is read stands here, and how each answer
 -- of the code is read beside its call; no two answers of one call read the same.
 -- Assumes nothing.
-use Rattle.std.specs.Prelude.{ℕ, Bool}
-use Rattle.std.proofs.Math.Option.{Option, none, some}
+use Rattle.std.specs.Prelude.{ℕ, Bool, Option, None, Some}
 use Rattle.refusal.specs.Numbers.{number_for}
 use Rattle.reader.specs.declared.Block.{Block}
 use Rattle.reader.specs.declared.Counts.{Counts}
@@ -34,5 +33,5 @@ pub data Said : Type 0 where
 
 -- R22: a refusal's number, or none
 abbrev pub refusal_of : Check → Option ℕ
-refusal_of check.Passed = none
-refusal_of (check.Refused r) = some (number_for r)
+refusal_of check.Passed = None
+refusal_of (check.Refused r) = Some (number_for r)

@@ -3,7 +3,6 @@
 #![tactic(auto)]
 
 ghost use Rattle.std.specs.Prelude.{◌≡◌, ◌&&◌, leb};
-ghost use Rattle.std.proofs.Math.Option.{none};
 ghost use Rattle.reader.specs.State.{phase_number, no_counts, default_settings, new_state, sound};
 ghost use Rattle.reader.specs.Said.{refusal_of};
 ghost use Rattle.reader.specs.Refusals.{is_closed, need};
@@ -134,7 +133,7 @@ pub fn may_call(s: State, hold: usize) -> bool
 
 // R1 of a call that is lent nothing.
 pub fn of_state(s: State) -> Check
-    ensures { refusal_of result ≡ need (sound s) 1 none }
+    ensures { refusal_of result ≡ need (sound s) 1 None }
 {
     if is_sound(s) {
         Check::Passed

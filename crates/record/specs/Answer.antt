@@ -1,7 +1,6 @@
 -- What the code's answers say, by the rules' values and numbers (V7, D9); those of a value are the crate `value`'s, passed on here.
 -- Assumes nothing.
-use Rattle.std.specs.Prelude.{ℕ, ◌≡◌, Bool, true}
-use Rattle.std.proofs.Math.Option.{Option, none, some}
+use Rattle.std.specs.Prelude.{ℕ, ◌≡◌, Bool, true, Option, None, Some}
 use Rattle.refusal.specs.Numbers.{number_for, refusal_numbered}
 use Rattle.value.specs.Said.{no_nan}
 use Rattle.value.specs.declared.Value.TheVariants.{Unsigned, Signed, DoNotUse, NotInRevision}
@@ -38,5 +37,5 @@ no_nan_in (answer.Refused r) = true
 
 -- R22: what the twin call tells
 abbrev pub handed_says : Handed → Option ℕ
-handed_says (handed.Refused r) = some (number_for r)
-handed_says handed.Given = none
+handed_says (handed.Refused r) = Some (number_for r)
+handed_says handed.Given = None

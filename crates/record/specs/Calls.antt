@@ -1,7 +1,6 @@
 -- What each record call answers, of a decoded table and a block's bytes (rules C13, V5 to V8).
 -- Assumes nothing.
-use Rattle.std.specs.Prelude.{ℕ, List, [], cond, take, drop, leb}
-use Rattle.std.proofs.Math.Option.{Option, none, some}
+use Rattle.std.specs.Prelude.{ℕ, List, [], cond, take, drop, leb, Option, None, Some}
 use Rattle.frame.specs.Frame.{whole_frame}
 use Rattle.kinds.specs.Types.{u2, u4}
 use Rattle.kinds.specs.Marks.{ones}
@@ -20,8 +19,8 @@ field_said revision s f = cond (carried revision f) (field_value s f) not_in_rev
 
 -- R9: no row has the number
 abbrev pub field_or9 : ℕ → List ℕ → Option FieldRow → FieldSaid
-field_or9 revision s none = field_refused 9
-field_or9 revision s (some f) = field_said revision s f
+field_or9 revision s None = field_refused 9
+field_or9 revision s (Some f) = field_said revision s f
 
 -- C13: Body, with the number i
 abbrev pub body_by : List ℕ → ℕ → Seen → FieldSaid
@@ -64,8 +63,8 @@ sub_place tab b k = place_by b k (seen_sub tab b k)
 
 -- R22: what the twin call tells
 abbrev pub number_by : Seen → Option ℕ
-number_by (refused_by n) = some n
-number_by (row r) = none
+number_by (refused_by n) = Some n
+number_by (row r) = None
 
 unfoldable pub sub_block_refusal : Table → List ℕ → ℕ → Option ℕ
 sub_block_refusal tab b k = number_by (seen_sub tab b k)

@@ -3,7 +3,7 @@
 use mathlib.Core.Path.{◌≡◌, refl, sym, ap}
 use mathlib.Core.Bool.{true, ◌&&◌}
 use mathlib.Core.List.{List, []}
-use mathlib.Core.Option.{Option, none, some}
+use Rattle.std.proofs.Common.{Option, None, Some}
 use Prim.Native.Nat.{ℕ, ◌≤◌}
 use native.Mathlib.Omega.{arith}
 use lib.ListN.{length}
@@ -32,26 +32,26 @@ pub record Asked (s : State) (force : List ℕ) : Type 0 where
   pub fits : s.in_force ≤ length force
   pub ok : table_ok (table_in_force s force) ≡ true
 
-pub asked : (s : State) (force : List ℕ) → ask_refusal s force ≡ none → Asked s force
+pub asked : (s : State) (force : List ℕ) → ask_refusal s force ≡ None → Asked s force
 unfolding ask_refusal
 asked s force e =
     let p = passes (sound s && long_store force) 1 (need (ltb 0 s.in_force) 5 (table_refusal (table_in_force s force))) e in
     let q = passes (ltb 0 s.in_force) 5 (table_refusal (table_in_force s force)) p.1 in
     let f = with_store s force p.0 in
-    record { fits = omega (arith, f.0.in_force, f.1); ok = (passes (table_ok (table_in_force s force)) 4 none q.1).0 }
+    record { fits = omega (arith, f.0.in_force, f.1); ok = (passes (table_ok (table_in_force s force)) 4 None q.1).0 }
 
 -- an answer that is a refusal, and one that is not
-pub unless_refused_lem : (o : Option ℕ) (x : Refusal) (said : FieldSaid) → o ≡ some (number_for x) → Answers (answer.Refused x) (said_unless o said)
+pub unless_refused_lem : (o : Option ℕ) (x : Refusal) (said : FieldSaid) → o ≡ Some (number_for x) → Answers (answer.Refused x) (said_unless o said)
 unless_refused_lem o x said e = same (sym (ap (λ (p : Option ℕ). said_unless p said) e)) (refuses x)
 
-pub unless_none : (o : Option ℕ) {r : Answer} (said : FieldSaid) → o ≡ none → Answers r said → Answers r (said_unless o said)
+pub unless_none : (o : Option ℕ) {r : Answer} (said : FieldSaid) → o ≡ None → Answers r said → Answers r (said_unless o said)
 unless_none o said e h = same (sym (ap (λ (p : Option ℕ). said_unless p said) e)) h
 
 -- the part that stands at a call's place is the one that it hands back
 place_by_lem : (o : Option ℕ) (b : List ℕ) (p : Span) {q : List ℕ} → sub_slice b p ≡ q → sub_slice b (place_unless o p) ≡ part_unless o q
 unfolding sub_slice
-place_by_lem none b p e = e
-place_by_lem (some n) b p e = refl
+place_by_lem None b p e = e
+place_by_lem (Some n) b p e = refl
 
 pub place_bytes : (s : State) (force block : List ℕ) (k : ℕ) → sub_slice block (sub_place_of s force block k) ≡ sub_bytes_of s force block k
 unfolding sub_place_of sub_bytes_of
@@ -60,11 +60,11 @@ place_bytes s force block k =
     place_by_lem (ask_refusal s force) block (sub_place tab block k) (part_at tab block k)
 
 -- and it is empty where the call is refused
-empty_by : (o p : Option ℕ) (n : ℕ) (b : List ℕ) → first_of o p ≡ some n → (p ≡ some n → b ≡ []) → part_unless o b ≡ []
-empty_by none p n b e f = f e
-empty_by (some m) p n b e f = refl
+empty_by : (o p : Option ℕ) (n : ℕ) (b : List ℕ) → first_of o p ≡ Some n → (p ≡ Some n → b ≡ []) → part_unless o b ≡ []
+empty_by None p n b e f = f e
+empty_by (Some m) p n b e f = refl
 
-pub sub_bytes_empty : (s : State) (force block : List ℕ) (k n : ℕ) → sub_bytes_refusal s force block k ≡ some n → sub_bytes_of s force block k ≡ []
+pub sub_bytes_empty : (s : State) (force block : List ℕ) (k n : ℕ) → sub_bytes_refusal s force block k ≡ Some n → sub_bytes_of s force block k ≡ []
 unfolding sub_bytes_of sub_bytes_refusal sub_block sub_block_refusal
 sub_bytes_empty s force block k n e =
     empty_by (ask_refusal s force) _ n _ e (refused_part block k (seen_sub (decode (table_in_force s force)) block k) n)

@@ -2,7 +2,7 @@
 -- Assumes nothing.
 use mathlib.Core.Path.{◌≡◌, ap}
 use mathlib.Core.List.{List, []}
-use mathlib.Core.Option.{Option, some}
+use Rattle.std.proofs.Common.{Option, Some}
 use Prim.Native.Nat.{ℕ}
 use lib.ListN.{take}
 use Rattle.reader.specs.Outcome.{part_unless}
@@ -10,6 +10,6 @@ use Rattle.reader.specs.declared.State.{State}
 use Rattle.runs.specs.Refusals.{bytes_refusal}
 use Rattle.runs.specs.Calls.{bytes_of}
 
-pub bytes_empty : (s : State) (hold : List ℕ) (n : ℕ) → bytes_refusal s hold ≡ some n → bytes_of s hold ≡ []
+pub bytes_empty : (s : State) (hold : List ℕ) (n : ℕ) → bytes_refusal s hold ≡ Some n → bytes_of s hold ≡ []
 unfolding bytes_of
 bytes_empty s hold n e = ap (λ (o : Option ℕ). part_unless o (take s.run.standing hold)) e

@@ -2,7 +2,7 @@
 -- Assumes nothing.
 use mathlib.Core.Path.{◌≡◌, refl, sym, ap, ap₂, ◌∙◌, subst}
 use mathlib.Core.List.{List, ◌++◌}
-use mathlib.Core.Option.{Option, none, some}
+use Rattle.std.proofs.Common.{Option, None, Some}
 use Prim.Native.Nat.{ℕ, zero, suc, ◌+◌, ◌≤◌}
 use native.Mathlib.Omega.{arith}
 use lib.ListN.{length, take, get_or-append}
@@ -34,12 +34,12 @@ pub record Whole (n : ℕ) (v : List ℕ) : Type 0 where
   pub there : n ≤ length v
 
 abbrev pub WholeIf : Option ℕ → List ℕ → Type 0
-WholeIf none v = Unit {0}
-WholeIf (some n) v = Whole n v
+WholeIf None v = Unit {0}
+WholeIf (Some n) v = Whole n v
 
 whole_by : (judge : List ℕ → Verdict) → ((v : List ℕ) → Fits v (judge v)) → (o : Option ℕ) (v : List ℕ) → Stopped judge o v → WholeIf o v
-whole_by judge fits none v e = tt
-whole_by judge fits (some n) v e =
+whole_by judge fits None v e = tt
+whole_by judge fits (Some n) v e =
     let t : There n v = subst (Fits v) e (fits v) in record { eight = t.eight; there = t.within }
 
 pub fed_whole : (c : ℕ) (h piece : List ℕ) (room : ℕ) → WholeIf (feed_lit c h piece room).standing (feed_lit c h piece room).held
@@ -51,25 +51,25 @@ end_whole c h = whole_by (judged_last c) (last_fits c) (settle (judged_last c) h
 
 -- ---- a length of 0 says that none stands
 
-pub none_if : (o : Option ℕ) (v : List ℕ) → WholeIf o v → size o ≡ 0 → o ≡ none
-none_if none v w e = refl
-none_if (some n) v w e = let f : ⊥ = omega (arith, w.eight) in absurd f
+pub none_if : (o : Option ℕ) (v : List ℕ) → WholeIf o v → size o ≡ 0 → o ≡ None
+none_if None v w e = refl
+none_if (Some n) v w e = let f : ⊥ = omega (arith, w.eight) in absurd f
 
-pub some_if : (o : Option ℕ) (n : ℕ) → size o ≡ n → (n ≡ 0 → ⊥) → o ≡ some n
-some_if none n e f = absurd (f (sym e))
-some_if (some m) n e f = ap some e
+pub some_if : (o : Option ℕ) (n : ℕ) → size o ≡ n → (n ≡ 0 → ⊥) → o ≡ Some n
+some_if None n e f = absurd (f (sym e))
+some_if (Some m) n e f = ap Some e
 
 pub phase_is : (o : Option ℕ) (v : List ℕ) → WholeIf o v → phase_by (size o) ≡ phase_after o
-phase_is none v w = refl
-phase_is (some zero) v w = let f : ⊥ = omega (arith, w.eight) in absurd f
-phase_is (some (suc n)) v w = refl
+phase_is None v w = refl
+phase_is (Some zero) v w = let f : ⊥ = omega (arith, w.eight) in absurd f
+phase_is (Some (suc n)) v w = refl
 
 -- ---- the run goes on
 
 one_is : (o : Option ℕ) (v : List ℕ) → WholeIf o v → one_by (size o) ≡ one o
-one_is none v w = refl
-one_is (some zero) v w = let f : ⊥ = omega (arith, w.eight) in absurd f
-one_is (some (suc n)) v w = refl
+one_is None v w = refl
+one_is (Some zero) v w = let f : ⊥ = omega (arith, w.eight) in absurd f
+one_is (Some (suc n)) v w = refl
 
 -- by the numbers that are given back as by what a call did
 pub run_on_lem : (x : Phase) (r : Run) (f : Intake) → WholeIf f.standing f.held → run_by x r (numbers_of f) ≡ run_on x r f
@@ -95,7 +95,7 @@ id_is v l n w =
 pub report_is : (v l : List ℕ) (p n : ℕ) → Whole n v → report_at (v ++ l) p n ≡ reported p n v
 report_is v l p n w = ap (λ (i : ℕ). record { place = p; number = number_of i; revision = revision_of i; size = n }) (id_is v l n w)
 
-pub whole_some : (o : Option ℕ) (v : List ℕ) (n : ℕ) → WholeIf o v → o ≡ some n → Whole n v
+pub whole_some : (o : Option ℕ) (v : List ℕ) (n : ℕ) → WholeIf o v → o ≡ Some n → Whole n v
 whole_some o v n w e = subst (λ (x : Option ℕ). WholeIf x v) e w
 
 -- ---- numbers

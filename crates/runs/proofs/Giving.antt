@@ -2,7 +2,7 @@
 -- Assumes nothing.
 use mathlib.Core.Path.{◌≡◌, refl, ap, ◌∙◌}
 use mathlib.Core.List.{List, []}
-use mathlib.Core.Option.{Option, none, some}
+use Rattle.std.proofs.Common.{Option, None, Some}
 use Prim.Native.Nat.{ℕ}
 use native.Mathlib.Omega.{arith}
 use lib.ListN.{length}
@@ -17,8 +17,8 @@ use Rattle.runs.specs.Refusals.{is_some}
 use Rattle.runs.proofs.Feeding.{WholeIf, fed_whole}
 
 has_by : (o : Option ℕ) (v : List ℕ) → WholeIf o v → ltb 0 (size o) ≡ is_some o
-has_by none v w = refl
-has_by (some n) v w = lt-ltb 0 n (omega (arith, w.eight))
+has_by None v w = refl
+has_by (Some n) v w = lt-ltb 0 n (omega (arith, w.eight))
 
 -- a length over 0 says that one stands
 pub gives : (c : ℕ) (h : List ℕ) (x : Scanned) → x ≡ scanned_of (feed_lit c h [] (length {A = ℕ} [])) → ltb 0 x.block ≡ is_some (settle (judged c) h).standing

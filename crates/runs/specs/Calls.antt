@@ -1,7 +1,6 @@
 -- What Feed, Finish and Bytes answer and leave (rules C6 to C9).
 -- Assumes nothing.
-use Rattle.std.specs.Prelude.{ℕ, ◌-◌, List, length, take}
-use Rattle.std.proofs.Math.Option.{Option, none, some}
+use Rattle.std.specs.Prelude.{ℕ, ◌-◌, List, length, take, Option, None, Some}
 use Rattle.frame.specs.Frame.{id_at, number_of, revision_of}
 use Rattle.frame.specs.Judge.{judged_last}
 use Rattle.scan.specs.Settle.{settle}
@@ -28,8 +27,8 @@ abbrev pub reported : ℕ → ℕ → List ℕ → Report
 reported p n v = record { place = p; number = number_of (id_at (take n v) 0); revision = revision_of (id_at (take n v) 0); size = n }
 
 abbrev pub report_if : Option ℕ → ℕ → List ℕ → Option Report
-report_if none p v = none
-report_if (some n) p v = some (reported p n v)
+report_if None p v = None
+report_if (Some n) p v = Some (reported p n v)
 
 -- the run goes on in a phase by what a call did: how many bytes are held, how many of these are the block, and the counts; and by the
 -- same settings (C17)
@@ -56,13 +55,13 @@ feed_of s hold piece = unless (feed_refusal s hold piece) s hold (feeding_by (fe
 
 -- C8: the run is fed no more, and End closes it
 abbrev pub phase_after : Option ℕ → Phase
-phase_after none = phase.Closed
-phase_after (some n) = phase.Finishing
+phase_after None = phase.Closed
+phase_after (Some n) = phase.Finishing
 
 -- C8: a block, or End
 abbrev pub finish_said : Option ℕ → Run → List ℕ → Said
-finish_said none r v = ended r.counts
-finish_said (some n) r v = found (reported (front r) n v)
+finish_said None r v = ended r.counts
+finish_said (Some n) r v = found (reported (front r) n v)
 
 -- C8: what Finish answers and leaves
 abbrev pub finishing_by : Intake → State → List ℕ → Outcome

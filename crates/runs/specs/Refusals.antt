@@ -1,7 +1,6 @@
 -- The refusals of Feed, Finish and Bytes, in their order (rule R20).
 -- Assumes nothing.
-use Rattle.std.specs.Prelude.{ℕ, Bool, true, false, not, ◌&&◌, ◌||◌, List, length, ltb, eqb}
-use Rattle.std.proofs.Math.Option.{Option, none}
+use Rattle.std.specs.Prelude.{ℕ, Bool, true, false, not, ◌&&◌, ◌||◌, List, length, ltb, eqb, Option, None}
 use Rattle.frame.specs.Judge.{judged}
 use Rattle.scan.specs.Settle.{settle}
 use Rattle.feed.specs.Hold.{rest_of}
@@ -23,12 +22,12 @@ unfoldable pub feed_refusal : State → List ℕ → List ℕ → Option ℕ
 feed_refusal s hold piece =
     need (sound s && long_hold hold) 1
     (need (is_feeding s.run.phase) 2
-    (need (ltb s.run.counts.taken limit || (eqb (length piece) 0 || is_some (settle (judged (ceiling_of s)) (rest_of hold s.run.held s.run.standing)).standing)) 3 none))
+    (need (ltb s.run.counts.taken limit || (eqb (length piece) 0 || is_some (settle (judged (ceiling_of s)) (rest_of hold s.run.held s.run.standing)).standing)) 3 None))
 
 -- R20: 1, 2
 unfoldable pub finish_refusal : State → List ℕ → Option ℕ
-finish_refusal s hold = need (sound s && long_hold hold) 1 (need (not (is_closed s.run.phase)) 2 none)
+finish_refusal s hold = need (sound s && long_hold hold) 1 (need (not (is_closed s.run.phase)) 2 None)
 
 -- R20: 1
 unfoldable pub bytes_refusal : State → List ℕ → Option ℕ
-bytes_refusal s hold = need (sound s && long_hold hold) 1 none
+bytes_refusal s hold = need (sound s && long_hold hold) 1 None

@@ -1,6 +1,6 @@
 -- How the answers of Feed and Finish are read (rule D9).
 -- Assumes nothing.
-use Rattle.std.proofs.Math.Option.{none, some}
+use Rattle.std.specs.Prelude.{None, Some}
 use Rattle.refusal.specs.Numbers.{number_for}
 use Rattle.reader.specs.Said.{Said, report_of, refused, took, found, ended}
 use Rattle.runs.specs.declared.Fed.{Fed}
@@ -9,8 +9,8 @@ use Rattle.runs.specs.declared.Finished.{Finished}
 use Rattle.runs.specs.declared.Finished.TheVariants as finished
 
 abbrev pub said_fed : Fed → Said
-said_fed (fed.Block t b) = took t (some (report_of b))
-said_fed (fed.More t) = took t none
+said_fed (fed.Block t b) = took t (Some (report_of b))
+said_fed (fed.More t) = took t None
 said_fed (fed.Refused r) = refused (number_for r)
 
 abbrev pub said_finished : Finished → Said

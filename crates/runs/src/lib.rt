@@ -2,7 +2,6 @@
 #![tactic(auto)]
 
 ghost use Rattle.std.specs.Prelude.{◌≡◌};
-ghost use Rattle.std.proofs.Math.Option.{none};
 ghost use Rattle.reader.specs.Said.{refusal_of};
 ghost use Rattle.reader.specs.Outcome.{outcome};
 ghost use Rattle.runs.specs.Said.{said_fed, said_finished};
@@ -43,7 +42,7 @@ pub struct FinishAnswer {
 }
 
 fn feed_on(s: State, hold: &mut [u8], piece: &[u8]) -> FeedAnswer
-    requires { feed_refusal s hold.old piece.now ≡ none }
+    requires { feed_refusal s hold.old piece.now ≡ None }
     ensures { outcome (said_fed result.answer) result.state hold.new ≡ feeding_by (feeding_of s hold.old piece.now) s hold.old }
 {
     let run = s.run;
@@ -84,7 +83,7 @@ pub fn feed(s: State, hold: &mut [u8], piece: &[u8]) -> FeedAnswer
 }
 
 fn finish_on(s: State, hold: &mut [u8]) -> FinishAnswer
-    requires { finish_refusal s hold.old ≡ none }
+    requires { finish_refusal s hold.old ≡ None }
     ensures { outcome (said_finished result.answer) result.state hold.new ≡ finishing_by (finishing_of s hold.old) s hold.old }
 {
     let run = s.run;

@@ -1,8 +1,7 @@
 -- The flight line: the story that started this (docs/RULES.md, before D1), told again with this reader. The release that arrives during the
 -- line waits: field 5 stays roll to the end of the line, and is pitch in the next.
 -- Assumes nothing.
-use Rattle.std.specs.Prelude.{ℕ, ◌≡◌, List, [], ◌∷◌, map}
-use Rattle.std.proofs.Math.Option.{Option, none, some}
+use Rattle.std.specs.Prelude.{ℕ, ◌≡◌, List, [], ◌∷◌, map, Option, None, Some}
 use Rattle.wire.specs.Little.{little_at}
 use Rattle.table.specs.Lists.{pick}
 use Rattle.record.specs.Answer.{single}
@@ -82,7 +81,7 @@ flight =
     table (stage without_reserved) ⇒ version_is 1
     ∷ open_run default_settings ⇒ version_is 1
     ∷ feed attitude ⇒ block_is 44 (report 0 5938 0 44)
-    ∷ look bytes ⇒ part none attitude
+    ∷ look bytes ⇒ part None attitude
     -- 4: field 5 is roll
     ∷ look (body attitude 5) ⇒ value (single roll)
     -- 5, 6: the release lands during the line, is taken and waits; field 5 is roll as before
@@ -103,10 +102,10 @@ pub record FlightLine : Type 0 where
   -- the definitions answer every call as the story has it
   pub story : replayed flight ≡ flight
   -- before and after the release landed: both times Roll's bits
-  pub before : answered 4 ≡ some (value (single roll))
+  pub before : answered 4 ≡ Some (value (single roll))
   pub after : answered 6 ≡ answered 4
   -- in the next run: Pitch's bits, and these are others
-  pub next : answered 10 ≡ some (value (single pitch))
+  pub next : answered 10 ≡ Some (value (single pitch))
   pub differ : answered 6 ≡ answered 10 → ⊥
   -- the block has these bits at 28 and at 24, where both tables have Roll and Pitch
   pub roll_bits : little_at 4 attitude 28 ≡ roll

@@ -1,7 +1,6 @@
 -- PPPInfo of PVTCartesian by the rows shipped: what is read, what may be given, and the bits that it is written with (rule S13).
 -- Assumes nothing.
-use Rattle.std.specs.Prelude.{ℕ, ◌≡◌, List, [], ◌∷◌, ◌++◌, map, replicate}
-use Rattle.std.proofs.Math.Option.{Option, none, some}
+use Rattle.std.specs.Prelude.{ℕ, ◌≡◌, List, [], ◌∷◌, ◌++◌, map, replicate, Option, None, Some}
 use Rattle.kinds.specs.Types.{u2}
 use Rattle.kinds.specs.Marks.{seed}
 use Rattle.rows.specs.declared.FieldRow.{FieldRow}
@@ -43,12 +42,12 @@ abbrev pub ppp_info_row : FieldRow
 ppp_info_row = field_row 86 u2 1 seed
 
 abbrev pub field21 : Option BlockRow → Option FieldRow
-field21 none = none
-field21 (some r) = pick r.body 21
+field21 None = None
+field21 (Some r) = pick r.body 21
 
 -- unset, the lowest number with a seed, 0, the largest without a seed
 abbrev pub infos_wanted : List Wanted
-infos_wanted = none ∷ some (unsigned 0x2000) ∷ some (unsigned 0) ∷ some (unsigned 0x1FFF) ∷ []
+infos_wanted = None ∷ Some (unsigned 0x2000) ∷ Some (unsigned 0) ∷ Some (unsigned 0x1FFF) ∷ []
 
 -- the values of these blocks, and this one for PPPInfo; where zero is the mark, 0 is an unset field
 abbrev pub draft_with : Wanted → Draft
@@ -56,18 +55,18 @@ draft_with w =
     record {
       number = 4006;
       revision = 1;
-      tow = some (unsigned 0);
-      wnc = some (unsigned 0);
+      tow = Some (unsigned 0);
+      wnc = Some (unsigned 0);
       body =
-          replicate 2 (some (unsigned 0))
-          ++ replicate 3 (some (double 0))
-          ++ replicate 5 (some (single 0))
-          ++ some (double 0)
-          ∷ some (single 0)
-          ∷ replicate 3 (some (unsigned 0))
-          ++ none
-          ∷ replicate 2 (some (unsigned 0))
-          ++ replicate 3 none
+          replicate 2 (Some (unsigned 0))
+          ++ replicate 3 (Some (double 0))
+          ++ replicate 5 (Some (single 0))
+          ++ Some (double 0)
+          ∷ Some (single 0)
+          ∷ replicate 3 (Some (unsigned 0))
+          ++ None
+          ∷ replicate 2 (Some (unsigned 0))
+          ++ replicate 3 None
           ++ w
           ∷ [];
       subs = [];
@@ -81,9 +80,9 @@ abbrev pub info_written : Wanted → WriteOutcome
 info_written w = written_of greatest_ceiling shipped (draft_with w) short
 
 pub record PppInfoHolds : Type 0 where
-  pub row : field21 (find_row shipped 4006) ≡ some ppp_info_row
+  pub row : field21 (find_row shipped 4006) ≡ Some ppp_info_row
   pub read : map ppp_info (info0000 ∷ info0_fff ∷ info1_fff ∷ info2000 ∷ []) ≡ do_not_use ∷ do_not_use ∷ do_not_use ∷ unsigned 0x2000 ∷ []
   -- W5, W6: the bits that it is written with; there are none for what may not be given
-  pub bits : map (bits_of ppp_info_row) infos_wanted ≡ some 0 ∷ some 0x2000 ∷ none ∷ none ∷ []
+  pub bits : map (bits_of ppp_info_row) infos_wanted ≡ Some 0 ∷ Some 0x2000 ∷ None ∷ None ∷ []
   -- R11: such a draft is refused
   pub drafts : map info_written infos_wanted ≡ refuses_write 12 short ∷ refuses_write 12 short ∷ refuses_write 11 short ∷ refuses_write 11 short ∷ []

@@ -1,8 +1,7 @@
 -- The samples S1 to S10 and S14, and the bytes of S11, as one table of cases; and blocks of S8 and S9 written by Write.
 -- Each case is a transcript of calls on a new reader. To add one, add its lines to `cases`.
 -- Assumes nothing.
-use Rattle.std.specs.Prelude.{ℕ, ◌≡◌, List, [], ◌∷◌, ◌++◌, map, replicate}
-use Rattle.std.proofs.Math.Option.{none, some}
+use Rattle.std.specs.Prelude.{ℕ, ◌≡◌, List, [], ◌∷◌, ◌++◌, map, replicate, None, Some}
 use Rattle.record.specs.Answer.{single, unsigned, do_not_use}
 use Rattle.entry.specs.Wanted.{Wanted}
 use Rattle.draft.specs.Draft.{Draft}
@@ -66,11 +65,11 @@ none_marked =
 -- W1: a draft of revision 0 with TOW and WNc 0, and without sub-blocks
 abbrev pub draft_of_body : ℕ → List Wanted → Draft
 draft_of_body number ws =
-    record { number = number; revision = 0; tow = some (unsigned 0); wnc = some (unsigned 0); body = ws; subs = [] }
+    record { number = number; revision = 0; tow = Some (unsigned 0); wnc = Some (unsigned 0); body = ws; subs = [] }
 
 -- the values of `none_marked`
 abbrev pub near_marks : List Wanted
-near_marks = some (unsigned 65534) ∷ some (single 0xD09502F8) ∷ []
+near_marks = Some (unsigned 65534) ∷ Some (single 0xD09502F8) ∷ []
 
 -- Open with a ceiling
 abbrev pub open_by : ℕ → Call
@@ -88,9 +87,9 @@ cases =
     -- S1: no byte
     run (finish ⇒ end_is 0 0 0 ∷ [])
     -- S2: one block
-    ∷ run (feed sample_b ⇒ block_is 8 (report 0 0 0 8) ∷ look bytes ⇒ part none sample_b ∷ finish ⇒ end_is 8 1 0 ∷ [])
+    ∷ run (feed sample_b ⇒ block_is 8 (report 0 0 0 8) ∷ look bytes ⇒ part None sample_b ∷ finish ⇒ end_is 8 1 0 ∷ [])
     -- S3: a wrong CRC
-    ∷ run (feed sample_c ⇒ more_is 8 ∷ look bytes ⇒ part none [] ∷ finish ⇒ end_is 8 0 8 ∷ [])
+    ∷ run (feed sample_c ⇒ more_is 8 ∷ look bytes ⇒ part None [] ∷ finish ⇒ end_is 8 0 8 ∷ [])
     -- S4: IDs
     ∷ run (feed id3717 ⇒ block_is 8 (report 0 5943 0 8) ∷ finish ⇒ end_is 8 1 0 ∷ [])
     ∷ run (feed id3737 ⇒ block_is 8 (report 0 5943 1 8) ∷ finish ⇒ end_is 8 1 0 ∷ [])
@@ -100,17 +99,17 @@ cases =
     ∷ run (feed length9 ⇒ more_is 9 ∷ finish ⇒ end_is 9 0 9 ∷ [])
     ∷ run (feed twelve ⇒ block_is 12 (report 0 0 0 12) ∷ finish ⇒ end_is 12 1 0 ∷ [])
     -- S6: a byte before the block
-    ∷ run (feed (0x24 ∷ sample_b) ⇒ block_is 9 (report 1 0 0 8) ∷ look bytes ⇒ part none sample_b ∷ finish ⇒ end_is 9 1 1 ∷ [])
+    ∷ run (feed (0x24 ∷ sample_b) ⇒ block_is 9 (report 1 0 0 8) ∷ look bytes ⇒ part None sample_b ∷ finish ⇒ end_is 9 1 1 ∷ [])
     -- S7: a header that promises more than comes
-    ∷ run (feed sample_g ⇒ more_is 16 ∷ finish ⇒ found_is (report 8 0 0 8) ∷ look bytes ⇒ part none sample_b ∷ finish ⇒ end_is 16 1 8 ∷ [])
+    ∷ run (feed sample_g ⇒ more_is 16 ∷ finish ⇒ found_is (report 8 0 0 8) ∷ look bytes ⇒ part None sample_b ∷ finish ⇒ end_is 16 1 8 ∷ [])
     -- on its other side, with all the header's 20 bytes, the block comes before Finish
-    ∷ run (feed (sample_g ++ 0 ∷ 0 ∷ 0 ∷ 0 ∷ []) ⇒ block_is 20 (report 8 0 0 8) ∷ look bytes ⇒ part none sample_b ∷ finish ⇒ end_is 20 1 12 ∷ [])
+    ∷ run (feed (sample_g ++ 0 ∷ 0 ∷ 0 ∷ 0 ∷ []) ⇒ block_is 20 (report 8 0 0 8) ∷ look bytes ⇒ part None sample_b ∷ finish ⇒ end_is 20 1 12 ∷ [])
     -- S8: mark 3
     ∷ run (look (body all_marked 1) ⇒ value do_not_use ∷ look (body none_marked 1) ⇒ value (single 0xD09502F8) ∷ [])
     -- S9: mark 1
     ∷ run (look (body all_marked 0) ⇒ value do_not_use ∷ look (body none_marked 0) ⇒ value (unsigned 65534) ∷ [])
     -- S10: cut too short, in each record call
-    ∷ run (look (body sample_b 0) ⇒ refusal_is 7 ∷ look (sub sample_b 0 0) ⇒ refusal_is 7 ∷ look (sub_bytes sample_b 0) ⇒ part (some 7) [] ∷ [])
+    ∷ run (look (body sample_b 0) ⇒ refusal_is 7 ∷ look (sub sample_b 0 0) ⇒ refusal_is 7 ∷ look (sub_bytes sample_b 0) ⇒ part (Some 7) [] ∷ [])
     ∷ run (look (tow sample_b) ⇒ refusal_is 7 ∷ look (wnc sample_b) ⇒ refusal_is 7 ∷ [])
     -- on its other side, one whose number has no row; of length 20 a field is read, see S8 and S9
     ∷ run (look (body id3717 0) ⇒ refusal_is 6 ∷ [])
@@ -121,11 +120,11 @@ cases =
     ∷ run (look (write (draft_of_body 0 near_marks) (replicate 20 7)) ⇒ wrote_is 20 none_marked ∷ [])
     -- 6 for a number without a row; 11 for a value that is Do-Not-Use, and before 12; 12 for one byte too few
     ∷ run (look (write (draft_of_body 1 []) (replicate 20 7)) ⇒ unwritten_is 6 (replicate 20 7) ∷ [])
-    ∷ run (look (write (draft_of_body 0 (some (unsigned 65535) ∷ [])) (replicate 19 7)) ⇒ unwritten_is 11 (replicate 19 7) ∷ [])
+    ∷ run (look (write (draft_of_body 0 (Some (unsigned 65535) ∷ [])) (replicate 19 7)) ⇒ unwritten_is 11 (replicate 19 7) ∷ [])
     ∷ run (look (write (draft_of_body 0 []) (replicate 19 7)) ⇒ unwritten_is 12 (replicate 19 7) ∷ [])
     -- S14: a false header, without a ceiling and with one
     ∷ run (feed false_header ⇒ more_is 16 ∷ finish ⇒ found_is (report 8 0 0 8) ∷ finish ⇒ end_is 16 1 8 ∷ [])
-    ∷ under 4096 (feed false_header ⇒ block_is 16 (report 8 0 0 8) ∷ look bytes ⇒ part none sample_b ∷ finish ⇒ end_is 16 1 8 ∷ [])
+    ∷ under 4096 (feed false_header ⇒ block_is 16 (report 8 0 0 8) ∷ look bytes ⇒ part None sample_b ∷ finish ⇒ end_is 16 1 8 ∷ [])
     -- F16: a block as long as the ceiling is one, and one that is longer is not; a record call reads both, and Write makes the first
     ∷ under 20 (feed none_marked ⇒ block_is 20 (report 0 0 0 20) ∷ look (write (draft_of_body 0 []) (replicate 20 7)) ⇒ wrote_is 20 all_marked ∷ [])
     ∷ under 16 (feed none_marked ⇒ more_is 20 ∷ look (body none_marked 0) ⇒ value (unsigned 65534) ∷ finish ⇒ end_is 20 0 20 ∷ [])

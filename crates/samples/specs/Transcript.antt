@@ -1,7 +1,6 @@
 -- A transcript: calls on a new reader, each with what it answers. It is true when the definitions answer the same.
 -- Assumes nothing.
-use Rattle.std.specs.Prelude.{ℕ, List, map, replicate}
-use Rattle.std.proofs.Math.Option.{none, some}
+use Rattle.std.specs.Prelude.{ℕ, List, map, replicate, None, Some}
 use Rattle.record.specs.Answer.{field_refused}
 use Rattle.reader.specs.Said.{Report, refused, version, took, found, ended}
 use Rattle.reader.specs.State.{new_state}
@@ -29,11 +28,11 @@ refused_is n = said (refused n)
 
 -- C7: Feed answers More
 abbrev pub more_is : ℕ → Reply
-more_is taken = said (took taken none)
+more_is taken = said (took taken None)
 
 -- C7: Feed answers Block
 abbrev pub block_is : ℕ → Report → Reply
-block_is taken b = said (took taken (some b))
+block_is taken b = said (took taken (Some b))
 
 -- C8: Finish answers Block
 abbrev pub found_is : Report → Reply

@@ -2,7 +2,7 @@
 -- Assumes nothing.
 use mathlib.Core.Path.{◌≡◌, refl, sym, ap, ◌∙◌, subst⁻¹}
 use mathlib.Core.List.{List, [], ◌∷◌, ◌++◌, append-nil}
-use mathlib.Core.Option.{Option, none, some}
+use Rattle.std.proofs.Common.{Option, None, Some}
 use Prim.Native.Nat.{ℕ, zero, suc, min, ◌+◌, ◌≤◌}
 use native.Mathlib.Omega.{arith}
 use lib.ListN.{length, take, drop, length-drop, length-append}
@@ -21,24 +21,24 @@ pub record CallFacts (h piece : List ℕ) (room : ℕ) (f : Intake) : Type 0 whe
 
 -- all that there is to take is taken, unless a block came
 abbrev pub Took : Option ℕ → ℕ → ℕ → Type 0
-Took none t m = t ≡ m
-Took (some n) t m = t ≤ m
+Took None t m = t ≡ m
+Took (Some n) t m = t ≤ m
 
 module _ (judge : List ℕ → Verdict) where
   -- ---- what is taken
 
   took_more : (o : Option ℕ) (t room m : ℕ) → Took o t (min room m) → Took o (suc t) (min (suc room) (suc m))
-  took_more none t room m h = omega arith
-  took_more (some n) t room m h = omega arith
+  took_more None t room m h = omega arith
+  took_more (Some n) t room m h = omega arith
 
   took_by : (o : Option ℕ) (s : Settled) (next : Intake) (room m : ℕ) → s.standing ≡ o → Took next.standing next.taken (min room m)
       → Took (unless_block o s next).standing (unless_block o s next).taken (min (suc room) (suc m))
-  took_by (some n) s next room m e t = subst⁻¹ (λ (o : Option ℕ). Took o 0 (min (suc room) (suc m))) e (omega arith)
-  took_by none s next room m e t = took_more next.standing next.taken room m t
+  took_by (Some n) s next room m e t = subst⁻¹ (λ (o : Option ℕ). Took o 0 (min (suc room) (suc m))) e (omega arith)
+  took_by None s next room m e t = took_more next.standing next.taken room m t
 
   nothing_taken : (o : Option ℕ) (m : ℕ) → m ≡ 0 → Took o 0 m
-  nothing_taken none m e = sym e
-  nothing_taken (some n) m e = omega arith
+  nothing_taken None m e = sym e
+  nothing_taken (Some n) m e = omega arith
 
   pub fed_took : (piece : List ℕ) (room : ℕ) (h : List ℕ)
       → Took (feed_by judge h piece room).standing (feed_by judge h piece room).taken (min room (length piece))
@@ -59,8 +59,8 @@ module _ (judge : List ℕ → Verdict) where
 
   holds_by : (o : Option ℕ) (h : List ℕ) (b : ℕ) (bs : List ℕ) (next : Intake) → Holds ((settle judge h).rest ++ b ∷ []) bs next
       → Holds h (b ∷ bs) (unless_block o (settle judge h) next)
-  holds_by (some n) h b bs next e = settle_holds h (b ∷ bs)
-  holds_by none h b bs next e =
+  holds_by (Some n) h b bs next e = settle_holds h (b ∷ bs)
+  holds_by None h b bs next e =
       let s = settle judge h in
       let r = settle_rest judge h in
       let p = length (settle judge h).passed in
@@ -87,8 +87,8 @@ module _ (judge : List ℕ → Verdict) where
   settle_sum h = let r = settle_rest judge h in omega (arith, r.few, ap length r.is, length-drop (length (settle judge h).passed) h)
 
   sum_by : (o : Option ℕ) (h : List ℕ) (b : ℕ) (next : Intake) → Sum ((settle judge h).rest ++ b ∷ []) next → Sum h (unless_block o (settle judge h) next)
-  sum_by (some n) h b next s = settle_sum h
-  sum_by none h b next s =
+  sum_by (Some n) h b next s = settle_sum h
+  sum_by None h b next s =
       omega (arith, settle_sum h, length-append (settle judge h).rest (b ∷ []), length-append (settle judge h).passed next.passed)
 
   fed_sum : (piece : List ℕ) (room : ℕ) (h : List ℕ) → Sum h (feed_by judge h piece room)
@@ -99,15 +99,15 @@ module _ (judge : List ℕ → Verdict) where
       sum_by (settle judge h).standing h b (feed_by judge ((settle judge h).rest ++ b ∷ []) bs room) (fed_sum bs room ((settle judge h).rest ++ b ∷ []))
 
   took_le : (o : Option ℕ) (t m : ℕ) → Took o t m → t ≤ m
-  took_le none t m e = omega arith
-  took_le (some n) t m e = e
+  took_le None t m e = omega arith
+  took_le (Some n) t m e = e
 
   -- ---- what stands at the front of what is held
 
   stopped_by : (o : Option ℕ) (s : Settled) (next : Intake) → Stopped judge s.standing s.rest → Stopped judge next.standing next.held
       → Stopped judge (unless_block o s next).standing (unless_block o s next).held
-  stopped_by (some n) s next h k = h
-  stopped_by none s next h k = k
+  stopped_by (Some n) s next h k = h
+  stopped_by None s next h k = k
 
   pub fed_stopped : (piece : List ℕ) (room : ℕ) (h : List ℕ) → Stopped judge (feed_by judge h piece room).standing (feed_by judge h piece room).held
   unfolding feed_by

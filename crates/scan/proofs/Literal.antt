@@ -3,7 +3,7 @@
 use mathlib.Core.Path.{◌≡◌, refl, sym, ap, ap₂, ◌∙◌, subst}
 use mathlib.Core.Logic.{⊎_elim}
 use mathlib.Core.List.{List, [], ◌∷◌, ◌++◌, append-nil}
-use mathlib.Core.Option.{Option, none, some}
+use Rattle.std.proofs.Common.{Option, None, Some}
 use Prim.Native.Nat.{ℕ, zero, suc, max, ◌+◌, ◌-◌, ◌≤◌, ◌<◌}
 use native.Mathlib.Omega.{arith}
 use lib.ListN.{length, take, drop, length-drop, length-append}
@@ -22,8 +22,8 @@ use Rattle.scan.proofs.Settling.{before, settle_rest, Stopped, settle_stopped, a
 
 -- how many bytes had to be taken, of n that were held and t in all, to pass the bytes for these reasons and come to this
 abbrev pub reach : Option ℕ → List Reason → ℕ → ℕ → ℕ
-reach none rs n t = t
-reach (some l) rs n t = max (needed 0 n rs) (length rs + l)
+reach None rs n t = t
+reach (Some l) rs n t = max (needed 0 n rs) (length rs + l)
 
 -- the run w settled, whose first n bytes were held
 abbrev pub to_lit : Settled → List ℕ → ℕ → Intake
@@ -39,8 +39,8 @@ module _ (judge : List ℕ → Verdict) (laws : Judging judge) where
   -- ---- with nothing taken
 
   reach_low : (h : List ℕ) (o : Option ℕ) → (settle judge h).standing ≡ o → reach o (settle judge h).passed (length h) (length h) ≡ length h
-  reach_low h none e = refl
-  reach_low h (some l) e =
+  reach_low h None e = refl
+  reach_low h (Some l) e =
       let r = settle_rest judge h in
       let f : l ≤ length (settle judge h).rest = rw e at (settle_front judge laws.fits h) in
       omega (arith, marks_low judge laws.fits h 0 (length h) (omega arith), r.few, ap length r.is, length-drop (length (settle judge h).passed) h)
@@ -57,14 +57,14 @@ module _ (judge : List ℕ → Verdict) (laws : Judging judge) where
   at_end h ys z = alone h ∙ ap (λ (w : List ℕ). to_lit (settle judge w) w (length h)) (sym (ap (λ (k : List ℕ). h ++ k) z ∙ append-nil h))
 
   -- a block stands in the held bytes: more bytes change nothing
-  by_block : (h ys : List ℕ) (l : ℕ) → (settle judge h).standing ≡ some l → stop (settle judge h) ≡ to_lit (settle judge (h ++ ys)) (h ++ ys) (length h)
+  by_block : (h ys : List ℕ) (l : ℕ) → (settle judge h).standing ≡ Some l → stop (settle judge h) ≡ to_lit (settle judge (h ++ ys)) (h ++ ys) (length h)
   by_block h ys l e =
       let s = settle judge h in
-      let t : max (needed 0 (length h) s.passed) (length s.passed + l) ≡ length h = reach_low h (some l) e in
-      let a : settle judge (h ++ ys) ≡ after judge laws ys (some l) s.passed s.rest =
+      let t : max (needed 0 (length h) s.passed) (length s.passed + l) ≡ length h = reach_low h (Some l) e in
+      let a : settle judge (h ++ ys) ≡ after judge laws ys (Some l) s.passed s.rest =
       settle_after judge laws ys h ∙ ap (λ (o : Option ℕ). after judge laws ys o s.passed s.rest) e in
       ap (λ (o : Option ℕ). record { taken = 0; passed = s.passed; standing = o; held = s.rest }) e
-      ∙ same 0 (max (needed 0 (length h) s.passed) (length s.passed + l) - length h) s.passed (some l) s.rest _ (omega arith)
+      ∙ same 0 (max (needed 0 (length h) s.passed) (length s.passed + l) - length h) s.passed (Some l) s.rest _ (omega arith)
       ((settle_rest judge h).is ∙ ap (drop (length s.passed)) (sym (ap (λ (i : ℕ). take i (h ++ ys)) t ∙ take-append_seam h ys)))
       ∙ ap (λ (k : Settled). to_lit k (h ++ ys) (length h)) (sym a)
 
@@ -72,7 +72,7 @@ module _ (judge : List ℕ → Verdict) (laws : Judging judge) where
 
   -- an undecided place: what comes to be decided there needs a byte more
   Needs : ℕ → Settled → Type 0
-  Needs k s = (l : ℕ) → s.standing ≡ some l → k < max (needed 0 0 s.passed) (length s.passed + l)
+  Needs k s = (l : ℕ) → s.standing ≡ Some l → k < max (needed 0 0 s.passed) (length s.passed + l)
 
   needs_first : (r : Reason) (k p : ℕ) → k < need_for r → (rs : List Reason) (l : ℕ) → 8 ≤ l → k < max (needed 0 0 (r ∷ rs)) (suc (length rs) + l)
   unfolding needed
@@ -82,7 +82,7 @@ module _ (judge : List ℕ → Verdict) (laws : Judging judge) where
   needs_first FewLeft k p h rs l e = omega arith
   needs_first PastEnd k p h rs l e = omega arith
 
-  big : (h : List ℕ) (l : ℕ) → (settle judge h).standing ≡ some l → 8 ≤ l
+  big : (h : List ℕ) (l : ℕ) → (settle judge h).standing ≡ Some l → 8 ≤ l
   big h l e =
       let q : judge (settle judge h).rest ≡ Frame l = subst (λ (o : Option ℕ). Stopped judge o (settle judge h).rest) e (settle_stopped judge h) in
       let t : There l (settle judge h).rest = rw q at (laws.fits (settle judge h).rest) in
@@ -103,23 +103,23 @@ module _ (judge : List ℕ → Verdict) (laws : Judging judge) where
 
   -- the bytes that had to be taken, counted from the start of the run and from behind what was passed
   further : (o : Option ℕ) (ps rs : List Reason) (n k t : ℕ) → n ≡ length ps + k → needed 0 n ps ≡ n
-      → ((l : ℕ) → o ≡ some l → k < max (needed 0 0 rs) (length rs + l))
+      → ((l : ℕ) → o ≡ Some l → k < max (needed 0 0 rs) (length rs + l))
       → reach o (ps ++ rs) n (length ps + t) ≡ length ps + reach o rs (suc k) t
-  further none ps rs n k t e m f = refl
-  further (some l) ps rs n k t e m f =
+  further None ps rs n k t e m f = refl
+  further (Some l) ps rs n k t e m f =
       let a : needed 0 n (ps ++ rs) ≡ length ps + needed 0 k rs =
       marks_append ps rs 0 n ∙ ap₂ (λ (i j : ℕ). needed i j rs) (omega arith) (m ∙ e) ∙ marks_shift rs (length ps) 0 k in
       omega (arith, a, length-append ps rs, marks_max rs 0 k, marks_max rs 0 (suc k), f l refl)
 
   least : (o : Option ℕ) (rs : List Reason) (n t : ℕ) → n ≤ t → n ≤ reach o rs n t
-  least none rs n t l = l
-  least (some k) rs n t l = omega (arith, marks_max rs 0 n)
+  least None rs n t l = l
+  least (Some k) rs n t l = omega (arith, marks_max rs 0 n)
 
-  undecided : (h : List ℕ) → (settle judge h).standing ≡ none → judge (settle judge h).rest ≡ Undecided
+  undecided : (h : List ℕ) → (settle judge h).standing ≡ None → judge (settle judge h).rest ≡ Undecided
   undecided h e =
       ⊎_elim (λ z. ap judge z ∙ laws.empty) (λ q. q) (subst (λ (o : Option ℕ). Stopped judge o (settle judge h).rest) e (settle_stopped judge h))
 
-  by_more : (h : List ℕ) (b : ℕ) (ys : List ℕ) (next : Intake) → (settle judge h).standing ≡ none
+  by_more : (h : List ℕ) (b : ℕ) (ys : List ℕ) (next : Intake) → (settle judge h).standing ≡ None
       → next ≡ to_lit (settle judge ((settle judge h).rest ++ b ∷ [] ++ ys)) ((settle judge h).rest ++ b ∷ [] ++ ys) (length ((settle judge h).rest ++ b ∷ []))
       → go_on (settle judge h) next ≡ to_lit (settle judge (h ++ b ∷ ys)) (h ++ b ∷ ys) (length h)
   unfolding Needs
@@ -158,8 +158,8 @@ module _ (judge : List ℕ → Verdict) (laws : Judging judge) where
   by_option : (o : Option ℕ) (h : List ℕ) (b : ℕ) (ys : List ℕ) (next : Intake) → (settle judge h).standing ≡ o
       → next ≡ to_lit (settle judge ((settle judge h).rest ++ b ∷ [] ++ ys)) ((settle judge h).rest ++ b ∷ [] ++ ys) (length ((settle judge h).rest ++ b ∷ []))
       → unless_block o (settle judge h) next ≡ to_lit (settle judge (h ++ b ∷ ys)) (h ++ b ∷ ys) (length h)
-  by_option (some l) h b ys next e rec = by_block h (b ∷ ys) l e
-  by_option none h b ys next e rec = by_more h b ys next e rec
+  by_option (Some l) h b ys next e rec = by_block h (b ∷ ys) l e
+  by_option None h b ys next e rec = by_more h b ys next e rec
 
   pub literal : (piece : List ℕ) (room : ℕ) (h : List ℕ)
       → feed_by judge h piece room ≡ to_lit (settle judge (h ++ take room piece)) (h ++ take room piece) (length h)

@@ -2,7 +2,7 @@
 -- Assumes nothing.
 use mathlib.Core.Path.{◌≡◌, refl, sym, ap, ◌∙◌, subst⁻¹}
 use mathlib.Core.List.{List, [], ◌∷◌, ◌++◌, append-nil}
-use mathlib.Core.Option.{none}
+use Rattle.std.proofs.Common.{None}
 use Prim.Native.Nat.{ℕ, zero, suc, max, ◌+◌, ◌-◌, ◌≤◌, ◌<◌}
 use native.Mathlib.Numerals.{add-one}
 use native.Mathlib.Omega.{arith}
@@ -30,7 +30,7 @@ cons : (judge : List ℕ → Verdict) (v : List ℕ) (x : ℕ) (t : List ℕ) �
 unfolding settle
 cons judge v x t e = subst⁻¹ (λ (l : List ℕ). settle judge l ≡ settle_by (judge l) l (settle judge t)) e refl
 
-none_left : (judge : List ℕ → Verdict) (v : List ℕ) → v ≡ [] → settle judge v ≡ stop_at none []
+none_left : (judge : List ℕ → Verdict) (v : List ℕ) → v ≡ [] → settle judge v ≡ stop_at None []
 unfolding settle
 none_left judge v e = ap (settle judge) e
 
@@ -73,7 +73,7 @@ module _ (c : ℕ) (s rest : List ℕ) where
   part_stop k a m l e = ap (λ (y : Settled). stretch_of y a m) (at_by (with_rest (judged c) rest) s k l e)
 
   -- a place that is not decided has a byte
-  waits_by : (v : List ℕ) (a : Passed) (m : ℕ) → 0 < length v → stretch_by none v a m ≡ Waits a
+  waits_by : (v : List ℕ) (a : Passed) (m : ℕ) → 0 < length v → stretch_by None v a m ≡ Waits a
   waits_by [] a m l = let f : ⊥ = omega arith in absurd f
   waits_by (b ∷ bs) a m l = refl
 

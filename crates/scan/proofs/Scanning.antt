@@ -2,7 +2,7 @@
 -- Assumes nothing.
 use mathlib.Core.Path.{◌≡◌, refl, sym, ap, ap₂, ◌∙◌}
 use mathlib.Core.List.{List, [], ◌∷◌, ◌++◌, append-nil}
-use mathlib.Core.Option.{Option, none, some}
+use Rattle.std.proofs.Common.{Option, None, Some}
 use Prim.Native.Nat.{ℕ, max, ◌+◌, ◌-◌, ◌≤◌}
 use native.Mathlib.Omega.{arith}
 use lib.ListN.{length, length-append}
@@ -32,9 +32,9 @@ module _ (judge : List ℕ → Verdict) (rest : List ℕ) where
 
   then_by : (o : Option ℕ) (rs : List Reason) (v : List ℕ) (a : Passed) (m : ℕ)
       → stretch_of (joined judge rest o rs v) a m ≡ then_part (stretch_by o v (count_all a rs) (needed a.skipped m rs))
-  then_by (some n) rs v a m = refl
-  then_by none rs (b ∷ bs) a m = refl
-  then_by none rs [] a m =
+  then_by (Some n) rs v a m = refl
+  then_by None rs (b ∷ bs) a m = refl
+  then_by None rs [] a m =
       let s = settle judge rest in
       ap₂ (λ (x : Passed) (y : ℕ). stretch_by s.standing s.rest x y) (count_all_append a rs s.passed)
       (marks_append rs s.passed a.skipped m ∙ ap (λ (i : ℕ). needed i (needed a.skipped m rs) s.passed) (sym (count_all_skipped a rs)))
@@ -57,9 +57,9 @@ Kept most m (Through a t) = (a.skipped ≤ most) × (m ≤ t)
 
 kept_by : (o : Option ℕ) (rs : List Reason) (v : List ℕ) (a : Passed) (m most : ℕ) → a.skipped + length rs ≤ most
     → Kept most m (stretch_by o v (count_all a rs) (needed a.skipped m rs))
-kept_by (some n) rs v a m most l = omega (arith, marks_max rs a.skipped m)
-kept_by none rs (b ∷ bs) a m most l = tt
-kept_by none rs [] a m most l = (omega (arith, count_all_skipped a rs), omega (arith, marks_max rs a.skipped m))
+kept_by (Some n) rs v a m most l = omega (arith, marks_max rs a.skipped m)
+kept_by None rs (b ∷ bs) a m most l = tt
+kept_by None rs [] a m most l = (omega (arith, count_all_skipped a rs), omega (arith, marks_max rs a.skipped m))
 
 pub kept : (judge : List ℕ → Verdict) (s : List ℕ) (a : Passed) (m : ℕ) → Kept (a.skipped + length s) m (stretch_of (settle judge s) a m)
 kept judge s a m =
@@ -76,10 +76,10 @@ scanned_by (Through a m) n t = record { taken = t; passed = a; block = 0 }
 
 found_by_lem : (o : Option ℕ) (rs : List Reason) (v : List ℕ) (w n t : ℕ) → w ≡ n + t
     → ◌≡◌ {A = Scanned} (record { taken = reach o rs n w - n; passed = passed_of rs; block = size o }) (scanned_by (stretch_by o v (passed_of rs) (needed 0 n rs)) n t)
-found_by_lem (some l) rs v w n t e =
+found_by_lem (Some l) rs v w n t e =
     ap (λ (i : ℕ). record { taken = max (needed 0 n rs) (i + l) - n; passed = passed_of rs; block = l }) (sym (passed_of_skipped rs))
-found_by_lem none rs (b ∷ bs) w n t e = let f : w - n ≡ t = omega arith in ap (λ (i : ℕ). record { taken = i; passed = passed_of rs; block = 0 }) f
-found_by_lem none rs [] w n t e = let f : w - n ≡ t = omega arith in ap (λ (i : ℕ). record { taken = i; passed = passed_of rs; block = 0 }) f
+found_by_lem None rs (b ∷ bs) w n t e = let f : w - n ≡ t = omega arith in ap (λ (i : ℕ). record { taken = i; passed = passed_of rs; block = 0 }) f
+found_by_lem None rs [] w n t e = let f : w - n ≡ t = omega arith in ap (λ (i : ℕ). record { taken = i; passed = passed_of rs; block = 0 }) f
 
 pub found : (judge : List ℕ → Verdict) → Judging judge → (h piece : List ℕ)
     → scanned_of (feed_by judge h piece (length piece)) ≡ scanned_by (stretch_of (settle judge (h ++ piece)) nothing_passed (length h)) (length h) (length piece)

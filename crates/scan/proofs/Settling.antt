@@ -3,7 +3,7 @@
 use mathlib.Core.Path.{◌≡◌, refl, ap, ◌∙◌}
 use mathlib.Core.Logic.{◌⊎◌, inl, inr}
 use mathlib.Core.List.{List, [], ◌∷◌, ◌++◌}
-use mathlib.Core.Option.{Option, none, some}
+use Rattle.std.proofs.Common.{Option, None, Some}
 use Prim.Native.Nat.{ℕ, ◌≤◌}
 use native.Mathlib.Omega.{arith}
 use lib.ListN.{length, drop}
@@ -37,8 +37,8 @@ module _ (judge : List ℕ → Verdict) where
 
   -- what stands at the front of the rest
   abbrev pub Stopped : Option ℕ → List ℕ → Type 0
-  Stopped none v = (v ≡ []) ⊎ (judge v ≡ Undecided)
-  Stopped (some n) v = judge v ≡ Frame n
+  Stopped None v = (v ≡ []) ⊎ (judge v ≡ Undecided)
+  Stopped (Some n) v = judge v ≡ Frame n
 
   stopped_by : (x : Verdict) (v : List ℕ) (next : Settled) → judge v ≡ x → Stopped next.standing next.rest
       → Stopped (settle_by x v next).standing (settle_by x v next).rest
@@ -55,12 +55,12 @@ module _ (judge : List ℕ → Verdict) where
 
 module _ (judge : List ℕ → Verdict) (laws : Judging judge) (ys : List ℕ) where
   abbrev pub after : Option ℕ → List Reason → List ℕ → Settled
-  after (some n) rs v = record { passed = rs; standing = some n; rest = v ++ ys }
-  after none rs v = before rs (settle judge (v ++ ys))
+  after (Some n) rs v = record { passed = rs; standing = Some n; rest = v ++ ys }
+  after None rs v = before rs (settle judge (v ++ ys))
 
   pass_after : (r : Reason) (o : Option ℕ) (rs : List Reason) (v : List ℕ) → pass r (after o rs v) ≡ after o (r ∷ rs) v
-  pass_after r none rs v = refl
-  pass_after r (some n) rs v = refl
+  pass_after r None rs v = refl
+  pass_after r (Some n) rs v = refl
 
   same : (b : ℕ) (bs : List ℕ) (x : Verdict) → judge (b ∷ bs) ≡ x → (x ≡ Undecided → ⊥) → judge (b ∷ bs ++ ys) ≡ x
   same b bs x e n = laws.stays (b ∷ bs) ys (λ u. n (cc)) ∙ e
@@ -86,14 +86,14 @@ module _ (judge : List ℕ → Verdict) (laws : Judging judge) (ys : List ℕ) w
 
 module _ (judge : List ℕ → Verdict) (rest : List ℕ) where
   abbrev pub joined : Option ℕ → List Reason → List ℕ → Settled
-  joined (some n) rs v = record { passed = rs; standing = some n; rest = v ++ rest }
-  joined none rs (b ∷ bs) = record { passed = rs; standing = none; rest = b ∷ bs ++ rest }
-  joined none rs [] = before rs (settle judge rest)
+  joined (Some n) rs v = record { passed = rs; standing = Some n; rest = v ++ rest }
+  joined None rs (b ∷ bs) = record { passed = rs; standing = None; rest = b ∷ bs ++ rest }
+  joined None rs [] = before rs (settle judge rest)
 
   pass_joined : (r : Reason) (o : Option ℕ) (rs : List Reason) (v : List ℕ) → pass r (joined o rs v) ≡ joined o (r ∷ rs) v
-  pass_joined r (some n) rs v = refl
-  pass_joined r none rs (b ∷ bs) = refl
-  pass_joined r none rs [] = refl
+  pass_joined r (Some n) rs v = refl
+  pass_joined r None rs (b ∷ bs) = refl
+  pass_joined r None rs [] = refl
 
   joined_by : (x : Verdict) (b : ℕ) (bs : List ℕ) (next : Settled) → settle judge (bs ++ rest) ≡ joined next.standing next.passed next.rest
       → settle_by x (b ∷ bs ++ rest) (settle judge (bs ++ rest))
@@ -111,8 +111,8 @@ module _ (judge : List ℕ → Verdict) (rest : List ℕ) where
 -- ---- a standing block is there whole
 
 pub front_by : (judge : List ℕ → Verdict) (o : Option ℕ) (v : List ℕ) → Fits v (judge v) → Stopped judge o v → size o ≤ length v
-front_by judge none v f s = omega arith
-front_by judge (some n) v f s = let t : There n v = rw s at f in t.within
+front_by judge None v f s = omega arith
+front_by judge (Some n) v f s = let t : There n v = rw s at f in t.within
 
 pub settle_front : (judge : List ℕ → Verdict) → ((v : List ℕ) → Fits v (judge v)) → (h : List ℕ) → size (settle judge h).standing ≤ length (settle judge h).rest
 settle_front judge fits h =

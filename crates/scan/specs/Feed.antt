@@ -1,7 +1,6 @@
 -- Feeding a piece, a byte at a time (rule C6).
 -- Assumes nothing.
-use Rattle.std.specs.Prelude.{ℕ, zero, suc, List, [], ◌∷◌, ◌++◌}
-use Rattle.std.proofs.Math.Option.{Option, none, some}
+use Rattle.std.specs.Prelude.{ℕ, zero, suc, List, [], ◌∷◌, ◌++◌, Option, None, Some}
 use Rattle.frame.specs.Judge.{judged}
 use Rattle.scan.specs.Settle.{Settled, settle}
 use Rattle.frame.specs.declared.Reason.{Reason}
@@ -26,8 +25,8 @@ go_on s next =
 
 -- C6: a block ends the taking
 abbrev pub unless_block : Option ℕ → Settled → Intake → Intake
-unless_block (some n) s next = stop s
-unless_block none s next = go_on s next
+unless_block (Some n) s next = stop s
+unless_block None s next = go_on s next
 
 -- C6, by any judge of places; `room` is how many bytes the run may still take
 unfoldable pub feed_by : (List ℕ → Verdict) → List ℕ → List ℕ → ℕ → Intake
@@ -42,5 +41,5 @@ feed_lit c = feed_by (judged c)
 
 -- the length of the standing block, 0 for none
 abbrev pub size : Option ℕ → ℕ
-size none = 0
-size (some n) = n
+size None = 0
+size (Some n) = n

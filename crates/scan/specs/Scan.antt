@@ -1,7 +1,6 @@
 -- Working definitions: the scan of a part of the run, and the places that it passes at once. Only inner functions cite them.
 -- Assumes nothing.
-use Rattle.std.specs.Prelude.{◌≡◌, ℕ, ◌+◌, ◌≤◌, ◌<◌, max, List, [], ◌∷◌, ◌++◌, length, get_or}
-use Rattle.std.proofs.Math.Option.{Option, none, some}
+use Rattle.std.specs.Prelude.{◌≡◌, ℕ, ◌+◌, ◌≤◌, ◌<◌, max, List, [], ◌∷◌, ◌++◌, length, get_or, Option, None, Some}
 use Rattle.scan.specs.Settle.{Settled}
 use Rattle.scan.specs.Passed.{count_all}
 use Rattle.frame.specs.declared.Reason.{Reason}
@@ -31,9 +30,9 @@ needed p m [] = m
 needed p m (r ∷ rs) = needed (p + 1) (raised r p m) rs
 
 abbrev pub stretch_by : Option ℕ → List ℕ → Passed → ℕ → Stretch
-stretch_by (some n) v a m = Block a n (max m (a.skipped + n))
-stretch_by none (b ∷ bs) a m = Waits a
-stretch_by none [] a m = Through a m
+stretch_by (Some n) v a m = Block a n (max m (a.skipped + n))
+stretch_by None (b ∷ bs) a m = Waits a
+stretch_by None [] a m = Through a m
 
 -- a part settled, where a was passed before and m bytes had to be taken
 abbrev pub stretch_of : Settled → Passed → ℕ → Stretch

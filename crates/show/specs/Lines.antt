@@ -1,7 +1,6 @@
 -- The lines of the calls that may write, byte by byte (docs/REPLAY.md).
 -- Assumes nothing.
-use Rattle.std.specs.Prelude.{ℕ, Bool, true, false, cond, List, [], ◌∷◌, ◌++◌}
-use Rattle.std.proofs.Math.Option.{none, some}
+use Rattle.std.specs.Prelude.{ℕ, Bool, true, false, cond, List, [], ◌∷◌, ◌++◌, None, Some}
 use Rattle.text.specs.Numbers.{spaced, crc_text}
 use Rattle.phrases.specs.Lines.{newline, block_words, end_words}
 use Rattle.phrases.specs.Replies.{refused_text, word_bar}
@@ -45,8 +44,8 @@ one_for false = 0
 abbrev pub said_text : List ℕ → Said → List ℕ
 said_text w (refused n) = refused_text n
 said_text w (version v) = w ++ spaced v
-said_text w (took t none) = fed_text t ++ word_more
-said_text w (took t (some r)) = fed_text t ++ word_gap ++ block_words r
+said_text w (took t None) = fed_text t ++ word_more
+said_text w (took t (Some r)) = fed_text t ++ word_gap ++ block_words r
 said_text w (found r) = block_words r
 said_text w (ended c) = end_words c
 said_text w (waited b) = word_withdrawn ++ spaced (one_for b)

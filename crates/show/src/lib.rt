@@ -2,7 +2,6 @@
 #![tactic(auto)]
 
 ghost use Rattle.std.specs.Prelude.{◌+◌, ◌≤◌, ◌≡◌, ◌++◌, take};
-ghost use Rattle.std.proofs.Math.Option.{none, some};
 ghost use Rattle.reader.specs.Said.{report_of, took};
 ghost use Rattle.phrases.specs.Replies.{state_text};
 ghost use Rattle.show.specs.Lines.{one_for, word_fed, said_text, run_text, crcs_text};
@@ -23,7 +22,7 @@ fn one_for(b: bool) -> u64
 fn more_words(out: &mut [u8; 8192], at: usize, n: usize) -> usize
     requires { at + 120 ≤ 8192 }
     ensures upper_bound { result ≤ at + 120 }
-    ensures out_after { take result out.new ≡ take at out.old ++ said_text word_fed (took n none) }
+    ensures out_after { take result out.new ≡ take at out.old ++ said_text word_fed (took n None) }
 {
     let count = text::word_number(out, at, b"fed", n as u64);
     text::put(out, count, b" more")
@@ -33,7 +32,7 @@ fn more_words(out: &mut [u8; 8192], at: usize, n: usize) -> usize
 fn fed_words(out: &mut [u8; 8192], at: usize, n: usize, b: Block) -> usize
     requires { at + 120 ≤ 8192 }
     ensures upper_bound { result ≤ at + 120 }
-    ensures out_after { take result out.new ≡ take at out.old ++ said_text word_fed (took n (some (report_of b))) }
+    ensures out_after { take result out.new ≡ take at out.old ++ said_text word_fed (took n (Some (report_of b))) }
 {
     let count = text::word_number(out, at, b"fed", n as u64);
     let gap = text::put(out, count, b" ");

@@ -2,7 +2,7 @@
 -- Assumes nothing.
 use mathlib.Core.Bool.{Bool, true, false, ◌&&◌}
 use mathlib.Core.List.{List, [], ◌∷◌}
-use mathlib.Core.Option.{none, some, map}
+use Rattle.std.proofs.Common.{None, Some, option_map}
 use mathlib.Core.Path.{◌≡◌, refl, sym, ap, ◌∙◌}
 use Prim.Native.Nat.{ℕ, zero, suc, ◌+◌, ◌*◌, ◌<◌, ◌≤◌}
 use native.Mathlib.Omega.{arith}
@@ -70,21 +70,21 @@ module _ (t : List ℕ) where
 
 -- what `find` promises
 module _ (t : List ℕ) (n : ℕ) where
-  find_is : find_row (decode t) n ≡ map (block_of t) (first_that (numbered n) (rows_of t))
+  find_is : find_row (decode t) n ≡ option_map (block_of t) (first_that (numbered n) (rows_of t))
   unfolding find_row decode block_of
   find_is = first_map (block_of t) (has_number n) (rows_of t)
 
-  pub found_at : table_ok t ≡ true → {r : Row} {i : ℕ} → first_that (numbered n) (rows_of t) ≡ some r → r ≡ row_at t i → i < block_count t → Finding t n (At r)
-  found_at ok e g h = record { is = sym (find_is ∙ ap (map (block_of t)) e); stands = stands t ok _ h g }
+  pub found_at : table_ok t ≡ true → {r : Row} {i : ℕ} → first_that (numbered n) (rows_of t) ≡ Some r → r ≡ row_at t i → i < block_count t → Finding t n (At r)
+  found_at ok e g h = record { is = sym (find_is ∙ ap (option_map (block_of t)) e); stands = stands t ok _ h g }
 
-  pub found_nothing : first_that (numbered n) (rows_of t) ≡ none → Finding t n Nothing
-  found_nothing e = record { is = sym (find_is ∙ ap (map (block_of t)) e); stands = tt }
+  pub found_nothing : first_that (numbered n) (rows_of t) ≡ None → Finding t n Nothing
+  found_nothing e = record { is = sym (find_is ∙ ap (option_map (block_of t)) e); stands = tt }
 
 -- a number has one row
 abbrev below : BlockRow → BlockRow → Bool
 below b c = ltb b.number c.number
 
-later : (x : BlockRow) (bs : List BlockRow) → chain below x bs ≡ true → (j : ℕ) (b : BlockRow) → pick bs j ≡ some b → x.number < b.number
+later : (x : BlockRow) (bs : List BlockRow) → chain below x bs ≡ true → (j : ℕ) (b : BlockRow) → pick bs j ≡ Some b → x.number < b.number
 unfolding chain pick
 later x [] e j b p = let z : ◌≡◌ {A = ℕ} 0 1 = cc in absurd (omega arith)
 later x (y ∷ ys) e zero b p =
@@ -103,7 +103,7 @@ unfolding chain neighbours
 tail-rises x [] e = refl
 tail-rises x (y ∷ ys) e = (both (below x y) _ e).1
 
-one : (bs : List BlockRow) → neighbours below bs ≡ true → (i j : ℕ) (a b : BlockRow) → pick bs i ≡ some a → pick bs j ≡ some b → a.number ≡ b.number → i ≡ j
+one : (bs : List BlockRow) → neighbours below bs ≡ true → (i j : ℕ) (a b : BlockRow) → pick bs i ≡ Some a → pick bs j ≡ Some b → a.number ≡ b.number → i ≡ j
 unfolding pick neighbours
 one [] e i j a b p q s = let z : ◌≡◌ {A = ℕ} 0 1 = cc in absurd (omega arith)
 one (x ∷ xs) e zero zero a b p q s = refl

@@ -2,7 +2,7 @@
 -- Assumes nothing.
 use mathlib.Core.Bool.{Bool, true, false, ◌&&◌}
 use mathlib.Core.List.{List, []}
-use mathlib.Core.Option.{some}
+use Rattle.std.proofs.Common.{Some}
 use mathlib.Core.Path.{◌≡◌, refl, sym, ◌∙◌}
 use Prim.Native.Nat.{ℕ, ◌+◌, ◌-◌, ◌<◌, ◌≤◌}
 use native.Mathlib.Nat.{le_refl}
@@ -91,7 +91,7 @@ module _ (t : List ℕ) (r : Row) (ok : block_ok (block_of t r) ≡ true) where
     unfolding second_rows block_of
     second_are = rw (ne_eqb r.firsts 0 two) (drop_tab (field_at t) (r.start + r.bodies) r.subs r.firsts few)
 
-    pub nested_is : nested_row (block_of t r) ≡ some (field_at t (r.start + r.bodies + (r.firsts - 1)))
+    pub nested_is : nested_row (block_of t r) ≡ Some (field_at t (r.start + r.bodies + (r.firsts - 1)))
     unfolding block_of
     nested_is =
         let h = few in

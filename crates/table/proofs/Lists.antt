@@ -2,8 +2,7 @@
 -- Assumes nothing.
 use mathlib.Core.Bool.{Bool, true, false, ◌&&◌, cond}
 use mathlib.Core.List.{List, [], ◌∷◌, map}
-use mathlib.Core.Option
-use mathlib.Core.Option.{Option, none, some}
+use Rattle.std.proofs.Common.{Option, None, Some, option_map}
 use mathlib.Core.Path.{◌≡◌, refl, sym, ap, ◌∙◌}
 use Prim.Native.Nat.{ℕ, zero, suc, ◌+◌, ◌-◌, ◌<◌, ◌≤◌}
 use native.Mathlib.Nat.{add-zero, sub-zero, not-suc-le-zero}
@@ -51,7 +50,7 @@ module _ {A : Type 0} (f : ℕ → A) where
       let n : i + 1 + j ≡ i + suc j = omega arith in
       rw (← n) (every_at_lem p (i + 1) k j (both (p (f i)) _ e).1 (omega arith))
 
-  pub pick_in : (i k j : ℕ) → j < k → pick (tabulate f i k) j ≡ some (f (i + j))
+  pub pick_in : (i k j : ℕ) → j < k → pick (tabulate f i k) j ≡ Some (f (i + j))
   unfolding tabulate pick
   pick_in i zero j h = absurd (not-suc-le-zero h)
   pick_in i (suc k) zero h = rw add-zero
@@ -59,7 +58,7 @@ module _ {A : Type 0} (f : ℕ → A) where
       let n : i + 1 + j ≡ i + suc j = omega arith in
       rw (← n) (pick_in (i + 1) k j (omega arith))
 
-  pub pick_out : (i k j : ℕ) → k ≤ j → pick (tabulate f i k) j ≡ none
+  pub pick_out : (i k j : ℕ) → k ≤ j → pick (tabulate f i k) j ≡ None
   unfolding tabulate pick
   pick_out i zero j h = refl
   pick_out i (suc k) zero h = absurd (not-suc-le-zero h)
@@ -99,11 +98,11 @@ module _ {A B : Type 0} (f : A → B) where
   neighbours_map p (x ∷ xs) = chain_map p x xs
 
   -- the first of a mapped list, where the test sees through the map
-  pub first_map : (p : B → Bool) (xs : List A) → first_that p (map f xs) ≡ Option.map f (first_that (λ (x : A). p (f x)) xs)
+  pub first_map : (p : B → Bool) (xs : List A) → first_that p (map f xs) ≡ option_map f (first_that (λ (x : A). p (f x)) xs)
   unfolding first_that
   first_map p [] = refl
   first_map p (x ∷ xs) = picked (p (f x)) (first_that (λ (y : A). p (f y)) xs) (first_map p xs) where
-    picked : (b : Bool) (q : Option A) {o : Option B} → o ≡ Option.map f q → cond b (some (f x)) o ≡ Option.map f (cond b (some x) q)
+    picked : (b : Bool) (q : Option A) {o : Option B} → o ≡ option_map f q → cond b (Some (f x)) o ≡ option_map f (cond b (Some x) q)
     picked true q e = refl
     picked false q e = e
 

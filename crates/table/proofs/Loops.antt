@@ -2,7 +2,7 @@
 -- Assumes nothing.
 use mathlib.Core.Bool.{Bool, true, false, ◌&&◌, cond, and-false}
 use mathlib.Core.List.{List}
-use mathlib.Core.Option.{Option, none, some}
+use Rattle.std.proofs.Common.{Option, None, Some}
 use mathlib.Core.Path.{◌≡◌, refl, sym, ap, ◌∙◌}
 use Prim.Native.Nat.{ℕ, zero, suc, ◌+◌, ◌-◌, ◌<◌, ◌≤◌}
 use lib.Dec.{leb, eqb}
@@ -92,7 +92,7 @@ module _ (t : List ℕ) (r : Row) where
   pub two_says : 0 < r.firsts → r.firsts ≤ r.subs → {x y n m e : Bool}
       → x ≡ field_pass 0 0 r.highest (tabulate (field_at t) (r.start + r.bodies) r.firsts)
       → y ≡ field_pass 0 0 r.highest (tabulate (field_at t) (r.start + r.bodies + r.firsts) (r.subs - r.firsts))
-      → n ≡ is_nested (some (field_at t (r.start + r.bodies + (r.firsts - 1)))) → m ≡ is_triple (tabulate (field_at t) r.start r.bodies)
+      → n ≡ is_nested (Some (field_at t (r.start + r.bodies + (r.firsts - 1)))) → m ≡ is_triple (tabulate (field_at t) r.start r.bodies)
       → e ≡ every early (tabulate (field_at t) r.start r.bodies) → (x && y && n && m && e) ≡ two_pass (block_of t r)
   unfolding two_pass nest_ok block_of
   two_says l h {x} {y} {n} {m} {e} p q a b c =
@@ -152,16 +152,16 @@ abbrev pub numbered : ℕ → Row → Bool
 numbered n r = eqb r.number n
 
 module _ (t : List ℕ) (n i k : ℕ) (whole : Option Row) (inv : whole ≡ first_that (numbered n) (tabulate (row_at t) i k)) where
-  pub find_done : k ≡ 0 → whole ≡ none
+  pub find_done : k ≡ 0 → whole ≡ None
   unfolding first_that
   find_done e = inv ∙ rw (tab_none (row_at t) i k e)
 
-  find_by : 0 < k → whole ≡ cond (numbered n (row_at t i)) (some (row_at t i)) (first_that (numbered n) (tabulate (row_at t) (i + 1) (k - 1)))
+  find_by : 0 < k → whole ≡ cond (numbered n (row_at t i)) (Some (row_at t i)) (first_that (numbered n) (tabulate (row_at t) (i + 1) (k - 1)))
   unfolding first_that
   find_by h = inv ∙ ap (first_that (numbered n)) (tab-more (row_at t) i k h)
 
   module _ (r : Row) (g : r ≡ row_at t i) (h : 0 < k) where
-    pub find_stop : r.number ≡ n → whole ≡ some r
+    pub find_stop : r.number ≡ n → whole ≡ Some r
     find_stop b = find_by h ∙ rw (← g, eq-eqb r.number n b)
 
     pub find_go : (r.number ≡ n → ⊥) → (j l : ℕ) → j ≡ i + 1 → l ≡ k - 1 → whole ≡ first_that (numbered n) (tabulate (row_at t) j l)

@@ -1,8 +1,7 @@
 -- Lists: what stands at each index, what holds of every element and of every two neighbours, the first that a test holds of; and whether
 -- there is something.
 -- Assumes nothing.
-use Rattle.std.specs.Prelude.{Bool, true, false, ◌&&◌, cond, List, [], ◌∷◌, ℕ, zero, suc, ◌+◌}
-use Rattle.std.proofs.Math.Option.{Option, none, some}
+use Rattle.std.specs.Prelude.{Bool, true, false, ◌&&◌, cond, List, [], ◌∷◌, ℕ, zero, suc, ◌+◌, Option, None, Some}
 
 -- f i, f (i + 1), and so on, n of them
 unfoldable pub tabulate : {A : Type 0} → (ℕ → A) → ℕ → ℕ → List A
@@ -25,15 +24,15 @@ neighbours p (x ∷ xs) = chain p x xs
 
 -- the first that p holds of
 unfoldable pub first_that : {A : Type 0} → (A → Bool) → List A → Option A
-first_that p [] = none
-first_that p (x ∷ xs) = cond (p x) (some x) (first_that p xs)
+first_that p [] = None
+first_that p (x ∷ xs) = cond (p x) (Some x) (first_that p xs)
 
 -- element k, if there is one
 unfoldable pub pick : {A : Type 0} → List A → ℕ → Option A
-pick [] k = none
-pick (x ∷ xs) zero = some x
+pick [] k = None
+pick (x ∷ xs) zero = Some x
 pick (x ∷ xs) (suc k) = pick xs k
 
 abbrev pub is_some : {A : Type 0} → Option A → Bool
-is_some none = false
-is_some (some x) = true
+is_some None = false
+is_some (Some x) = true

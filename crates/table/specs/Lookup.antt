@@ -1,7 +1,6 @@
 -- Finding a block's row in a decoded table (rule R6), the fields that a revision carries (V5), and what `find` promises.
 -- Assumes nothing.
-use Rattle.std.specs.Prelude.{Bool, true, List, ◌≡◌, ℕ, ◌+◌, ◌≤◌, ◌<◌, leb, eqb}
-use Rattle.std.proofs.Math.Option.{Option, none, some}
+use Rattle.std.specs.Prelude.{Bool, true, List, ◌≡◌, ℕ, ◌+◌, ◌≤◌, ◌<◌, leb, eqb, Option, None, Some}
 use Rattle.rows.specs.declared.FieldRow.{FieldRow}
 use Rattle.rows.specs.declared.Row.{Row}
 use Rattle.table.specs.declared.RowFound.{RowFound}
@@ -25,8 +24,8 @@ carried revision f = leb f.first revision
 
 -- D9: the row that the code's answer means
 abbrev pub row_says : List ℕ → RowFound → Option BlockRow
-row_says t (At r) = some (block_of t r)
-row_says t Nothing = none
+row_says t (At r) = Some (block_of t r)
+row_says t Nothing = None
 
 -- r is a block row of the table; what a caller may use of it: its field rows are there, and they keep the rules
 pub record Stands (t : List ℕ) (r : Row) : Type 0 where

@@ -1,8 +1,7 @@
 -- What a table means: a version and a list of block rows, each with its field rows, and which of them are of which level. Nothing here
 -- knows a table's bytes.
 -- Assumes nothing.
-use Rattle.std.specs.Prelude.{Bool, cond, List, [], ℕ, ◌+◌, ◌-◌, eqb, take, drop}
-use Rattle.std.proofs.Math.Option.{Option}
+use Rattle.std.specs.Prelude.{Bool, cond, List, [], ℕ, ◌+◌, ◌-◌, eqb, take, drop, Option}
 use Rattle.rows.specs.declared.FieldRow.{FieldRow}
 use Rattle.kinds.specs.Types.{size_of}
 use Rattle.table.specs.Lists.{pick}

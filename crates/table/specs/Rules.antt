@@ -1,7 +1,6 @@
 -- The rules of a table, T1 to T17, T19 and T20, each by itself: on its form, `form_ok`, on its meaning, `meaning_ok`, and all, `table_ok`.
 -- Assumes nothing.
-use Rattle.std.specs.Prelude.{Bool, true, false, ◌&&◌, ◌||◌, cond, List, [], ◌∷◌, ℕ, ◌+◌, ◌-◌, ◌*◌, ltb, leb, eqb, length, get_or}
-use Rattle.std.proofs.Math.Option.{Option, none, some}
+use Rattle.std.specs.Prelude.{Bool, true, false, ◌&&◌, ◌||◌, cond, List, [], ◌∷◌, ℕ, ◌+◌, ◌-◌, ◌*◌, ltb, leb, eqb, length, get_or, Option, None, Some}
 use Rattle.crc.specs.Crc.{crc_of}
 use Rattle.kinds.specs.Types.{u1, listed}
 use Rattle.kinds.specs.Marks.{unmarked, mark_fits}
@@ -119,8 +118,8 @@ levels_ok b = leb b.firsts (length b.subs)
 
 -- T20: N2, at whatever offset
 abbrev pub is_nested : Option FieldRow → Bool
-is_nested none = false
-is_nested (some f) = is_count f.offset f
+is_nested None = false
+is_nested (Some f) = is_count f.offset f
 
 -- T20: the body begins with N1, SB1Length and SB2Length
 unfoldable pub is_triple : List FieldRow → Bool

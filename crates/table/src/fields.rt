@@ -1,6 +1,5 @@
 // The rules on field rows (T12 to T16, T20).
 ghost use Rattle.std.specs.Prelude.{◌≡◌, ◌+◌, ◌≤◌, ◌<◌};
-ghost use Rattle.std.proofs.Math.Option.{some};
 ghost use Rattle.table.specs.Lists.{tabulate, every};
 ghost use Rattle.rows.specs.Places.{field_count, field_at};
 ghost use Rattle.table.specs.Rules.{is_count, is_pair, is_nested, is_triple, early};
@@ -59,7 +58,7 @@ pub fn pair_ok(t: &[u8], at: usize, count: usize) -> bool
 // Whether the row of this index can be N2.
 pub fn nested_ok(t: &[u8], at: usize) -> bool
     requires { at < field_count t.now }
-    ensures { result ≡ is_nested (some (field_at t.now at)) }
+    ensures { result ≡ is_nested (Some (field_at t.now at)) }
 {
     let f = rows::field_at(t, at);
     is_count(f, f.offset)

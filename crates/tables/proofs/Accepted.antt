@@ -3,7 +3,7 @@
 use mathlib.Core.Path.{◌≡◌, sym, ap, ap₂, ◌∙◌}
 use mathlib.Core.Bool.{true, ◌&&◌}
 use mathlib.Core.List.{List, ◌++◌}
-use mathlib.Core.Option.{none}
+use Rattle.std.proofs.Common.{None}
 use Prim.Native.Nat.{ℕ, ◌+◌, ◌≤◌}
 use native.Mathlib.Nat.{zero-add}
 use lib.ListN.{length, take, drop}
@@ -25,17 +25,17 @@ pub record OpenPassed (s : State) (force wait : List ℕ) : Type 0 where
   pub long_force : 8192 ≤ length force
   pub long_wait : 8192 ≤ length wait
 
-pub open_passed : (s : State) (x : Settings) (force wait : List ℕ) → open_refusal s x force wait ≡ none → OpenPassed s force wait
+pub open_passed : (s : State) (x : Settings) (force wait : List ℕ) → open_refusal s x force wait ≡ None → OpenPassed s force wait
 unfolding open_refusal
 open_passed s x force wait e =
     let f = with_stores s force wait (passes (sound s && long_store force && long_store wait) 1 _ e).0 in
     record { facts = f.0; long_force = f.1; long_wait = f.2 }
 
-pub stage_passed : (s : State) (wait t : List ℕ) → stage_refusal s wait t ≡ none → (8192 ≤ length wait) × (table_ok t ≡ true)
+pub stage_passed : (s : State) (wait t : List ℕ) → stage_refusal s wait t ≡ None → (8192 ≤ length wait) × (table_ok t ≡ true)
 unfolding stage_refusal
 stage_passed s wait t e =
     let p = passes (sound s && long_store wait) 1 (table_refusal t) e in
-    ((with_store s wait p.0).1, (passes (table_ok t) 4 none p.1).0)
+    ((with_store s wait p.0).1, (passes (table_ok t) 4 None p.1).0)
 
 -- ---- states and copies
 

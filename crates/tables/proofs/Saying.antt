@@ -3,7 +3,7 @@
 use mathlib.Core.Path.{◌≡◌, refl, ap, ap₂, ◌∙◌}
 use mathlib.Core.Bool.{Bool, true, false, ◌&&◌, ◌||◌, cond}
 use mathlib.Core.List.{List}
-use mathlib.Core.Option.{Option, none}
+use Rattle.std.proofs.Common.{Option, None}
 use Prim.Native.Nat.{ℕ, ◌<◌, ◌≤◌}
 use lib.ListN.{take}
 use lib.Dec.{ltb}
@@ -22,7 +22,7 @@ use Rattle.reader.specs.declared.State.{State}
 
 -- the last refusal, or the version
 said_by : (b : Bool) (t : List ℕ) (s : State) (l : List ℕ) (d : Outcome) → table_ok t ≡ b → d.said ≡ version (decode t).version
-    → (unless (need b 4 none) s l d).said ≡ cond b (version (decode t).version) (refused 4)
+    → (unless (need b 4 None) s l d).said ≡ cond b (version (decode t).version) (refused 4)
 said_by true t s l d e f = f
 said_by false t s l d e f = refl
 

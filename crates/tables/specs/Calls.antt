@@ -1,7 +1,6 @@
 -- What Open, Stage and Withdraw answer and leave (rules C5, C10 to C12, C17), and their refusals in order (R20).
 -- Assumes nothing.
-use Rattle.std.specs.Prelude.{ℕ, ◌&&◌, ◌||◌, cond, List, [], length, take, ltb}
-use Rattle.std.proofs.Math.Option.{Option, none}
+use Rattle.std.specs.Prelude.{ℕ, ◌&&◌, ◌||◌, cond, List, [], length, take, ltb, Option, None}
 use Rattle.feed.specs.Hold.{over}
 use Rattle.frame.specs.Frame.{ceiling_ok}
 use Rattle.table.specs.Decode.{decode}
@@ -66,7 +65,7 @@ stage_of s wait t = unless (stage_refusal s wait t) s wait (staging s wait t)
 
 -- R20: 1
 unfoldable pub withdraw_refusal : State → Option ℕ
-withdraw_refusal s = need (sound s) 1 none
+withdraw_refusal s = need (sound s) 1 None
 
 -- C11, C12: what Withdraw does; it is lent nothing (C3)
 abbrev pub withdrawing : State → Outcome

@@ -1,7 +1,7 @@
 -- The places of a walk stand one behind the other: each starts where the one before it ends, or later (rule T21).
 -- Assumes nothing.
 use mathlib.Core.List.{List, [], ◌∷◌, ◌++◌}
-use mathlib.Core.Option.{none, some}
+use Rattle.std.proofs.Common.{None, Some}
 use mathlib.Core.Path.{◌≡◌, refl, ap, subst}
 use Prim.Native.Nat.{ℕ, zero, suc, ◌+◌, ◌*◌, ◌≤◌, ◌<◌}
 use native.Mathlib.Nat.{add-zero, suc-mul, zero-mul, zero-add, le_refl}
@@ -35,16 +35,16 @@ laid_join lo mid hi [] ts d e = laid_from lo mid hi ts d e
 laid_join lo mid hi (s ∷ ss) ts d e = (d.0, laid_join (s.at + s.size) mid hi ss ts d.1 e)
 
 -- nothing is picked of no places
-nothing : {X : Type 0} {s : Span} → none ≡ some s → X
+nothing : {X : Type 0} {s : Span} → None ≡ Some s → X
 nothing e = let z : ◌≡◌ {A = ℕ} 0 1 = cc in let f : ⊥ = omega arith in absurd f
 
-laid_after : (lo hi : ℕ) (ss : List Span) → Laid lo ss hi → (i : ℕ) (s : Span) → pick ss i ≡ some s → lo ≤ s.at
+laid_after : (lo hi : ℕ) (ss : List Span) → Laid lo ss hi → (i : ℕ) (s : Span) → pick ss i ≡ Some s → lo ≤ s.at
 unfolding Laid pick
 laid_after lo hi [] d i s e = nothing e
 laid_after lo hi (x ∷ ss) d zero s e = let u : x ≡ s = cc in subst (λ (y : Span). lo ≤ y.at) u d.0
 laid_after lo hi (x ∷ ss) d (suc i) s e = omega (arith, d.0, laid_after (x.at + x.size) hi ss d.1 i s e)
 
-laid_by : (lo hi : ℕ) (ss : List Span) → Laid lo ss hi → (i : ℕ) (s : Span) → pick ss i ≡ some s → s.at + s.size ≤ hi
+laid_by : (lo hi : ℕ) (ss : List Span) → Laid lo ss hi → (i : ℕ) (s : Span) → pick ss i ≡ Some s → s.at + s.size ≤ hi
 unfolding Laid pick
 laid_by lo hi [] d i s e = nothing e
 laid_by lo hi (x ∷ ss) d zero s e =
@@ -52,7 +52,7 @@ laid_by lo hi (x ∷ ss) d zero s e =
     subst (λ (y : Span). y.at + y.size ≤ hi) u (laid_whole _ hi ss d.1)
 laid_by lo hi (x ∷ ss) d (suc i) s e = laid_by (x.at + x.size) hi ss d.1 i s e
 
-laid_apart : (lo hi : ℕ) (ss : List Span) → Laid lo ss hi → (i j : ℕ) (s t : Span) → i < j → pick ss i ≡ some s → pick ss j ≡ some t
+laid_apart : (lo hi : ℕ) (ss : List Span) → Laid lo ss hi → (i j : ℕ) (s t : Span) → i < j → pick ss i ≡ Some s → pick ss j ≡ Some t
     → s.at + s.size ≤ t.at
 unfolding Laid pick
 laid_apart lo hi [] d i j s t l e f = nothing e

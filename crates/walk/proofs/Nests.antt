@@ -3,7 +3,7 @@
 -- Assumes nothing.
 use mathlib.Core.Bool.{Bool, true, false, ◌||◌}
 use mathlib.Core.List.{List}
-use mathlib.Core.Option.{none}
+use Rattle.std.proofs.Common.{None}
 use mathlib.Core.Path.{◌≡◌, refl, ap}
 use Prim.Native.Nat.{ℕ, zero, suc, ◌≤◌, ◌<◌}
 use native.Mathlib.Nat.{not-suc-le-zero, le_refl}
@@ -55,7 +55,7 @@ module _ (n2 : ℕ) (b : List ℕ) where
   come_to k h = come 20 (count_in b) k h
 
   -- where there is no such one, nothing is nested
-  gone : (at n k : ℕ) → n ≤ k → pick (walk_from n2 b at n) k ≡ none
+  gone : (at n k : ℕ) → n ≤ k → pick (walk_from n2 b at n) k ≡ None
   unfolding walk_from pick
   gone at zero k h = refl
   gone at (suc n) zero h = absurd (not-suc-le-zero h)

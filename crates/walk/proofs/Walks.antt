@@ -2,7 +2,7 @@
 -- Assumes nothing.
 use mathlib.Core.Bool.{Bool, false, ◌||◌, cond, or_assoc, or-false}
 use mathlib.Core.List.{List, [], ◌∷◌}
-use mathlib.Core.Option.{some}
+use Rattle.std.proofs.Common.{Some}
 use mathlib.Core.Path.{◌≡◌, refl, sym, ap, ◌∙◌}
 use Prim.Native.Nat.{ℕ, suc, ◌+◌, ◌-◌, ◌*◌, ◌≤◌, ◌<◌}
 use native.Mathlib.Nat.{mul-le-mul, sub-zero}
@@ -20,7 +20,7 @@ pub small : (k n : ℕ) → k < 256 → n < 256 → k * n ≤ 65025
 small k n a b = let u : k ≤ 255 = omega arith in let v : n ≤ 255 = omega arith in mul-le-mul u v
 
 module _ {A : Type 0} (x : A) (xs : List A) (j : ℕ) where
-  pick_first : j ≡ 0 → pick (x ∷ xs) j ≡ some x
+  pick_first : j ≡ 0 → pick (x ∷ xs) j ≡ Some x
   unfolding pick
   pick_first e = rw e
 
@@ -81,7 +81,7 @@ module _ (n2 : ℕ) (b : List ℕ) (k : ℕ) where
       -- the one that was asked for is this one
       here : i ≡ k → nest_or (pick (walk_over n2 b) k) ≡ n
       here e =
-          let p : pick (walk_over n2 b) k ≡ some n = w.left (omega arith) ∙ rw next (pick_first n _ (k - i) (omega arith)) in
+          let p : pick (walk_over n2 b) k ≡ Some n = w.left (omega arith) ∙ rw next (pick_first n _ (k - i) (omega arith)) in
           ap nest_or p
 
       module _ (e : ℕ) (u : e ≡ nest_end n) (f : e ≤ n.first.at + 65280) (m : Nest) (v : m ≡ cond (eqb i k) n nest) where

@@ -1,8 +1,7 @@
 -- The walk over sub-blocks of two levels (rule T21): a list of the first-level ones, each with those nested in it. It goes by the lengths
 -- in the block and by each one's N2.
 -- Assumes nothing.
-use Rattle.std.specs.Prelude.{ℕ, zero, suc, ◌+◌, ◌*◌, List, [], ◌∷◌, ◌++◌, Bool, false, ◌||◌, get_or, ltb}
-use Rattle.std.proofs.Math.Option.{Option, none, some}
+use Rattle.std.specs.Prelude.{ℕ, zero, suc, ◌+◌, ◌*◌, List, [], ◌∷◌, ◌++◌, Bool, false, ◌||◌, get_or, ltb, Option, None, Some}
 use Rattle.table.specs.Lists.{tabulate, pick}
 use Rattle.walk.specs.declared.Span.{Span}
 use Rattle.walk.specs.declared.Nest.{Nest}
@@ -68,8 +67,8 @@ abbrev pub no_nest : Nest
 no_nest = record { first = span 0 0; count = 0; size = 0 }
 
 abbrev pub nest_or : Option Nest → Nest
-nest_or none = no_nest
-nest_or (some n) = n
+nest_or None = no_nest
+nest_or (Some n) = n
 
 -- what the code's one pass finds out, on its way to first-level sub-block k
 unfoldable pub walked_of : ℕ → List ℕ → ℕ → Walked

@@ -4,7 +4,7 @@ use mathlib.Core.Path.{◌≡◌, refl, sym, ap, ap₂, ◌∙◌}
 use mathlib.Core.Bool.{Bool, true, false, cond, not, ◌&&◌, ◌||◌, false≢true, and-eq-true_iff}
 use mathlib.Mathlib.Data.Bool.Basic.{or-eq-false-eq-eq-false-and-eq-false}
 use mathlib.Core.List.{List, [], ◌∷◌, ◌++◌, append_assoc, append-nil}
-use mathlib.Core.Option.{Option, none, some}
+use Rattle.std.proofs.Common.{Option, None, Some}
 use Prim.Native.Nat.{ℕ, suc, ◌+◌, ◌-◌, ◌*◌, ◌/◌, ◌^◌, ◌≤◌, ◌<◌}
 use native.Mathlib.Nat.{pow-succ', pow-le-pow_right}
 use native.Mathlib.Numerals.{add-one}
@@ -74,46 +74,46 @@ module _ (w : List ℕ) (i k : ℕ) where
 
 module _ (v c : ℕ) where
   -- below `0` or above `9`
-  pub no_digit : (ltb c 48 || ltb 57 c) ≡ true → add_digit v c ≡ none
+  pub no_digit : (ltb c 48 || ltb 57 c) ≡ true → add_digit v c ≡ None
   unfolding add_digit
-  no_digit e = ap (λ (t : Bool). cond (t && leb (v * 10 + (c - 48)) 18446744073709551615) (some (v * 10 + (c - 48))) none) (outside 48 c 57 e)
+  no_digit e = ap (λ (t : Bool). cond (t && leb (v * 10 + (c - 48)) 18446744073709551615) (Some (v * 10 + (c - 48))) None) (outside 48 c 57 e)
 
   pub a_digit : (ltb c 48 || ltb 57 c) ≡ false → (48 ≤ c) × (c ≤ 57)
   a_digit e = let n = (or-eq-false-eq-eq-false-and-eq-false (ltb c 48) (ltb 57 c)).0 e in (ltb-false c 48 n.0, ltb-false 57 c n.1)
 
-  pub digit_over : 48 ≤ c → c ≤ 57 → 18446744073709551615 < v * 10 + (c - 48) → add_digit v c ≡ none
+  pub digit_over : 48 ≤ c → c ≤ 57 → 18446744073709551615 < v * 10 + (c - 48) → add_digit v c ≡ None
   unfolding add_digit
   digit_over h k l = rw (le-leb 48 c h, le-leb c 57 k, lt-leb (v * 10 + (c - 48)) 18446744073709551615 l)
 
-  pub digit_fits : 48 ≤ c → c ≤ 57 → v * 10 + (c - 48) ≤ 18446744073709551615 → add_digit v c ≡ some (v * 10 + (c - 48))
+  pub digit_fits : 48 ≤ c → c ≤ 57 → v * 10 + (c - 48) ≤ 18446744073709551615 → add_digit v c ≡ Some (v * 10 + (c - 48))
   unfolding add_digit
   digit_fits h k l = rw (le-leb 48 c h, le-leb c 57 k, le-leb (v * 10 + (c - 48)) 18446744073709551615 l)
 
-pub then_none : (w : List ℕ) → number_then w none ≡ none
+pub then_none : (w : List ℕ) → number_then w None ≡ None
 unfolding number_then
 then_none [] = refl
 then_none (c ∷ w) = then_none w
 
-pub number_some : (w : List ℕ) → 0 < length w → decimal_in w ≡ number_then w (some 0)
+pub number_some : (w : List ℕ) → 0 < length w → decimal_in w ≡ number_then w (Some 0)
 unfolding decimal_in
 number_some [] h = let z : ⊥ = omega arith in absurd z
 number_some (c ∷ w) h = refl
 
-pub number_empty : (w : List ℕ) → length w ≡ 0 → decimal_in w ≡ none
+pub number_empty : (w : List ℕ) → length w ≡ 0 → decimal_in w ≡ None
 unfolding decimal_in
 number_empty [] h = refl
 number_empty (c ∷ w) h = let z : ⊥ = omega arith in absurd z
 
 module _ (w : List ℕ) (i v : ℕ) where
-  pub number_stop : i < length w → add_digit v (get_or w i 0) ≡ none → number_then (drop i w) (some v) ≡ none
+  pub number_stop : i < length w → add_digit v (get_or w i 0) ≡ None → number_then (drop i w) (Some v) ≡ None
   unfolding number_then
-  number_stop h e = ap (λ (l : List ℕ). number_then l (some v)) (at_cons w i h) ∙ ap (number_then (drop (i + 1) w)) e ∙ then_none (drop (i + 1) w)
+  number_stop h e = ap (λ (l : List ℕ). number_then l (Some v)) (at_cons w i h) ∙ ap (number_then (drop (i + 1) w)) e ∙ then_none (drop (i + 1) w)
 
-  pub number_more : (n : ℕ) → i < length w → add_digit v (get_or w i 0) ≡ some n → number_then (drop i w) (some v) ≡ number_then (drop (i + 1) w) (some n)
+  pub number_more : (n : ℕ) → i < length w → add_digit v (get_or w i 0) ≡ Some n → number_then (drop i w) (Some v) ≡ number_then (drop (i + 1) w) (Some n)
   unfolding number_then
-  number_more n h e = ap (λ (l : List ℕ). number_then l (some v)) (at_cons w i h) ∙ ap (number_then (drop (i + 1) w)) e
+  number_more n h e = ap (λ (l : List ℕ). number_then l (Some v)) (at_cons w i h) ∙ ap (number_then (drop (i + 1) w)) e
 
-  pub number_end : length w ≤ i → number_then (drop i w) (some v) ≡ some v
+  pub number_end : length w ≤ i → number_then (drop i w) (Some v) ≡ Some v
   unfolding number_then
   number_end h = rw (drop_of_length-le w h)
 
@@ -139,21 +139,21 @@ module _ (c : ℕ) where
 
 -- bytes found, and those of the rest behind them
 abbrev pub before : List ℕ → Option (List ℕ) → Option (List ℕ)
-before l none = none
-before l (some m) = some (l ++ m)
+before l None = None
+before l (Some m) = Some (l ++ m)
 
 pub before_empty : (o : Option (List ℕ)) → before [] o ≡ o
-before_empty none = refl
-before_empty (some m) = refl
+before_empty None = refl
+before_empty (Some m) = refl
 
 pub before_more : (g : List ℕ) (n x : ℕ) (o : Option (List ℕ)) → n < length g → before (take (n + 1) (set g n x)) o ≡ before (take n g) (in_front x o)
-before_more g n x none h = refl
-before_more g n x (some m) h =
+before_more g n x None h = refl
+before_more g n x (Some m) h =
     let e : take (n + 1) (set g n x) ≡ take n g ++ (x ∷ []) = rw (add-one, take-suc-set g n x) in
-    ap some (ap (λ (l : List ℕ). l ++ m) e ∙ append_assoc (take n g) (x ∷ []) m)
+    ap Some (ap (λ (l : List ℕ). l ++ m) e ∙ append_assoc (take n g) (x ∷ []) m)
 
-pub before_last : (l : List ℕ) → before l (some []) ≡ some l
-before_last l = ap some (append-nil l)
+pub before_last : (l : List ℕ) → before l (Some []) ≡ Some l
+before_last l = ap Some (append-nil l)
 
 module _ (w : List ℕ) (i : ℕ) where
   two_cons : i + 1 < length w → drop i w ≡ get_or w i 0 ∷ get_or w (i + 1) 0 ∷ drop (i + 2) w
@@ -161,18 +161,18 @@ module _ (w : List ℕ) (i : ℕ) where
       let e : i + 1 + 1 ≡ i + 2 = omega arith in
       at_cons w i (omega arith) ∙ ap (λ (l : List ℕ). get_or w i 0 ∷ l) (at_cons w (i + 1) h ∙ ap (λ (n : ℕ). get_or w (i + 1) 0 ∷ drop n w) e)
 
-  pub bytes_odd : i + 1 ≡ length w → bytes_from (drop i w) ≡ none
+  pub bytes_odd : i + 1 ≡ length w → bytes_from (drop i w) ≡ None
   unfolding bytes_from
   bytes_odd h =
       let l : length w ≤ i + 1 = omega arith in
       ap bytes_from (at_cons w i (omega arith) ∙ ap (λ (x : List ℕ). get_or w i 0 ∷ x) (drop_of_length-le w l))
 
-  pub bytes_end : length w ≤ i → bytes_from (drop i w) ≡ some []
+  pub bytes_end : length w ≤ i → bytes_from (drop i w) ≡ Some []
   unfolding bytes_from
   bytes_end h = rw (drop_of_length-le w h)
 
 -- a pair is left out where one of the two is no digit
-none_of : {X : Type 0} (a b : Bool) (o : Option X) → (a || b) ≡ true → cond a none (cond b none o) ≡ none
+none_of : {X : Type 0} (a b : Bool) (o : Option X) → (a || b) ≡ true → cond a None (cond b None o) ≡ None
 none_of true b o e = refl
 none_of false true o e = refl
 none_of false false o e = absurd (false≢true e)
@@ -182,13 +182,13 @@ module _ (w g : List ℕ) (n x y : ℕ) (ex : x ≡ hex_digit (get_or w (n + n) 
   abbrev rest : Option (List ℕ)
   rest = bytes_from (drop (n + n + 2) w)
 
-  pair : bytes_from (drop (n + n) w) ≡ cond (ltb 15 x) none (cond (ltb 15 y) none (in_front (x * 16 + y) rest))
+  pair : bytes_from (drop (n + n) w) ≡ cond (ltb 15 x) None (cond (ltb 15 y) None (in_front (x * 16 + y) rest))
   unfolding bytes_from
   pair =
       ap bytes_from (two_cons w (n + n) h)
-      ∙ ap₂ (λ (p q : ℕ). cond (ltb 15 p) none (cond (ltb 15 q) none (in_front (p * 16 + q) rest))) (sym ex) (sym ey)
+      ∙ ap₂ (λ (p q : ℕ). cond (ltb 15 p) None (cond (ltb 15 q) None (in_front (p * 16 + q) rest))) (sym ex) (sym ey)
 
-  pub pair_bad : (ltb 15 x || ltb 15 y) ≡ true → none ≡ before (take n g) (bytes_from (drop (n + n) w))
+  pub pair_bad : (ltb 15 x || ltb 15 y) ≡ true → None ≡ before (take n g) (bytes_from (drop (n + n) w))
   pair_bad e = sym (ap (before (take n g)) (pair ∙ none_of (ltb 15 x) (ltb 15 y) (in_front (x * 16 + y) rest) e))
 
   pub pair_more : n < length g → (ltb 15 x || ltb 15 y) ≡ false
@@ -196,7 +196,7 @@ module _ (w g : List ℕ) (n x y : ℕ) (ex : x ≡ hex_digit (get_or w (n + n) 
   pair_more l e =
       let d : n + 1 + (n + 1) ≡ n + n + 2 = omega arith in
       let t = (or-eq-false-eq-eq-false-and-eq-false (ltb 15 x) (ltb 15 y)).0 e in
-      let c : cond (ltb 15 x) none (cond (ltb 15 y) none (in_front (x * 16 + y) rest)) ≡ in_front (x * 16 + y) rest = rw (t.0, t.1) in
+      let c : cond (ltb 15 x) None (cond (ltb 15 y) None (in_front (x * 16 + y) rest)) ≡ in_front (x * 16 + y) rest = rw (t.0, t.1) in
       ap (λ (k : ℕ). before (take (n + 1) (set g n (x * 16 + y))) (bytes_from (drop k w))) d
       ∙ before_more g n (x * 16 + y) rest l
       ∙ sym (ap (before (take n g)) (pair ∙ c))
@@ -213,7 +213,7 @@ module _ (w l : List ℕ) (n : ℕ) (m : n + n ≤ length w) (h : length w / 2 �
   pub pairs_end : bytes_say (eqb (n + n) (length w)) l ≡ before l (bytes_from (drop (n + n) w))
   pairs_end = ends (eqb (n + n) (length w)) refl
 
-pub bytes_none : (w : List ℕ) → length w ≡ 0 → bytes_in w ≡ none
+pub bytes_none : (w : List ℕ) → length w ≡ 0 → bytes_in w ≡ None
 unfolding bytes_in
 bytes_none [] h = refl
 bytes_none (c ∷ w) h = let z : ⊥ = omega arith in absurd z

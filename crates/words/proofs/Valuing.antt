@@ -4,7 +4,7 @@ use Prim.Native.Nat.{ℕ, ◌-◌, ◌%◌, ◌≤◌, ◌<◌}
 use mathlib.Core.Path.{◌≡◌, refl, ap}
 use mathlib.Core.Bool.{true, false}
 use mathlib.Core.List.{List, [], ◌∷◌}
-use mathlib.Core.Option.{none, some}
+use Rattle.std.proofs.Common.{None, Some}
 use native.Mathlib.Omega.{arith}
 use lib.Dec.{eqb}
 use lib.ListN.{length, take, drop, get_or, length-drop}
@@ -14,28 +14,28 @@ use Rattle.words.specs.Words.{decimal_in}
 use Rattle.words.specs.Values.{from_zero, below_zero, signed_number_in, of_kind, lone_is, letter_is, value_in, is_dash, stamp_in}
 
 module _ (n : ℕ) where
-  pub plus_near : n < 9223372036854775808 → some n ≡ from_zero (some n)
+  pub plus_near : n < 9223372036854775808 → Some n ≡ from_zero (Some n)
   plus_near h = rw (lt-ltb n 9223372036854775808 h)
 
-  pub plus_far : 9223372036854775808 ≤ n → none ≡ from_zero (some n)
+  pub plus_far : 9223372036854775808 ≤ n → None ≡ from_zero (Some n)
   plus_far h = rw (le-ltb n 9223372036854775808 h)
 
-  pub minus_zero : n ≡ 0 → some 0 ≡ below_zero (some n)
+  pub minus_zero : n ≡ 0 → Some 0 ≡ below_zero (Some n)
   minus_zero e = rw e
 
-  pub minus_far : 9223372036854775808 < n → none ≡ below_zero (some n)
+  pub minus_far : 9223372036854775808 < n → None ≡ below_zero (Some n)
   minus_far h = rw (lt-leb n 9223372036854775808 h)
 
-  pub minus_near : (n ≡ 0 → ⊥) → n ≤ 9223372036854775808 → some (18446744073709551615 - (n - 1)) ≡ below_zero (some n)
+  pub minus_near : (n ≡ 0 → ⊥) → n ≤ 9223372036854775808 → Some (18446744073709551615 - (n - 1)) ≡ below_zero (Some n)
   minus_near z h =
       let e : 18446744073709551615 - (n - 1) ≡ (18446744073709551616 - n) % 18446744073709551616 = omega arith in
-      rw (le-leb n 9223372036854775808 h) (ap some e)
+      rw (le-leb n 9223372036854775808 h) (ap Some e)
 
 -- the rest of a word, as the kit cuts it out
 pub rest_whole : (w : List ℕ) (n : ℕ) → take (length w - n) (drop n w) ≡ drop n w
 rest_whole w n = take_all (length w - n) (drop n w) (omega (arith, length-drop n w))
 
-pub signed_empty : (w : List ℕ) → length w ≡ 0 → none ≡ signed_number_in w
+pub signed_empty : (w : List ℕ) → length w ≡ 0 → None ≡ signed_number_in w
 unfolding signed_number_in
 signed_empty [] h = refl
 signed_empty (c ∷ w) h = let z : ⊥ = omega arith in absurd z
@@ -50,7 +50,7 @@ unfolding signed_number_in
 signed_plus [] h e = let z : ⊥ = omega arith in absurd z
 signed_plus (c ∷ w) h e = rw (ne_eqb c 45 e)
 
-pub value_empty : (w : List ℕ) → length w ≡ 0 → none ≡ value_in w
+pub value_empty : (w : List ℕ) → length w ≡ 0 → None ≡ value_in w
 unfolding value_in
 value_empty [] h = refl
 value_empty (c ∷ w) h = let z : ⊥ = omega arith in absurd z
@@ -78,15 +78,15 @@ one_dash (c ∷ []) h = refl
 one_dash (c ∷ d ∷ w) h = let z : ⊥ = omega arith in absurd z
 
 module _ (c : ℕ) where
-  pub lone_dash : c ≡ 45 → some (0, 0) ≡ lone_is c
+  pub lone_dash : c ≡ 45 → Some (0, 0) ≡ lone_is c
   unfolding lone_is
   lone_dash e = rw e
 
-  pub lone_slash : c ≡ 47 → some (255, 0) ≡ lone_is c
+  pub lone_slash : c ≡ 47 → Some (255, 0) ≡ lone_is c
   unfolding lone_is
   lone_slash e = rw e
 
-  pub lone_other : (c ≡ 45 → ⊥) → (c ≡ 47 → ⊥) → none ≡ lone_is c
+  pub lone_other : (c ≡ 45 → ⊥) → (c ≡ 47 → ⊥) → None ≡ lone_is c
   unfolding lone_is
   lone_other a b = rw (ne_eqb c 45 a, ne_eqb c 47 b)
 
@@ -107,12 +107,12 @@ module _ (c : ℕ) (w : List ℕ) where
   unfolding letter_is
   letter-d e = rw e
 
-  pub letter_other : (c ≡ 117 → ⊥) → (c ≡ 105 → ⊥) → (c ≡ 102 → ⊥) → (c ≡ 100 → ⊥) → none ≡ letter_is c w
+  pub letter_other : (c ≡ 117 → ⊥) → (c ≡ 105 → ⊥) → (c ≡ 102 → ⊥) → (c ≡ 100 → ⊥) → None ≡ letter_is c w
   unfolding letter_is
   letter_other u i f d = rw (ne_eqb c 117 u, ne_eqb c 105 i, ne_eqb c 102 f, ne_eqb c 100 d)
 
 module _ (w : List ℕ) where
-  pub stamp_dash : is_dash w ≡ true → some (0, 0) ≡ stamp_in w
+  pub stamp_dash : is_dash w ≡ true → Some (0, 0) ≡ stamp_in w
   unfolding stamp_in
   stamp_dash e = rw e
 

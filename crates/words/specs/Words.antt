@@ -1,7 +1,6 @@
 -- The words of a script's line (docs/REPLAY.md): where one ends, its key, decimal numbers, bytes in hex.
 -- Assumes nothing.
-use Rattle.std.specs.Prelude.{ℕ, suc, ◌+◌, ◌-◌, ◌*◌, Bool, true, false, cond, ◌&&◌, List, [], ◌∷◌, eqb, leb, ltb, length}
-use Rattle.std.proofs.Math.Option.{Option, none, some}
+use Rattle.std.specs.Prelude.{ℕ, suc, ◌+◌, ◌-◌, ◌*◌, Bool, true, false, cond, ◌&&◌, List, [], ◌∷◌, eqb, leb, ltb, length, Option, None, Some}
 use Rattle.words.specs.declared.Decimal.{Decimal}
 use Rattle.words.specs.declared.Decimal.TheVariants.{Value, NoNumber}
 
@@ -20,16 +19,16 @@ unfoldable pub key_of : List ℕ → ℕ
 key_of w = cond (ltb 8 (length w)) 0 (key_from 0 w)
 
 abbrev pub number_says : Decimal → Option ℕ
-number_says (Value n) = some n
-number_says NoNumber = none
+number_says (Value n) = Some n
+number_says NoNumber = None
 
 -- v with the digit c behind it: c is `0` to `9`, and the number is at most 2^64 - 1
 unfoldable pub add_digit : ℕ → ℕ → Option ℕ
-add_digit v c = cond (leb 48 c && leb c 57 && leb (v * 10 + (c - 48)) 18446744073709551615) (some (v * 10 + (c - 48))) none
+add_digit v c = cond (leb 48 c && leb c 57 && leb (v * 10 + (c - 48)) 18446744073709551615) (Some (v * 10 + (c - 48))) None
 
 abbrev pub digit_behind : Option ℕ → ℕ → Option ℕ
-digit_behind none c = none
-digit_behind (some v) c = add_digit v c
+digit_behind None c = None
+digit_behind (Some v) c = add_digit v c
 
 -- what the digits so far make, with the rest of them behind it
 unfoldable pub number_then : List ℕ → Option ℕ → Option ℕ
@@ -38,8 +37,8 @@ number_then (c ∷ w) v = number_then w (digit_behind v c)
 
 -- a word of one digit or more; none where it is no number
 unfoldable pub decimal_in : List ℕ → Option ℕ
-decimal_in [] = none
-decimal_in (c ∷ w) = number_then (c ∷ w) (some 0)
+decimal_in [] = None
+decimal_in (c ∷ w) = number_then (c ∷ w) (Some 0)
 
 -- `0` to `9`, `A` to `F`, `a` to `f`; 16 for any other byte
 unfoldable pub hex_digit : ℕ → ℕ
@@ -48,21 +47,21 @@ hex_digit c =
     (cond (leb 65 c && leb c 70) (c - 55) (cond (leb 97 c && leb c 102) (c - 87) 16))
 
 abbrev pub bytes_say : Bool → List ℕ → Option (List ℕ)
-bytes_say true l = some l
-bytes_say false l = none
+bytes_say true l = Some l
+bytes_say false l = None
 
 abbrev pub in_front : ℕ → Option (List ℕ) → Option (List ℕ)
-in_front b none = none
-in_front b (some l) = some (b ∷ l)
+in_front b None = None
+in_front b (Some l) = Some (b ∷ l)
 
 -- two digits a byte, the high one first; none where one is no hex digit or one is left over
 unfoldable pub bytes_from : List ℕ → Option (List ℕ)
-bytes_from [] = some []
-bytes_from (c ∷ []) = none
-bytes_from (c ∷ d ∷ w) = cond (ltb 15 (hex_digit c)) none (cond (ltb 15 (hex_digit d)) none (in_front (hex_digit c * 16 + hex_digit d) (bytes_from w)))
+bytes_from [] = Some []
+bytes_from (c ∷ []) = None
+bytes_from (c ∷ d ∷ w) = cond (ltb 15 (hex_digit c)) None (cond (ltb 15 (hex_digit d)) None (in_front (hex_digit c * 16 + hex_digit d) (bytes_from w)))
 
 -- a word: `-` for none, else two digits or more
 unfoldable pub bytes_in : List ℕ → Option (List ℕ)
-bytes_in [] = none
+bytes_in [] = None
 bytes_in (c ∷ []) = bytes_say (eqb c 45) []
 bytes_in (c ∷ d ∷ w) = bytes_from (c ∷ d ∷ w)

@@ -3,7 +3,6 @@
 #![tactic(auto)]
 
 ghost use Rattle.std.specs.Prelude.{◌+◌, ◌≤◌, ◌≡◌, length, take};
-ghost use Rattle.std.proofs.Math.Option.{none};
 ghost use Rattle.std.specs.Counts.{IsPrefixLen};
 ghost use Rattle.words.specs.Words.{up_to, key_of, number_says, add_digit, decimal_in, hex_digit, bytes_say, bytes_from, bytes_in};
 ghost use Rattle.words.specs.Values.{from_zero, below_zero, signed_number_in, valued_says, of_kind, letter_is, lone_is, value_in, is_dash, stamp_in};
@@ -150,7 +149,7 @@ pub struct Valued {
 }
 
 fn no_value() -> Valued
-    ensures { valued_says result ≡ none }
+    ensures { valued_says result ≡ None }
 {
     Valued {
         is_value: false,

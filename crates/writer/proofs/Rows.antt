@@ -2,7 +2,7 @@
 -- Assumes nothing.
 use mathlib.Core.Bool.{Bool, true, false, not, ◌&&◌, ◌||◌}
 use mathlib.Core.List.{List, [], ◌∷◌}
-use mathlib.Core.Option.{some}
+use Rattle.std.proofs.Common.{Some}
 use mathlib.Core.Path.{◌≡◌, refl, ap₂, ◌∙◌}
 use Prim.Native.Nat.{ℕ, ◌%◌, ◌≤◌, ◌<◌}
 use native.Mathlib.Omega.{arith}
@@ -106,7 +106,7 @@ pair_is (n ∷ []) e = never e refl
 pair_is (n ∷ s ∷ []) e = let a = both (is_count 14 n) _ e in ap₂ (λ (x y : FieldRow). x ∷ y ∷ []) (count_is 14 n a.0) (count_is 15 s a.1)
 pair_is (n ∷ s ∷ f ∷ fs) e = never e refl
 
-byte_out : (at n : ℕ) → n ≤ 255 → field_out (byte_row at) (some (unsigned n)) ≡ n ∷ []
+byte_out : (at n : ℕ) → n ≤ 255 → field_out (byte_row at) (Some (unsigned n)) ≡ n ∷ []
 unfolding bits_of bits_for is_do_not_use size_of little_bytes
 byte_out at n h =
     let m : n % 256 ≡ n = omega arith in
@@ -118,13 +118,13 @@ module _ (fs : List FieldRow) (pair : is_pair fs ≡ true) (revision : ℕ) wher
   pair_end =
       rw (pair_is fs pair, last_put revision 14 (byte_row 14) (byte_row 15 ∷ []) [] (omega arith), last_put revision 15 (byte_row 15) [] [] (omega arith))
 
-  pub pair_out : (n s : ℕ) → n ≤ 255 → s ≤ 255 → laid revision 14 fs (some (unsigned n) ∷ some (unsigned s) ∷ []) ≡ n ∷ s ∷ []
+  pub pair_out : (n s : ℕ) → n ≤ 255 → s ≤ 255 → laid revision 14 fs (Some (unsigned n) ∷ Some (unsigned s) ∷ []) ≡ n ∷ s ∷ []
   unfolding laid size_of
   pair_out n s a b =
       rw (
         pair_is fs pair,
-        laid_put revision 14 (byte_row 14) (byte_row 15 ∷ []) (some (unsigned n) ∷ some (unsigned s) ∷ []) (omega arith),
-        laid_put revision 15 (byte_row 15) [] (some (unsigned s) ∷ []) (omega arith),
+        laid_put revision 14 (byte_row 14) (byte_row 15 ∷ []) (Some (unsigned n) ∷ Some (unsigned s) ∷ []) (omega arith),
+        laid_put revision 15 (byte_row 15) [] (Some (unsigned s) ∷ []) (omega arith),
         byte_out 14 n a,
         byte_out 15 s b,
       )

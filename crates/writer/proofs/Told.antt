@@ -2,7 +2,7 @@
 -- Assumes nothing.
 use mathlib.Core.Bool.{Bool, true, false, ◌&&◌}
 use mathlib.Core.List.{List, [], ◌∷◌}
-use mathlib.Core.Option.{Option, none, some}
+use Rattle.std.proofs.Common.{Option, None, Some}
 use mathlib.Core.Path.{◌≡◌, refl, sym, ap, subst, ◌∙◌}
 use Prim.Native.Nat.{ℕ, ◌+◌, ◌*◌, ◌/◌, ◌≤◌, ◌<◌}
 use native.Mathlib.Omega.{arith}
@@ -32,7 +32,7 @@ use Rattle.writer.specs.Code.{Writable}
 
 -- by its row
 module _ (top : ℕ) (b : BlockRow) (d : Draft) {a : Accepted} (accepting : Accepting (draft_ok b d) (length d.subs) a) where
-  pub told_11 : (buffer : List ℕ) → a.ok ≡ false → write_outcome (write_refused 11) buffer ≡ written_by top (some b) d buffer
+  pub told_11 : (buffer : List ℕ) → a.ok ≡ false → write_outcome (write_refused 11) buffer ≡ written_by top (Some b) d buffer
   unfolding written_by
   told_11 buffer e = rw (sym accepting.is ∙ e)
 
@@ -60,7 +60,7 @@ module _ (top : ℕ) (b : BlockRow) (d : Draft) {a : Accepted} (accepting : Acce
       unfolding room_for
       room_is = rw (all_is, sub_is)
 
-      pub told_12 : roomy ≡ false → write_outcome (write_refused 12) buffer ≡ written_by top (some b) d buffer
+      pub told_12 : roomy ≡ false → write_outcome (write_refused 12) buffer ≡ written_by top (Some b) d buffer
       unfolding written_by
       told_12 e = rw (accepted, sym room_is ∙ e)
 
@@ -78,7 +78,7 @@ module _ (top : ℕ) (b : BlockRow) (d : Draft) {a : Accepted} (accepting : Acce
               small = leb-true _ _ x.1;
             }
 
-        pub told_length : {next : List ℕ} → next ≡ over (block_bytes b d) buffer → write_outcome (wrote z.all) next ≡ written_by top (some b) d buffer
+        pub told_length : {next : List ℕ} → next ≡ over (block_bytes b d) buffer → write_outcome (wrote z.all) next ≡ written_by top (Some b) d buffer
         unfolding written_by
         told_length e = rw (accepted, sym room_is ∙ room, e, all_is)
 
@@ -88,7 +88,7 @@ unfolding block_of
 one_seen t row one = one
 
 -- by a table
-no_number : (n : ℕ) (bs : List BlockRow) → every number_ok bs ≡ true → 8191 < n → first_that (has_number n) bs ≡ none
+no_number : (n : ℕ) (bs : List BlockRow) → every number_ok bs ≡ true → 8191 < n → first_that (has_number n) bs ≡ None
 unfolding every first_that
 no_number n [] e h = refl
 no_number n (b ∷ bs) e h =
@@ -99,11 +99,11 @@ no_number n (b ∷ bs) e h =
 
 -- a row of two levels, and one of one level
 two_refused : (top : ℕ) (t : List ℕ) (row : Row) → (row.firsts ≡ 0 → ⊥) → (d : Draft) (buffer : List ℕ)
-    → write_outcome (write_refused 6) buffer ≡ written_by top (writable_row (some (block_of t row))) d buffer
+    → write_outcome (write_refused 6) buffer ≡ written_by top (writable_row (Some (block_of t row))) d buffer
 unfolding block_of written_by
 two_refused top t row two d buffer = rw (ne_eqb row.firsts 0 two)
 
-one_writable : (t : List ℕ) (row : Row) → row.firsts ≡ 0 → writable_row (some (block_of t row)) ≡ some (block_of t row)
+one_writable : (t : List ℕ) (row : Row) → row.firsts ≡ 0 → writable_row (Some (block_of t row)) ≡ Some (block_of t row)
 unfolding block_of
 one_writable t row one = rw (eq-eqb row.firsts 0 one)
 
@@ -127,7 +127,7 @@ module _ (top : ℕ) (t : List ℕ) (d : Draft) (buffer : List ℕ) where
       pub told_rules : block_ok (block_of t row) ≡ true
       told_rules = stands.rules
 
-      found_is_lem : written_by top (writable_row (some (block_of t row))) d buffer ≡ written_of top (decode t) d buffer
+      found_is_lem : written_by top (writable_row (Some (block_of t row))) d buffer ≡ written_of top (decode t) d buffer
       unfolding written_of
       found_is_lem = ap (λ (x : Option BlockRow). written_by top (writable_row x) d buffer) (sym (ap (row_says t) e) ∙ finding.is)
 
@@ -136,5 +136,5 @@ module _ (top : ℕ) (t : List ℕ) (d : Draft) (buffer : List ℕ) where
       told_two two = two_refused top t row two d buffer ∙ found_is_lem
 
       -- and by one of one level the row decides
-      pub told_found : row.firsts ≡ 0 → {o : WriteOutcome} → o ≡ written_by top (some (block_of t row)) d buffer → o ≡ written_of top (decode t) d buffer
+      pub told_found : row.firsts ≡ 0 → {o : WriteOutcome} → o ≡ written_by top (Some (block_of t row)) d buffer → o ≡ written_of top (decode t) d buffer
       told_found one g = g ∙ ap (λ (x : Option BlockRow). written_by top x d buffer) (sym (one_writable t row one)) ∙ found_is_lem

@@ -1,8 +1,7 @@
 -- The bytes of a block that is written (rules W6 to W9).
 -- Assumes nothing.
-use Rattle.std.specs.Prelude.{ℕ, ◌+◌, ◌-◌, ◌*◌, cond, length}
+use Rattle.std.specs.Prelude.{ℕ, ◌+◌, ◌-◌, ◌*◌, cond, length, Some}
 use mathlib.Core.List.{List, [], ◌∷◌, ◌++◌, flat_map}
-use Rattle.std.proofs.Math.Option.{some}
 use Rattle.crc.specs.Crc.{crc_of}
 use Rattle.table.specs.Rows.{BlockRow}
 use Rattle.value.specs.Said.{unsigned}
@@ -17,7 +16,7 @@ unfoldable pub use Rattle.lay.specs.Fields.{laid}
 
 -- W7: N and SBLength are what a body with sub-blocks has
 unfoldable pub body_values : BlockRow → Draft → List Wanted
-body_values r d = cond (has_subs r) (some (unsigned (length d.subs)) ∷ some (unsigned (sb_length r d)) ∷ []) d.body
+body_values r d = cond (has_subs r) (Some (unsigned (length d.subs)) ∷ Some (unsigned (sb_length r d)) ∷ []) d.body
 
 -- V8, W8: TOW and WNc, then the body; they begin at 8
 unfoldable pub stamps_and_body : BlockRow → Draft → List ℕ

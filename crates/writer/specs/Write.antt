@@ -1,7 +1,6 @@
 -- What a draft comes to, by a decoded table and a ceiling (rule C17): an answer, and every byte of the buffer (W1, R20: 6, 11, 12).
 -- Assumes nothing.
-use Rattle.std.specs.Prelude.{ℕ, cond, List, length}
-use Rattle.std.proofs.Math.Option.{Option, none, some}
+use Rattle.std.specs.Prelude.{ℕ, cond, List, length, Option, None, Some}
 use Rattle.refusal.specs.Numbers.{number_for}
 use Rattle.copy.specs.Over.{over}
 use Rattle.table.specs.Rows.{BlockRow, Table, one_level}
@@ -30,16 +29,16 @@ refuses_write n buffer = write_outcome (write_refused n) buffer
 
 -- R20: 6, 11, 12; W1: the block, and behind it what the buffer had
 unfoldable pub written_by : ℕ → Option BlockRow → Draft → List ℕ → WriteOutcome
-written_by c none d buffer = refuses_write 6 buffer
-written_by c (some r) d buffer =
+written_by c None d buffer = refuses_write 6 buffer
+written_by c (Some r) d buffer =
     cond (draft_ok r d)
     (cond (room_for c r d (length buffer)) (write_outcome (wrote (block_length r d)) (over (block_bytes r d) buffer)) (refuses_write 12 buffer))
     (refuses_write 11 buffer)
 
 -- R6, W1: the row to write by: one of one level
 abbrev pub writable_row : Option BlockRow → Option BlockRow
-writable_row none = none
-writable_row (some r) = cond (one_level r) (some r) none
+writable_row None = None
+writable_row (Some r) = cond (one_level r) (Some r) None
 
 unfoldable pub written_of : ℕ → Table → Draft → List ℕ → WriteOutcome
 written_of c tab d buffer = written_by c (writable_row (find_row tab d.number)) d buffer

@@ -2,7 +2,6 @@
 #![tactic(auto)]
 
 ghost use Rattle.std.specs.Prelude.{◌≡◌, true, [], ◌+◌, ◌≤◌, length};
-ghost use Rattle.std.proofs.Math.Option.{some};
 ghost use Rattle.std.proofs.lemmas.List.Edits.{sets};
 ghost use Rattle.rows.specs.Places.{field_count};
 ghost use Rattle.table.specs.Decode.{block_of, decode};
@@ -112,7 +111,7 @@ fn put(
     out: &mut [u8],
 ) -> Written
     requires { (row.start + row.bodies + row.subs ≤ field_count table.now) × (block_ok (block_of table.now row) ≡ true) × (row.firsts ≡ 0) × (h.number ≤ 65535) }
-    ensures { write_outcome (written_says result) out.new ≡ written_by ceiling (some (block_of table.now row)) (draft_of h kinds.now bits.now) out.old }
+    ensures { write_outcome (written_says result) out.new ≡ written_by ceiling (Some (block_of table.now row)) (draft_of h kinds.now bits.now) out.old }
 {
     let a = draft::accepts(table, row, h, kinds, bits);
     if !a.ok {

@@ -1,7 +1,7 @@
 -- Write, refused by 1, 5 or 4, or not.
 -- Assumes nothing.
 use mathlib.Core.List.{List}
-use mathlib.Core.Option.{Option, none, some}
+use Rattle.std.proofs.Common.{Option, None, Some}
 use mathlib.Core.Path.{◌≡◌, sym, ap, ◌∙◌}
 use Prim.Native.Nat.{ℕ}
 use Rattle.table.specs.Decode.{decode}
@@ -17,8 +17,8 @@ module _ (s : State) (force : List ℕ) (d : Draft) (buffer : List ℕ) where
   unfolding write_of
   by e = ap (λ (x : Option ℕ). written_unless x buffer (written_of (ceiling_of s) (decode (table_in_force s force)) d buffer)) e
 
-  pub write_refused_lem : {n : ℕ} → ask_refusal s force ≡ some n → refuses_write n buffer ≡ write_of s force d buffer
+  pub write_refused_lem : {n : ℕ} → ask_refusal s force ≡ Some n → refuses_write n buffer ≡ write_of s force d buffer
   write_refused_lem e = sym (by e)
 
-  pub write_asked : ask_refusal s force ≡ none → {o : WriteOutcome} → o ≡ written_of (ceiling_of s) (decode (table_in_force s force)) d buffer → o ≡ write_of s force d buffer
+  pub write_asked : ask_refusal s force ≡ None → {o : WriteOutcome} → o ≡ written_of (ceiling_of s) (decode (table_in_force s force)) d buffer → o ≡ write_of s force d buffer
   write_asked e g = g ∙ sym (by e)

@@ -3,7 +3,7 @@
 -- Assumes nothing.
 use mathlib.Core.Bool.{Bool, true, ◌&&◌}
 use mathlib.Core.List.{List, [], ◌∷◌, ◌++◌, map, flat_map, flatten}
-use mathlib.Core.Option.{Option, none, some}
+use Rattle.std.proofs.Common.{Option, None, Some}
 use mathlib.Core.Path.{◌≡◌, refl, sym, ap, ap₂, ◌∙◌}
 use Prim.Native.Nat.{ℕ, zero, suc, ◌+◌, ◌<◌}
 use native.Mathlib.Nat.{zero-add, add-zero}
@@ -25,10 +25,10 @@ use Rattle.writing.proofs.Wanting.{get_d_rest, wanted_bits_lem, wanted_at, unset
 
 -- two lists that have the same at each index
 abbrev pub SameAt : List Wanted → List Wanted → Type 0
-SameAt vs ws = (i : ℕ) → get_or vs i none ≡ get_or ws i none
+SameAt vs ws = (i : ℕ) → get_or vs i None ≡ get_or ws i None
 
 rest_same : (vs ws : List Wanted) → SameAt vs ws → SameAt (drop 1 vs) (drop 1 ws)
-rest_same vs ws h i = get_d_rest vs i none ∙ h (suc i) ∙ sym (get_d_rest ws i none)
+rest_same vs ws h i = get_d_rest vs i None ∙ h (suc i) ∙ sym (get_d_rest ws i None)
 
 pub same_laid : (revision at : ℕ) (fs : List FieldRow) (vs ws : List Wanted) → SameAt vs ws → laid revision at fs vs ≡ laid revision at fs ws
 unfolding laid
@@ -51,19 +51,19 @@ same_ok revision (f ∷ fs) vs ws h =
 
 -- ---- given again
 
-is_unset_lem : (w : Wanted) → is_unset w ≡ true → w ≡ none
-is_unset_lem none e = refl
-is_unset_lem (some x) e = never e refl
+is_unset_lem : (w : Wanted) → is_unset w ≡ true → w ≡ None
+is_unset_lem None e = refl
+is_unset_lem (Some x) e = never e refl
 
 -- of one field
-field_again : (revision : ℕ) (f : FieldRow) (w : Wanted) → wanted_ok revision f w ≡ true → as_read (row_back revision (some f) w) ≡ w
+field_again : (revision : ℕ) (f : FieldRow) (w : Wanted) → wanted_ok revision f w ≡ true → as_read (row_back revision (Some f) w) ≡ w
 unfolding wanted_ok
 field_again revision f w ok =
     bool? (carried revision f)
     (λ c. let x = wanted_bits_lem revision f w ok c in rw c (wanted_again f w x.0 x.1))
     (λ c. rw c (sym (is_unset_lem w (rw c at ok))))
 
-get_d_tab : (g : ℕ → Wanted) (i k j : ℕ) → j < k → get_or (tabulate g i k) j none ≡ g (i + j)
+get_d_tab : (g : ℕ → Wanted) (i k j : ℕ) → j < k → get_or (tabulate g i k) j None ≡ g (i + j)
 unfolding tabulate
 get_d_tab g i zero j h = absurd (omega arith)
 get_d_tab g i (suc k) zero h = ap g (sym (add-zero i))
@@ -71,17 +71,17 @@ get_d_tab g i (suc k) (suc j) h = let n : i + 1 + j ≡ i + suc j = omega arith 
 
 -- of a list, row by row
 pub list_again : (revision : ℕ) (fs : List FieldRow) (ws : List Wanted) (g : ℕ → Wanted) → list_ok revision fs ws ≡ true
-    → ((i : ℕ) → g i ≡ as_read (row_back revision (pick fs i) (get_or ws i none))) → SameAt (tabulate g 0 (length fs)) ws
+    → ((i : ℕ) → g i ≡ as_read (row_back revision (pick fs i) (get_or ws i None))) → SameAt (tabulate g 0 (length fs)) ws
 list_again revision fs ws g ok e i =
     lt? i (length fs)
     (λ h.
     let p = pick_there fs i h in
-    get_d_tab g 0 (length fs) i h ∙ ap g (zero-add i) ∙ e i ∙ ap (λ (o : Option FieldRow). as_read (row_back revision o (get_or ws i none))) p.1
-    ∙ field_again revision p.0 (get_or ws i none) (wanted_at revision fs ws ok i p.0 p.1))
-    (λ h. get_or-eq_default (tabulate g 0 (length fs)) none (rw (length_tab g 0 (length fs)) h) ∙ sym (unset_past revision fs ws ok i h))
+    get_d_tab g 0 (length fs) i h ∙ ap g (zero-add i) ∙ e i ∙ ap (λ (o : Option FieldRow). as_read (row_back revision o (get_or ws i None))) p.1
+    ∙ field_again revision p.0 (get_or ws i None) (wanted_at revision fs ws ok i p.0 p.1))
+    (λ h. get_or-eq_default (tabulate g 0 (length fs)) None (rw (length_tab g 0 (length fs)) h) ∙ sym (unset_past revision fs ws ok i h))
 
 -- of lists of lists: as many, and each says the same to h
-pub map_again : {A B : Type 0} (h : A → B) (g : ℕ → A) (xs : List A) (i : ℕ) → ((k : ℕ) (x : A) → pick xs k ≡ some x → h (g (i + k)) ≡ h x)
+pub map_again : {A B : Type 0} (h : A → B) (g : ℕ → A) (xs : List A) (i : ℕ) → ((k : ℕ) (x : A) → pick xs k ≡ Some x → h (g (i + k)) ≡ h x)
     → map h (tabulate g i (length xs)) ≡ map h xs
 unfolding tabulate pick
 map_again h g [] i e = refl

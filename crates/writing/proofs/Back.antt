@@ -3,7 +3,7 @@
 -- Assumes nothing.
 use mathlib.Core.Bool.{true, false, cond}
 use mathlib.Core.List.{List, [], ◌∷◌, map}
-use mathlib.Core.Option.{none, some}
+use Rattle.std.proofs.Common.{None, Some}
 use mathlib.Core.Path.{◌≡◌, refl, sym, ap, ap₂, ◌∙◌}
 use Prim.Native.Nat.{ℕ, zero, suc, ◌≤◌}
 use native.Mathlib.Nat.{zero-add}
@@ -79,11 +79,11 @@ module _ (r : BlockRow) (d : Draft) (ws : List Wanted) (ss : List (List Wanted))
   same_values i =
       bool? (has_subs r)
       (λ h.
-      let p = ap₂ (λ (n m : ℕ). some (unsigned n) ∷ some (unsigned m) ∷ []) a.count same_sub in
-      ap (λ (vs : List Wanted). get_or vs i none) (pair_values r again h ∙ p ∙ sym (pair_values r d h)))
+      let p = ap₂ (λ (n m : ℕ). Some (unsigned n) ∷ Some (unsigned m) ∷ []) a.count same_sub in
+      ap (λ (vs : List Wanted). get_or vs i None) (pair_values r again h ∙ p ∙ sym (pair_values r d h)))
       (λ h.
-      ap (λ (vs : List Wanted). get_or vs i none) (plain-values r again h) ∙ a.body h i
-      ∙ ap (λ (vs : List Wanted). get_or vs i none) (sym (plain-values r d h)))
+      ap (λ (vs : List Wanted). get_or vs i None) (plain-values r again h) ∙ a.body h i
+      ∙ ap (λ (vs : List Wanted). get_or vs i None) (sym (plain-values r d h)))
 
   same_fields : stamps_and_body r again ≡ stamps_and_body r d
   unfolding stamps_and_body
@@ -116,9 +116,9 @@ module _ {tab : Table} {r : BlockRow} {d : Draft} {buffer b : List ℕ} (s : Kno
   body_same h =
       rw h
       (list_again d.revision r.body d.body (λ i. as_read (body_field tab b i)) (rw h at s.making.draft.body)
-      (λ i. ap as_read (back.body i ∙ ap (λ (vs : List Wanted). row_back d.revision (pick r.body i) (get_or vs i none)) (plain-values r d h))))
+      (λ i. ap as_read (back.body i ∙ ap (λ (vs : List Wanted). row_back d.revision (pick r.body i) (get_or vs i None)) (plain-values r d h))))
 
-  sub_same : (k : ℕ) (ws : List Wanted) → pick d.subs k ≡ some ws → SameAt (sub_read k) ws
+  sub_same : (k : ℕ) (ws : List Wanted) → pick d.subs k ≡ Some ws → SameAt (sub_read k) ws
   sub_same k ws q =
       list_again d.revision r.subs ws (λ j. as_read (sub_field tab b k j))
       (sub_ok r d (kept s) s.making.draft s.making.room.sub k ws q).1
@@ -167,7 +167,7 @@ module _ {tab : Table} {r : BlockRow} {d : Draft} {buffer b : List ℕ} (s : Kno
 -- ---- it is written again
 
 written_same : (top : ℕ) (tab : Table) (r : BlockRow) (d : Draft) (buffer b room : List ℕ) (ws : List Wanted) (ss : List (List Wanted)) → Making tab r d buffer b
-    → find_row tab d.number ≡ some r → Alike r d ws ss → length b ≤ top → length b ≤ length room
+    → find_row tab d.number ≡ Some r → Alike r d ws ss → length b ≤ top → length b ≤ length room
     → written_of top tab (relisted d ws ss) room ≡ write_outcome (wrote (length b)) (over b room)
 unfolding written_of written_by room_for
 written_same top tab r d buffer b room ws ss m found a under fits =

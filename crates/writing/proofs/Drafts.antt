@@ -2,7 +2,7 @@
 -- Assumes nothing.
 use mathlib.Core.Bool.{true, false}
 use mathlib.Core.List.{List, [], ◌∷◌}
-use mathlib.Core.Option.{some}
+use Rattle.std.proofs.Common.{Some}
 use mathlib.Core.Path.{◌≡◌, refl, ap₂, ◌∙◌}
 use Prim.Native.Nat.{ℕ, ◌≤◌}
 use native.Mathlib.Omega.{arith}
@@ -31,11 +31,11 @@ use Rattle.draft.proofs.Admitted.{Admitted}
 -- ---- N and SBLength
 
 -- a byte is its own bits, in a row of one byte without a mark
-pub byte_bits : (at n : ℕ) → n ≤ 255 → bits_of (field_row at u1 0 unmarked) (some (unsigned n)) ≡ some n
+pub byte_bits : (at n : ℕ) → n ≤ 255 → bits_of (field_row at u1 0 unmarked) (Some (unsigned n)) ≡ Some n
 unfolding bits_of bits_for size_of is_do_not_use
 byte_bits at n h = rw (lt-ltb n 256 (omega arith))
 
-byte_ok : (revision at n : ℕ) → n ≤ 255 → wanted_ok revision (field_row at u1 0 unmarked) (some (unsigned n)) ≡ true
+byte_ok : (revision at n : ℕ) → n ≤ 255 → wanted_ok revision (field_row at u1 0 unmarked) (Some (unsigned n)) ≡ true
 unfolding wanted_ok
 byte_ok revision at n h = rw (le-leb 0 revision (omega arith), byte_bits at n h)
 
@@ -53,7 +53,7 @@ unfolding in_order every size_of mark_fits
 stamped_kept r kept = record { order = kept.body.order; types = kept.body.types; marks = kept.body.marks }
 
 module _ (r : BlockRow) (d : Draft) where
-  pub pair_values : has_subs r ≡ true → body_values r d ≡ some (unsigned (length d.subs)) ∷ some (unsigned (sb_length r d)) ∷ []
+  pub pair_values : has_subs r ≡ true → body_values r d ≡ Some (unsigned (length d.subs)) ∷ Some (unsigned (sb_length r d)) ∷ []
   unfolding body_values
   pair_values h = rw h
 
@@ -78,7 +78,7 @@ module _ (r : BlockRow) (d : Draft) (kept : RowKept r) (accepts : Admitted r d) 
       let s = both (wanted_ok d.revision tow_row d.tow) _ accepts.stamps in
       both_true s.0 (both_true s.1 (bool? (has_subs r) pair_ok plain_ok))
 
-  pub sub_ok : (k : ℕ) (ws : List Wanted) → pick d.subs k ≡ some ws → (has_subs r ≡ true) × (list_ok d.revision r.subs ws ≡ true)
+  pub sub_ok : (k : ℕ) (ws : List Wanted) → pick d.subs k ≡ Some ws → (has_subs r ≡ true) × (list_ok d.revision r.subs ws ≡ true)
   unfolding subs_ok
   sub_ok k ws q =
       bool? (has_subs r)

@@ -3,7 +3,7 @@
 -- Assumes nothing.
 use mathlib.Core.Bool.{true, ◌&&◌}
 use mathlib.Core.List.{List}
-use mathlib.Core.Option.{Option, none, some}
+use Rattle.std.proofs.Common.{Option, None, Some}
 use mathlib.Core.Path.{◌≡◌, refl, sym, ap, ◌∙◌}
 use Prim.Native.Nat.{ℕ, ◌%◌}
 use lib.Dec.{ltb}
@@ -34,17 +34,17 @@ use Rattle.writing.proofs.Reading.{all_read_back}
 
 -- ---- nothing was refused
 
-asked_none : (o : Option ℕ) (buffer : List ℕ) (w : WriteOutcome) (n : ℕ) → (written_unless o buffer w).said ≡ wrote n → o ≡ none
-asked_none none buffer w n e = refl
-asked_none (some m) buffer w n e = refused_none m n e
+asked_none : (o : Option ℕ) (buffer : List ℕ) (w : WriteOutcome) (n : ℕ) → (written_unless o buffer w).said ≡ wrote n → o ≡ None
+asked_none None buffer w n e = refl
+asked_none (Some m) buffer w n e = refused_none m n e
 
 row_found : (c : ℕ) (o : Option BlockRow) (d : Draft) (buffer : List ℕ) (n : ℕ) → (written_by c (writable_row o) d buffer).said ≡ wrote n
-    → (r : BlockRow) × (o ≡ some r)
+    → (r : BlockRow) × (o ≡ Some r)
 unfolding written_by
-row_found c none d buffer n e = refused_none 6 n e
-row_found c (some r) d buffer n e = (r, refl)
+row_found c None d buffer n e = refused_none 6 n e
+row_found c (Some r) d buffer n e = (r, refl)
 
-sound_by : (s : State) (force : List ℕ) → ask_refusal s force ≡ none → sound s ≡ true
+sound_by : (s : State) (force : List ℕ) → ask_refusal s force ≡ None → sound s ≡ true
 unfolding ask_refusal
 sound_by s force e =
     (both (sound s) (long_store force)
@@ -55,13 +55,13 @@ ceiling_by : (c : ℕ) → Ceiling c → ceiling_ok c ≡ true
 unfolding ceiling_ok
 ceiling_by c f = both_true (both_true (eq-eqb (c % 4) 0 f.four) (le-leb 16 c f.low)) (le-leb c greatest_ceiling f.high)
 
-meaning_by : (s : State) (force : List ℕ) → ask_refusal s force ≡ none → meaning_ok (decode (table_in_force s force)) ≡ true
+meaning_by : (s : State) (force : List ℕ) → ask_refusal s force ≡ None → meaning_ok (decode (table_in_force s force)) ≡ true
 unfolding table_ok
 meaning_by s force e = (both (form_ok (table_in_force s force)) _ (asked s force e).ok).1
 
 -- ---- the calls answer by the table in force
 
-module _ (s : State) (force b : List ℕ) (e : ask_refusal s force ≡ none) where
+module _ (s : State) (force b : List ℕ) (e : ask_refusal s force ≡ None) where
   stamp_in_lem : (f : FieldRow) → stamp_of f s b ≡ stamp f b
   unfolding stamp_of
   stamp_in_lem f = rw (sound_by s force e)
@@ -78,7 +78,7 @@ module _ (s : State) (force b : List ℕ) (e : ask_refusal s force ≡ none) whe
   unfolding sub_bytes_refusal
   part_in k = rw e
 
-  back_in : (r : BlockRow) (d : Draft) → find_row (decode (table_in_force s force)) d.number ≡ some r
+  back_in : (r : BlockRow) (d : Draft) → find_row (decode (table_in_force s force)) d.number ≡ Some r
       → ReadsBack (decode (table_in_force s force)) r d b → ReadsBackInForce s force r d b
   back_in r d found back =
       record {

@@ -3,8 +3,7 @@
 -- Assumes nothing.
 use mathlib.Core.Bool.{Bool, true, false, cond}
 use mathlib.Core.List.{List, [], ◌∷◌, ◌++◌, map}
-use mathlib.Core.Option
-use mathlib.Core.Option.{none, some}
+use Rattle.std.proofs.Common.{None, Some, unwrap_or}
 use mathlib.Core.Path.{◌≡◌, refl, sym, ap, ap₂, ◌∙◌, subst}
 use Prim.Native.Nat.{ℕ, zero, suc, ◌-◌, ◌^◌, ◌<◌, ◌≤◌}
 use native.Mathlib.Omega.{arith}
@@ -37,24 +36,24 @@ use Rattle.writing.proofs.Wanting.{wanted_bits_lem}
 -- ---- a value
 
 abbrev kind_given : Wanted → ℕ
-kind_given none = 0
-kind_given (some (unsigned n)) = 1
-kind_given (some (signed z)) = 2
-kind_given (some (single x)) = 3
-kind_given (some (double x)) = 4
-kind_given (some do_not_use) = 0
-kind_given (some not_in_revision) = 0
-kind_given (some (field_refused n)) = 0
+kind_given None = 0
+kind_given (Some (unsigned n)) = 1
+kind_given (Some (signed z)) = 2
+kind_given (Some (single x)) = 3
+kind_given (Some (double x)) = 4
+kind_given (Some do_not_use) = 0
+kind_given (Some not_in_revision) = 0
+kind_given (Some (field_refused n)) = 0
 
 abbrev bits_given : Wanted → ℕ
-bits_given none = 0
-bits_given (some (unsigned n)) = n
-bits_given (some (signed z)) = Option.get_or (signed_bits 8 z) 0
-bits_given (some (single x)) = x
-bits_given (some (double x)) = x
-bits_given (some do_not_use) = 0
-bits_given (some not_in_revision) = 0
-bits_given (some (field_refused n)) = 0
+bits_given None = 0
+bits_given (Some (unsigned n)) = n
+bits_given (Some (signed z)) = unwrap_or (signed_bits 8 z) 0
+bits_given (Some (single x)) = x
+bits_given (Some (double x)) = x
+bits_given (Some do_not_use) = 0
+bits_given (Some not_in_revision) = 0
+bits_given (Some (field_refused n)) = 0
 
 -- what they say is the value; no value begins a sub-block
 pub record Able (w : Wanted) : Type 0 where
@@ -62,24 +61,24 @@ pub record Able (w : Wanted) : Type 0 where
   pub bits : bits_given w < 2 ^ 64
 
 kind_byte : (w : Wanted) → kind_given w < 256
-kind_byte none = omega arith
-kind_byte (some (unsigned n)) = omega arith
-kind_byte (some (signed z)) = omega arith
-kind_byte (some (single x)) = omega arith
-kind_byte (some (double x)) = omega arith
-kind_byte (some do_not_use) = omega arith
-kind_byte (some not_in_revision) = omega arith
-kind_byte (some (field_refused n)) = omega arith
+kind_byte None = omega arith
+kind_byte (Some (unsigned n)) = omega arith
+kind_byte (Some (signed z)) = omega arith
+kind_byte (Some (single x)) = omega arith
+kind_byte (Some (double x)) = omega arith
+kind_byte (Some do_not_use) = omega arith
+kind_byte (Some not_in_revision) = omega arith
+kind_byte (Some (field_refused n)) = omega arith
 
 begins_none : (w : Wanted) → eqb (kind_given w) begins ≡ false
-begins_none none = refl
-begins_none (some (unsigned n)) = refl
-begins_none (some (signed z)) = refl
-begins_none (some (single x)) = refl
-begins_none (some (double x)) = refl
-begins_none (some do_not_use) = refl
-begins_none (some not_in_revision) = refl
-begins_none (some (field_refused n)) = refl
+begins_none None = refl
+begins_none (Some (unsigned n)) = refl
+begins_none (Some (signed z)) = refl
+begins_none (Some (single x)) = refl
+begins_none (Some (double x)) = refl
+begins_none (Some do_not_use) = refl
+begins_none (Some not_in_revision) = refl
+begins_none (Some (field_refused n)) = refl
 
 -- 8 bytes hold the numbers of every type
 unsigned_cases : (P : ℕ → Type 0) → P 1 → P 2 → P 3 → P 4 → (kind : ℕ) → 1 ≤ kind → kind ≤ 4 → P kind
@@ -97,15 +96,15 @@ unfolding size_of
 signed_most = signed_cases (λ (kind : ℕ). leb (half (size_of kind)) (half 8) ≡ true) refl refl refl refl
 
 -- so a number with sign has bits in 8 bytes too
-signed_eight : (h all : ℕ) (z : ℤ) (x : ℕ) → h ≤ half 8 → signed_within h all z ≡ some x → (y : ℕ) × (signed_bits 8 z ≡ some y)
+signed_eight : (h all : ℕ) (z : ℤ) (x : ℕ) → h ≤ half 8 → signed_within h all z ≡ Some x → (y : ℕ) × (signed_bits 8 z ≡ Some y)
 signed_eight h all (pos n) x m e =
     let l : n < h = ltb-true _ _ (only_if (ltb n h) _ e).0 in
-    (n, ap (λ (b : Bool). cond b (some n) none) (lt-ltb n (half 8) (omega arith)))
+    (n, ap (λ (b : Bool). cond b (Some n) None) (lt-ltb n (half 8) (omega arith)))
 signed_eight h all (negsuc n) x m e =
     let l : n < h = ltb-true _ _ (only_if (ltb n h) _ e).0 in
-    (256 ^ 8 - suc n, ap (λ (b : Bool). cond b (some (256 ^ 8 - suc n)) none) (lt-ltb n (half 8) (omega arith)))
+    (256 ^ 8 - suc n, ap (λ (b : Bool). cond b (Some (256 ^ 8 - suc n)) None) (lt-ltb n (half 8) (omega arith)))
 
-able_said : (kind : ℕ) (said : FieldSaid) (x : ℕ) → bits_for kind said ≡ some x → Able (some said)
+able_said : (kind : ℕ) (said : FieldSaid) (x : ℕ) → bits_for kind said ≡ Some x → Able (Some said)
 unfolding bits_for wanted_of
 able_said kind (unsigned n) x e =
     let k = only_if (is_unsigned kind) (unsigned_bits (size_of kind) n) e in
@@ -119,9 +118,9 @@ able_said kind (signed z) x e =
     let m : half (size_of kind) ≤ half 8 = leb-true _ _ (signed_most kind (leb-true _ _ t.0) (leb-true _ _ t.1)) in
     let y = signed_eight (half (size_of kind)) (256 ^ size_of kind) z x m k.1 in
     let r = sign_back (half 8) (256 ^ 8) z y.0 refl y.1 in
-    let b : Option.get_or (signed_bits 8 z) 0 ≡ y.0 = ap (λ o. Option.get_or o 0) y.1 in
+    let b : unwrap_or (signed_bits 8 z) 0 ≡ y.0 = ap (λ o. unwrap_or o 0) y.1 in
     record {
-      says = ap (λ (n : ℕ). some (signed (with_sign (half 8) n))) b ∙ ap (λ (a : ℤ). some (signed a)) r.1;
+      says = ap (λ (n : ℕ). Some (signed (with_sign (half 8) n))) b ∙ ap (λ (a : ℤ). Some (signed a)) r.1;
       bits = subst (λ (n : ℕ). n < 2 ^ 64) (sym b) r.0;
     }
 able_said kind (single n) x e =
@@ -138,13 +137,13 @@ able_said kind (field_refused n) x e = none_some e
 
 able_unset : (w : Wanted) → is_unset w ≡ true → Able w
 unfolding wanted_of
-able_unset none e = record { says = refl; bits = omega arith }
-able_unset (some said) e = never e refl
+able_unset None e = record { says = refl; bits = omega arith }
+able_unset (Some said) e = never e refl
 
-able_bits : (f : FieldRow) (w : Wanted) (x : ℕ) → bits_of f w ≡ some x → Able w
+able_bits : (f : FieldRow) (w : Wanted) (x : ℕ) → bits_of f w ≡ Some x → Able w
 unfolding bits_of
-able_bits f none x e = able_unset none refl
-able_bits f (some said) x e = able_said f.kind said x (marked_none f (bits_for f.kind said) x e).0
+able_bits f None x e = able_unset None refl
+able_bits f (Some said) x e = able_said f.kind said x (marked_none f (bits_for f.kind said) x e).0
 
 able : (revision : ℕ) (f : FieldRow) (w : Wanted) → wanted_ok revision f w ≡ true → Able w
 unfolding wanted_ok

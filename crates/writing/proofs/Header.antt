@@ -1,7 +1,7 @@
 -- The header of a block that is written, read back; and that its CRC is a number of two bytes, since all of its bytes are bytes.
 -- Assumes nothing.
 use mathlib.Core.List.{List, [], ◌∷◌, ◌++◌, flat_map}
-use mathlib.Core.Option.{none}
+use Rattle.std.proofs.Common.{None}
 use mathlib.Core.Path.{◌≡◌}
 use Prim.Native.Nat.{ℕ, zero, suc, ◌+◌, ◌-◌, ◌<◌, ◌≤◌}
 use native.Mathlib.Omega.{arith}
@@ -39,7 +39,7 @@ bytes_laid : (revision at : ℕ) (fs : List FieldRow) (ws : List Wanted) → Byt
 unfolding laid
 bytes_laid revision at [] ws j = omega arith
 bytes_laid revision at (f ∷ fs) ws j =
-    let w = get_or ws 0 none in
+    let w = get_or ws 0 None in
     let gap = f.offset - at in
     let rest = laid revision (ends f) fs (drop 1 ws) in
     let here = bytes_little (size_of f.kind) (field_bits f w) in

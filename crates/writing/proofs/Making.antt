@@ -3,7 +3,7 @@
 -- Assumes nothing.
 use mathlib.Core.Bool.{Bool, true, false, cond}
 use mathlib.Core.List.{List, ◌++◌}
-use mathlib.Core.Option.{Option, none, some}
+use Rattle.std.proofs.Common.{Option, None, Some}
 use mathlib.Core.Path.{◌≡◌, refl, sym, ap, ◌∙◌}
 use Prim.Native.Nat.{ℕ}
 use native.Mathlib.Omega.{arith}
@@ -34,16 +34,16 @@ by_tests true false n m bytes buffer e = refused_none 12 m e
 by_tests false c n m bytes buffer e = refused_none 11 m e
 
 -- R6, W1: a row by which something was written is of one level
-one_by_lem : (c : ℕ) (x : Bool) (r : BlockRow) (d : Draft) (buffer : List ℕ) (n : ℕ) → (written_by c (cond x (some r) none) d buffer).said ≡ wrote n → x ≡ true
+one_by_lem : (c : ℕ) (x : Bool) (r : BlockRow) (d : Draft) (buffer : List ℕ) (n : ℕ) → (written_by c (cond x (Some r) None) d buffer).said ≡ wrote n → x ≡ true
 unfolding written_by
 one_by_lem c true r d buffer n e = refl
 one_by_lem c false r d buffer n e = refused_none 6 n e
 
-pub one_written : (c : ℕ) (r : BlockRow) (d : Draft) (buffer : List ℕ) (n : ℕ) → (written_by c (writable_row (some r)) d buffer).said ≡ wrote n → r.firsts ≡ 0
+pub one_written : (c : ℕ) (r : BlockRow) (d : Draft) (buffer : List ℕ) (n : ℕ) → (written_by c (writable_row (Some r)) d buffer).said ≡ wrote n → r.firsts ≡ 0
 one_written c r d buffer n e = eqb-true _ _ (one_by_lem c (one_level r) r d buffer n e)
 
 -- and by such a row Write writes
-pub writes_by : (r : BlockRow) → r.firsts ≡ 0 → writable_row (some r) ≡ some r
+pub writes_by : (r : BlockRow) → r.firsts ≡ 0 → writable_row (Some r) ≡ Some r
 writes_by r one = rw (eq-eqb r.firsts 0 one)
 
 pub record Making (tab : Table) (r : BlockRow) (d : Draft) (buffer b : List ℕ) : Type 0 where
@@ -59,15 +59,15 @@ said_by n m e = cc e
 pub making : (c : ℕ) (tab : Table) (r : BlockRow) (d : Draft) (buffer b : List ℕ) → Made c tab r d buffer b → Making tab r d buffer b
 unfolding written_of written_by
 making c tab r d buffer b m =
-    let g : written_of c tab d buffer ≡ written_by c (writable_row (some r)) d buffer =
+    let g : written_of c tab d buffer ≡ written_by c (writable_row (Some r)) d buffer =
     ap (λ (x : Option BlockRow). written_by c (writable_row x) d buffer) m.found in
     let one = one_written c r d buffer (length b) (ap (λ (x : WriteOutcome). x.said) (sym g) ∙ m.answer) in
     let f = found_kept tab d.number r m.right m.found one in
-    let o : written_of c tab d buffer ≡ written_by c (some r) d buffer = g ∙ ap (λ (x : Option BlockRow). written_by c x d buffer) (writes_by r one) in
+    let o : written_of c tab d buffer ≡ written_by c (Some r) d buffer = g ∙ ap (λ (x : Option BlockRow). written_by c x d buffer) (writes_by r one) in
     let whole = over (block_bytes r d) buffer in
     let s = ap (λ (x : WriteOutcome). x.said) (sym o) ∙ m.answer in
     let t = by_tests (draft_ok r d) (room_for c r d (length buffer)) (block_length r d) (length b) whole buffer s in
-    let w : written_by c (some r) d buffer ≡ write_outcome (wrote (block_length r d)) whole = rw (t.0, t.1) in
+    let w : written_by c (Some r) d buffer ≡ write_outcome (wrote (block_length r d)) whole = rw (t.0, t.1) in
     let n : block_length r d ≡ length b = said_by _ _ (ap (λ (x : WriteOutcome). x.said) (sym (o ∙ w)) ∙ m.answer) in
     let size : length (block_bytes r d) ≡ length b = length_block r d f.kept ∙ n in
     let front : take (length b) (block_bytes r d ++ drop (length (block_bytes r d)) buffer) ≡ b =

@@ -3,7 +3,7 @@
 -- Assumes nothing.
 use mathlib.Core.Bool.{true, false}
 use mathlib.Core.List.{List, [], ◌∷◌, ◌++◌, append_assoc}
-use mathlib.Core.Option.{none, some}
+use Rattle.std.proofs.Common.{None, Some}
 use mathlib.Core.Path.{◌≡◌, sym, ap, ◌∙◌}
 use Prim.Native.Nat.{ℕ, zero, suc, ◌-◌, ◌^◌, ◌<◌, ◌≤◌}
 use native.Mathlib.Nat.{add-zero}
@@ -52,13 +52,13 @@ module _ (at : ℕ) (pre : List ℕ) (f : FieldRow) (w : Wanted) (length-pre : l
 -- bytes that have the rows from `at` on, where the first of them is carried, and where it is not
 module _ (revision at : ℕ) (f : FieldRow) (fs : List FieldRow) (ws : List Wanted) (pre rest : List ℕ) where
   laid_front : carried revision f ≡ true
-      → pre ++ (laid revision at (f ∷ fs) ws ++ rest) ≡ before at pre f ++ (field_out f (get_or ws 0 none) ++ (laid revision (ends f) fs (drop 1 ws) ++ rest))
+      → pre ++ (laid revision at (f ∷ fs) ws ++ rest) ≡ before at pre f ++ (field_out f (get_or ws 0 None) ++ (laid revision (ends f) fs (drop 1 ws) ++ rest))
   unfolding laid
   laid_front c = rw c (simp append_assoc)
 
   laid_on : carried revision f ≡ true
-      → pre ++ (laid revision at (f ∷ fs) ws ++ rest) ≡ up_to at pre f (get_or ws 0 none) ++ (laid revision (ends f) fs (drop 1 ws) ++ rest)
-  laid_on c = laid_front c ∙ sym (append_assoc (before at pre f) (field_out f (get_or ws 0 none)) (laid revision (ends f) fs (drop 1 ws) ++ rest))
+      → pre ++ (laid revision at (f ∷ fs) ws ++ rest) ≡ up_to at pre f (get_or ws 0 None) ++ (laid revision (ends f) fs (drop 1 ws) ++ rest)
+  laid_on c = laid_front c ∙ sym (append_assoc (before at pre f) (field_out f (get_or ws 0 None)) (laid revision (ends f) fs (drop 1 ws) ++ rest))
 
   laid_not : carried revision f ≡ false → pre ++ (laid revision at (f ∷ fs) ws ++ rest) ≡ pre ++ (laid revision at fs (drop 1 ws) ++ rest)
   unfolding laid
@@ -66,21 +66,21 @@ module _ (revision at : ℕ) (f : FieldRow) (fs : List FieldRow) (ws : List Want
 
 -- the field of row i, in bytes that have the rows from `at` on
 pub laid-bits : (revision at : ℕ) (fs : List FieldRow) (ws : List Wanted) → FieldsKept at fs → list_ok revision fs ws ≡ true → (pre rest b : List ℕ)
-    → length pre ≡ at → b ≡ pre ++ (laid revision at fs ws ++ rest) → (i : ℕ) (f : FieldRow) → pick fs i ≡ some f → carried revision f ≡ true
-    → little_at (size_of f.kind) b f.offset ≡ field_bits f (get_or ws i none)
+    → length pre ≡ at → b ≡ pre ++ (laid revision at fs ws ++ rest) → (i : ℕ) (f : FieldRow) → pick fs i ≡ Some f → carried revision f ≡ true
+    → little_at (size_of f.kind) b f.offset ≡ field_bits f (get_or ws i None)
 unfolding list_ok pick
 laid-bits revision at [] ws kept ok pre rest b p e i f q c = none_some q
 laid-bits revision at (g ∷ fs) ws kept ok pre rest b p e zero f q c =
     let same : g ≡ f = cc in
     let cg : carried revision g ≡ true = rw same c in
-    let w = get_or ws 0 none in
+    let w = get_or ws 0 None in
     let k = kept_kind at g fs kept in
     let x = wanted_bits_lem revision g w (both (wanted_ok revision g w) _ ok).0 cg in
     let m : field_bits g w < 256 ^ size_of g.kind = rw (bits_are g w x.1) (bits_read g w x.0 k.0 k.1 x.1).0 in
     rw (← same)
     (field_at at pre g w p (starts_by at g fs kept) (laid revision (ends g) fs (drop 1 ws) ++ rest) b (e ∙ laid_front revision at g fs ws pre rest cg) m)
 laid-bits revision at (g ∷ fs) ws kept ok pre rest b p e (suc i) f q c =
-    let w = get_or ws 0 none in
+    let w = get_or ws 0 None in
     let oks = (both (wanted_ok revision g w) _ ok).1 in
     bool? (carried revision g)
     (λ y.
@@ -88,15 +88,15 @@ laid-bits revision at (g ∷ fs) ws kept ok pre rest b p e (suc i) f q c =
     (e ∙ laid_on revision at g fs ws pre rest y) i f q c)
     (λ y.
     laid-bits revision at fs (drop 1 ws) (kept_still at g fs kept) oks pre rest b p (e ∙ laid_not revision at g fs ws pre rest y) i f q c)
-    ∙ ap (field_bits f) (get_d_rest ws i none)
+    ∙ ap (field_bits f) (get_d_rest ws i None)
 
 -- it reads as what was wanted of it
 pub laid_reads : (revision at : ℕ) (fs : List FieldRow) (ws : List Wanted) → FieldsKept at fs → list_ok revision fs ws ≡ true → (pre rest b : List ℕ)
-    → length pre ≡ at → b ≡ pre ++ (laid revision at fs ws ++ rest) → (i : ℕ) (f : FieldRow) → pick fs i ≡ some f → carried revision f ≡ true
-    → field_value b f ≡ said_back (get_or ws i none)
+    → length pre ≡ at → b ≡ pre ++ (laid revision at fs ws ++ rest) → (i : ℕ) (f : FieldRow) → pick fs i ≡ Some f → carried revision f ≡ true
+    → field_value b f ≡ said_back (get_or ws i None)
 unfolding field_value
 laid_reads revision at fs ws kept ok pre rest b p e i f q c =
-    let w = get_or ws i none in
+    let w = get_or ws i None in
     let k = row_kind at fs kept i f q in
     let x = wanted_bits_lem revision f w (wanted_at revision fs ws ok i f q) c in
     ap (value_of f.kind f.mark) (laid-bits revision at fs ws kept ok pre rest b p e i f q c ∙ bits_are f w x.1)

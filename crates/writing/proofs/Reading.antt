@@ -3,7 +3,7 @@
 -- Assumes nothing.
 use mathlib.Core.Bool.{Bool, true, cond}
 use mathlib.Core.List.{List, [], ◌++◌, append_assoc, append-nil}
-use mathlib.Core.Option.{Option, none, some}
+use Rattle.std.proofs.Common.{Option, None, Some}
 use mathlib.Core.Path.{◌≡◌, refl, sym, ap, ap₂, ◌∙◌}
 use Prim.Native.Nat.{ℕ, suc, ◌+◌, ◌*◌}
 use native.Mathlib.Omega.{arith}
@@ -57,18 +57,18 @@ module _ {tab : Table} {r : BlockRow} {d : Draft} {buffer b : List ℕ} (s : Kno
 
   -- what a row says in these bytes, where its field does that is carried
   said_back_lem : (bytes : List ℕ) (w : Wanted) (o : Option FieldRow)
-      → ((f : FieldRow) → o ≡ some f → carried d.revision f ≡ true → field_value bytes f ≡ said_back w)
+      → ((f : FieldRow) → o ≡ Some f → carried d.revision f ≡ true → field_value bytes f ≡ said_back w)
       → field_or9 d.revision bytes o ≡ row_back d.revision o w
   unfolding field_said
-  said_back_lem bytes w none h = refl
-  said_back_lem bytes w (some f) h = bool? (carried d.revision f) (λ c. rw c (h f refl c)) (λ c. rw c)
+  said_back_lem bytes w None h = refl
+  said_back_lem bytes w (Some f) h = bool? (carried d.revision f) (λ c. rw c (h f refl c)) (λ c. rw c)
 
   -- the rule's values and the writer's are the same
-  pub body_back : (i : ℕ) → body_field tab b i ≡ row_back d.revision (pick r.body i) (get_or (body_given r d) i none)
+  pub body_back : (i : ℕ) → body_field tab b i ≡ row_back d.revision (pick r.body i) (get_or (body_given r d) i None)
   unfolding body_field pick body_given body_values
   body_back i =
       ap (body_by b i) (seen_is s) ∙ ap (λ (v : ℕ). field_or9 v b (pick r.body i)) s.revision
-      ∙ said_back_lem b (get_or (body_values r d) i none) (pick r.body i) (λ f q c. stamped_reads s (suc (suc i)) f q c)
+      ∙ said_back_lem b (get_or (body_values r d) i None) (pick r.body i) (λ f q c. stamped_reads s (suc (suc i)) f q c)
 
   -- ---- sub-blocks
 
@@ -76,13 +76,13 @@ module _ {tab : Table} {r : BlockRow} {d : Draft} {buffer b : List ℕ} (s : Kno
   unfolding seen_sub seen_sub_row
   sub_seen k = ap (seen_sub_row b k) (seen_is s) ∙ ap (λ (n : ℕ). cond (ltb k n) (row r) (refused_by 9)) (count_is s)
 
-  sub_fits : (k : ℕ) (ws : List Wanted) → pick d.subs k ≡ some ws → (has_subs r ≡ true) × (list_ok d.revision r.subs ws ≡ true)
+  sub_fits : (k : ℕ) (ws : List Wanted) → pick d.subs k ≡ Some ws → (has_subs r ≡ true) × (list_ok d.revision r.subs ws ≡ true)
   sub_fits = sub_ok r d (kept s) s.making.draft s.making.room.sub
 
-  sub_past : (k : ℕ) → pick d.subs k ≡ none → seen_sub tab b k ≡ refused_by 9
+  sub_past : (k : ℕ) → pick d.subs k ≡ None → seen_sub tab b k ≡ refused_by 9
   sub_past k q = sub_seen k ∙ rw (le-ltb k (length d.subs) (pick_past d.subs k q))
 
-  module _ (k : ℕ) (ws : List Wanted) (q : pick d.subs k ≡ some ws) where
+  module _ (k : ℕ) (ws : List Wanted) (q : pick d.subs k ≡ Some ws) where
     sub_there : seen_sub tab b k ≡ row r
     sub_there = sub_seen k ∙ rw (lt-ltb k (length d.subs) (pick_below d.subs k ws q))
 
@@ -109,25 +109,25 @@ module _ {tab : Table} {r : BlockRow} {d : Draft} {buffer b : List ℕ} (s : Kno
     slice_is : sub_slice b (sub_span r b k) ≡ laid d.revision 0 r.subs ws
     slice_is = ap (sub_slice b) span_is ∙ one_slice
 
-    sub_reads : (j : ℕ) → sub_field tab b k j ≡ row_back d.revision (pick r.subs j) (get_or ws j none)
+    sub_reads : (j : ℕ) → sub_field tab b k j ≡ row_back d.revision (pick r.subs j) (get_or ws j None)
     unfolding sub_field
     sub_reads j =
         let ok = (sub_fits k ws q).1 in
         ap (sub_by b k j) sub_there
         ∙ ap (λ (fs : List FieldRow). field_or9 (revision_in b) (sub_slice b (sub_span r b k)) (pick fs j)) (one_first r (one s))
         ∙ ap₂ (λ (v : ℕ) (c : List ℕ). field_or9 v c (pick r.subs j)) s.revision slice_is
-        ∙ said_back_lem (laid d.revision 0 r.subs ws) (get_or ws j none) (pick r.subs j)
+        ∙ said_back_lem (laid d.revision 0 r.subs ws) (get_or ws j None) (pick r.subs j)
         (laid_reads d.revision 0 r.subs ws (kept s).subs ok [] [] (laid d.revision 0 r.subs ws) refl (sym (append-nil _)) j)
 
   sub_by_lem : (k j : ℕ) (o : Option (List Wanted)) → pick d.subs k ≡ o → sub_field tab b k j ≡ sub_back d.revision (pick r.subs j) j o
   unfolding sub_field
-  sub_by_lem k j none q = ap (sub_by b k j) (sub_past k q)
-  sub_by_lem k j (some ws) q = sub_reads k ws q j
+  sub_by_lem k j None q = ap (sub_by b k j) (sub_past k q)
+  sub_by_lem k j (Some ws) q = sub_reads k ws q j
 
   part_by_lem : (k : ℕ) (o : Option (List Wanted)) → pick d.subs k ≡ o → sub_block_refusal tab b k ≡ part_back o
   unfolding sub_block_refusal
-  part_by_lem k none q = ap number_by (sub_past k q)
-  part_by_lem k (some ws) q = ap number_by (sub_there k ws q)
+  part_by_lem k None q = ap number_by (sub_past k q)
+  part_by_lem k (Some ws) q = ap number_by (sub_there k ws q)
 
   pub sub_back_lem : (k j : ℕ) → sub_field tab b k j ≡ sub_back d.revision (pick r.subs j) j (pick d.subs k)
   sub_back_lem k j = sub_by_lem k j (pick d.subs k) refl
@@ -141,32 +141,32 @@ module _ {tab : Table} {r : BlockRow} {d : Draft} {buffer b : List ℕ} (s : Kno
       → said_back w ≡ field_refused n → ⊥
   never_said f w n ok c e = let x = wanted_bits_lem d.revision f w ok c in never_refused f w x.0 n x.1 e
 
-  nine_by : (o : Option FieldRow) (w : Wanted) (n : ℕ) → ((f : FieldRow) → o ≡ some f → wanted_ok d.revision f w ≡ true)
+  nine_by : (o : Option FieldRow) (w : Wanted) (n : ℕ) → ((f : FieldRow) → o ≡ Some f → wanted_ok d.revision f w ≡ true)
       → row_back d.revision o w ≡ field_refused n → n ≡ 9
-  nine_by none w n h e = cc
-  nine_by (some f) w n h e =
+  nine_by None w n h e = cc
+  nine_by (Some f) w n h e =
       bool? (carried d.revision f)
       (λ c. absurd (never_said f w n (h f refl) c (rw c at e)))
       (λ c.
       let g : not_in_revision ≡ field_refused n = rw c at e in
       let z : ◌≡◌ {A = ℕ} 0 1 = cc g in absurd (omega arith))
 
-  stamp_given : (i : ℕ) (f : FieldRow) (w : Wanted) (n : ℕ) → pick (stamped r) i ≡ some f → f.first ≡ 0 → get_or (stamped_values r d) i none ≡ w
+  stamp_given : (i : ℕ) (f : FieldRow) (w : Wanted) (n : ℕ) → pick (stamped r) i ≡ Some f → f.first ≡ 0 → get_or (stamped_values r d) i None ≡ w
       → stamp f b ≡ said_back w → stamp f b ≡ field_refused n → ⊥
   stamp_given i f w n q z g e h =
       never_said f w n (rw g at (wanted_at d.revision (stamped r) (stamped_values r d) (values_ok s) i f q)) (le-leb f.first d.revision (omega arith))
       (sym e ∙ h)
 
-  body_nine : (i n : ℕ) → row_back d.revision (pick r.body i) (get_or (body_given r d) i none) ≡ field_refused n → n ≡ 9
+  body_nine : (i n : ℕ) → row_back d.revision (pick r.body i) (get_or (body_given r d) i None) ≡ field_refused n → n ≡ 9
   unfolding pick body_given body_values
   body_nine i n e =
-      nine_by (pick r.body i) (get_or (body_values r d) i none) n
+      nine_by (pick r.body i) (get_or (body_values r d) i None) n
       (λ f q. wanted_at d.revision (stamped r) (stamped_values r d) (values_ok s) (suc (suc i)) f q) e
 
   sub_nine : (k j n : ℕ) (o : Option (List Wanted)) → pick d.subs k ≡ o → sub_back d.revision (pick r.subs j) j o ≡ field_refused n → n ≡ 9
-  sub_nine k j n none q e = cc
-  sub_nine k j n (some ws) q e =
-      nine_by (pick r.subs j) (get_or ws j none) n (λ f p. wanted_at d.revision r.subs ws (sub_fits k ws q).1 j f p) e
+  sub_nine k j n None q e = cc
+  sub_nine k j n (Some ws) q e =
+      nine_by (pick r.subs j) (get_or ws j None) n (λ f p. wanted_at d.revision r.subs ws (sub_fits k ws q).1 j f p) e
 
   pub reads_back_all : ReadsBack tab r d b
   unfolding pick

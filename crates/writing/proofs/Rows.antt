@@ -2,7 +2,7 @@
 -- Assumes nothing.
 use mathlib.Core.Bool.{Bool, true, cond}
 use mathlib.Core.List.{List, [], ◌∷◌}
-use mathlib.Core.Option.{some}
+use Rattle.std.proofs.Common.{Some}
 use mathlib.Core.Path.{◌≡◌, sym, ap, ◌∙◌, subst}
 use Prim.Native.Nat.{ℕ, ◌≤◌}
 use native.Mathlib.Omega.{arith}
@@ -17,17 +17,17 @@ use Rattle.writer.proofs.Rows.{RowKept, row_kept}
 use Rattle.lay.proofs.Low.{none_some}
 
 -- the first that passes a test passes it, and what every one does
-pub first_passes : {A : Type 0} (p q : A → Bool) (xs : List A) (x : A) → first_that p xs ≡ some x → every q xs ≡ true → (p x ≡ true) × (q x ≡ true)
+pub first_passes : {A : Type 0} (p q : A → Bool) (xs : List A) (x : A) → first_that p xs ≡ Some x → every q xs ≡ true → (p x ≡ true) × (q x ≡ true)
 unfolding first_that every
 first_passes p q [] x f e = none_some f
 first_passes {A = A} p q (y ∷ ys) x f e =
     let k = both (q y) _ e in
     bool? (p y)
     (λ t.
-    let s : some y ≡ some x = sym (ap (λ (b : Bool). cond b (some y) (first_that p ys)) t) ∙ f in
+    let s : Some y ≡ Some x = sym (ap (λ (b : Bool). cond b (Some y) (first_that p ys)) t) ∙ f in
     let i : y ≡ x = cc s in
     (subst (λ (z : A). p z ≡ true) i t, subst (λ (z : A). q z ≡ true) i k.0))
-    (λ t. first_passes p q ys x (sym (ap (λ (b : Bool). cond b (some y) (first_that p ys)) t) ∙ f) k.1)
+    (λ t. first_passes p q ys x (sym (ap (λ (b : Bool). cond b (Some y) (first_that p ys)) t) ∙ f) k.1)
 
 -- T8, R6: its number is the one looked for, below 8,192; W1: it is of one level
 pub record FoundKept (n : ℕ) (r : BlockRow) : Type 0 where
@@ -35,7 +35,7 @@ pub record FoundKept (n : ℕ) (r : BlockRow) : Type 0 where
   pub small : n ≤ 8191
   pub one : r.firsts ≡ 0
 
-pub found_kept : (tab : Table) (n : ℕ) (r : BlockRow) → meaning_ok tab ≡ true → find_row tab n ≡ some r → r.firsts ≡ 0 → FoundKept n r
+pub found_kept : (tab : Table) (n : ℕ) (r : BlockRow) → meaning_ok tab ≡ true → find_row tab n ≡ Some r → r.firsts ≡ 0 → FoundKept n r
 unfolding find_row
 found_kept tab n r ok f one =
     let m = meaning tab ok in

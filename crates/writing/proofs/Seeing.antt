@@ -3,7 +3,7 @@
 -- Assumes nothing.
 use mathlib.Core.Bool.{Bool, true, false, ◌||◌}
 use mathlib.Core.List.{List, [], ◌∷◌, ◌++◌, append_assoc}
-use mathlib.Core.Option.{none, some}
+use Rattle.std.proofs.Common.{None, Some}
 use mathlib.Core.Path.{◌≡◌, refl, sym, ap, ◌∙◌}
 use Prim.Native.Nat.{ℕ, suc, ◌+◌, ◌-◌, ◌*◌, ◌≤◌}
 use native.Mathlib.Nat.{add-zero, zero-mul}
@@ -76,7 +76,7 @@ or_true false b e = e
 -- what its making, its frame and its length say
 pub record Known (tab : Table) (r : BlockRow) (d : Draft) (buffer b : List ℕ) : Type 0 where
   pub making : Making tab r d buffer b
-  pub found : find_row tab d.number ≡ some r
+  pub found : find_row tab d.number ≡ Some r
   pub whole : whole_frame b ≡ true
   pub number : number_in b ≡ d.number
   pub revision : revision_in b ≡ d.revision
@@ -94,14 +94,14 @@ module _ {tab : Table} {r : BlockRow} {d : Draft} {buffer b : List ℕ} (s : Kno
   values_ok = stamped_ok r d kept s.making.draft s.making.room.sub
 
   -- field i of TOW, WNc and the body
-  pub stamped_reads : (i : ℕ) (f : FieldRow) → pick (stamped r) i ≡ some f → carried d.revision f ≡ true
-      → field_value b f ≡ said_back (get_or (stamped_values r d) i none)
+  pub stamped_reads : (i : ℕ) (f : FieldRow) → pick (stamped r) i ≡ Some f → carried d.revision f ≡ true
+      → field_value b f ≡ said_back (get_or (stamped_values r d) i None)
   stamped_reads =
       laid_reads d.revision 8 (stamped r) (stamped_values r d) (stamped_kept r kept) values_ok (header r d) (subs_part r d ++ gap r d) b (length_header r d)
       at_header
 
-  stamped_bits : (i : ℕ) (f : FieldRow) → pick (stamped r) i ≡ some f → carried d.revision f ≡ true
-      → little_at (size_of f.kind) b f.offset ≡ field_bits f (get_or (stamped_values r d) i none)
+  stamped_bits : (i : ℕ) (f : FieldRow) → pick (stamped r) i ≡ Some f → carried d.revision f ≡ true
+      → little_at (size_of f.kind) b f.offset ≡ field_bits f (get_or (stamped_values r d) i None)
   stamped_bits =
       laid-bits d.revision 8 (stamped r) (stamped_values r d) (stamped_kept r kept) values_ok (header r d) (subs_part r d ++ gap r d) b (length_header r d)
       at_header
@@ -110,16 +110,16 @@ module _ {tab : Table} {r : BlockRow} {d : Draft} {buffer b : List ℕ} (s : Kno
 
   module _ (h : has_subs r ≡ true) where
     -- a body of these two, which stand at 14 and 15
-    byte_at : (i at n : ℕ) → pick (field_row 14 u1 0 unmarked ∷ field_row 15 u1 0 unmarked ∷ []) i ≡ some (field_row at u1 0 unmarked)
-        → get_or (some (unsigned (length d.subs)) ∷ some (unsigned (sb_length r d)) ∷ []) i none ≡ some (unsigned n) → n ≤ 255 → get_or b at 0 ≡ n
+    byte_at : (i at n : ℕ) → pick (field_row 14 u1 0 unmarked ∷ field_row 15 u1 0 unmarked ∷ []) i ≡ Some (field_row at u1 0 unmarked)
+        → get_or (Some (unsigned (length d.subs)) ∷ Some (unsigned (sb_length r d)) ∷ []) i None ≡ Some (unsigned n) → n ≤ 255 → get_or b at 0 ≡ n
     unfolding little_at size_of pick
     byte_at i at n p q l =
         let f = field_row at u1 0 unmarked in
         let row_is = ap (λ (fs : List FieldRow). pick fs i) (pair_is r.body (kept.pair h)) ∙ p in
-        let e : little_at 1 b at ≡ field_bits f (get_or (body_values r d) i none) =
+        let e : little_at 1 b at ≡ field_bits f (get_or (body_values r d) i None) =
         stamped_bits (suc (suc i)) f row_is (le-leb 0 d.revision (omega arith)) in
-        sym (add-zero (get_or b at 0)) ∙ e ∙ ap (field_bits f) (ap (λ (ws : List Wanted). get_or ws i none) (pair_values r d h) ∙ q)
-        ∙ bits_are f (some (unsigned n)) (byte_bits at n l)
+        sym (add-zero (get_or b at 0)) ∙ e ∙ ap (field_bits f) (ap (λ (ws : List Wanted). get_or ws i None) (pair_values r d h) ∙ q)
+        ∙ bits_are f (Some (unsigned n)) (byte_bits at n l)
 
     count_back : count_in b ≡ length d.subs
     unfolding pick

@@ -1,7 +1,7 @@
 -- Pieces of one length, one after the other: piece k stands behind k of them.
 -- Assumes nothing.
 use mathlib.Core.List.{List, [], ◌∷◌, ◌++◌, flat_map, append_assoc}
-use mathlib.Core.Option.{some}
+use Rattle.std.proofs.Common.{Some}
 use mathlib.Core.Path.{◌≡◌, ap, ◌∙◌}
 use Prim.Native.Nat.{ℕ, zero, suc, ◌+◌, ◌*◌}
 use native.Mathlib.Nat.{zero-mul, suc-mul}
@@ -12,7 +12,7 @@ use Rattle.table.specs.Lists.{pick}
 use Rattle.lay.proofs.Low.{none_some}
 
 module _ {A : Type 0} (f : A → List ℕ) (n : ℕ) (even : (x : A) → length (f x) ≡ n) where
-  slice_at : (xs : List A) (rest : List ℕ) (k : ℕ) (x : A) → pick xs k ≡ some x → take n (drop (k * n) (flat_map f xs ++ rest)) ≡ f x
+  slice_at : (xs : List A) (rest : List ℕ) (k : ℕ) (x : A) → pick xs k ≡ Some x → take n (drop (k * n) (flat_map f xs ++ rest)) ≡ f x
   unfolding pick flat_map
   slice_at [] rest k x q = none_some q
   slice_at (y ∷ xs) rest zero x q =
@@ -22,7 +22,7 @@ module _ {A : Type 0} (f : A → List ℕ) (n : ℕ) (even : (x : A) → length 
       let m : suc k * n ≡ length (f y) + k * n = rw (even y) (omega (arith, suc-mul k n)) in
       rw (m, append_assoc (f y) (flat_map f xs) rest, drop-append-add (f y) (flat_map f xs ++ rest) (k * n)) (slice_at xs rest k x q)
 
-  pub slice_behind : (at : ℕ) (pre : List ℕ) → length pre ≡ at → (xs : List A) (rest : List ℕ) (k : ℕ) (x : A) → pick xs k ≡ some x
+  pub slice_behind : (at : ℕ) (pre : List ℕ) → length pre ≡ at → (xs : List A) (rest : List ℕ) (k : ℕ) (x : A) → pick xs k ≡ Some x
       → take n (drop (at + k * n) (pre ++ (flat_map f xs ++ rest))) ≡ f x
   slice_behind at pre e xs rest k x q =
       rw (← e, drop-append-add pre (flat_map f xs ++ rest) (k * n)) (slice_at xs rest k x q)

@@ -1,7 +1,7 @@
 -- A value that has bits is what its bits read as: by the range of the type where it is given, by the mark where it is unset.
 -- Assumes nothing.
 use mathlib.Core.Bool.{Bool, true, false, cond}
-use mathlib.Core.Option.{Option, none, some}
+use Rattle.std.proofs.Common.{Option, None, Some}
 use mathlib.Core.Path.{◌≡◌, refl, sym, ap, ◌∙◌, subst}
 use Prim.Native.Nat.{ℕ, suc, ◌+◌, ◌-◌, ◌^◌, ◌<◌, ◌≤◌}
 use native.Mathlib.Omega.{arith}
@@ -24,23 +24,23 @@ use Rattle.wire.proofs.Tests.{bool?, eq?, both}
 -- ---- the bits of a type, and what they read as
 
 -- a number without sign, or the bits of a float
-pub in_range : (size n x : ℕ) → unsigned_bits size n ≡ some x → (x < 256 ^ size) × (n ≡ x)
+pub in_range : (size n x : ℕ) → unsigned_bits size n ≡ Some x → (x < 256 ^ size) × (n ≡ x)
 in_range size n x e =
-    let k = only_if (ltb n (256 ^ size)) (some n) e in
+    let k = only_if (ltb n (256 ^ size)) (Some n) e in
     let l : n < 256 ^ size = ltb-true _ _ k.0 in
     let q : n ≡ x = cc k.1 in
     (omega arith, q)
 
 -- a number with sign, once over the width
-pub sign_back : (h all : ℕ) (z : ℤ) (x : ℕ) → all ≡ h + h → signed_within h all z ≡ some x → (x < all) × (with_sign h x ≡ z)
+pub sign_back : (h all : ℕ) (z : ℤ) (x : ℕ) → all ≡ h + h → signed_within h all z ≡ Some x → (x < all) × (with_sign h x ≡ z)
 unfolding with_sign
 sign_back h all (pos n) x t e =
-    let k = only_if (ltb n h) (some n) e in
+    let k = only_if (ltb n h) (Some n) e in
     let l : n < h = ltb-true _ _ k.0 in
     let q : n ≡ x = cc k.1 in
     (omega arith, rw (← q, lt-ltb n h l))
 sign_back h all (negsuc n) x t e =
-    let k = only_if (ltb n h) (some (all - suc n)) e in
+    let k = only_if (ltb n h) (Some (all - suc n)) e in
     let l : n < h = ltb-true _ _ k.0 in
     let q : all - suc n ≡ x = cc k.1 in
     let b : h ≤ x = omega arith in
@@ -66,7 +66,7 @@ read_signed x = signed_cases (λ (kind : ℕ). read_as kind x ≡ signed_in (siz
 abbrev ReadsAs : ℕ → FieldSaid → ℕ → Type 0
 ReadsAs kind said x = (x < 256 ^ size_of kind) × (read_as kind x ≡ said)
 
-said_back_lem : (kind : ℕ) (said : FieldSaid) (x : ℕ) → bits_for kind said ≡ some x → ReadsAs kind said x
+said_back_lem : (kind : ℕ) (said : FieldSaid) (x : ℕ) → bits_for kind said ≡ Some x → ReadsAs kind said x
 unfolding bits_for size_of read_as
 said_back_lem kind (unsigned n) x e =
     let k = only_if (is_unsigned kind) (unsigned_bits (size_of kind) n) e in
@@ -97,25 +97,25 @@ said_back_lem kind (field_refused n) x e = none_some e
 
 -- ---- with the mark
 
-pub marked_none : (f : FieldRow) (o : Option ℕ) (x : ℕ) → unless_marked f o ≡ some x → (o ≡ some x) × (is_do_not_use f.mark f.kind x ≡ false)
-marked_none f none x e = none_some e
-marked_none f (some y) x e =
+pub marked_none : (f : FieldRow) (o : Option ℕ) (x : ℕ) → unless_marked f o ≡ Some x → (o ≡ Some x) × (is_do_not_use f.mark f.kind x ≡ false)
+marked_none f None x e = none_some e
+marked_none f (Some y) x e =
     bool? (is_do_not_use f.mark f.kind y)
-    (λ t. none_some (sym (ap (λ (b : Bool). cond b none (some y)) t) ∙ e))
+    (λ t. none_some (sym (ap (λ (b : Bool). cond b None (Some y)) t) ∙ e))
     (λ t.
-    let s : some y ≡ some x = sym (ap (λ (b : Bool). cond b none (some y)) t) ∙ e in
+    let s : Some y ≡ Some x = sym (ap (λ (b : Bool). cond b None (Some y)) t) ∙ e in
     let q : y ≡ x = cc s in
     (s, subst (λ (n : ℕ). is_do_not_use f.mark f.kind n ≡ false) q t))
 
 -- the bits of what is wanted of a field are a number of its size, and read as that
-pub bits_read : (f : FieldRow) (w : Wanted) (x : ℕ) → listed f.kind ≡ true → mark_fits f.kind f.mark ≡ true → bits_of f w ≡ some x
+pub bits_read : (f : FieldRow) (w : Wanted) (x : ℕ) → listed f.kind ≡ true → mark_fits f.kind f.mark ≡ true → bits_of f w ≡ Some x
     → (x < 256 ^ size_of f.kind) × (value_of f.kind f.mark x ≡ said_back w)
 unfolding bits_of value_of
-bits_read f none x l m e =
-    let u : ReadsUnset f.mark f.kind (some x) =
+bits_read f None x l m e =
+    let u : ReadsUnset f.mark f.kind (Some x) =
     subst (λ (o : Option ℕ). ReadsUnset f.mark f.kind o) e (unset_is_told f.kind f.mark l m) in
     (u.0, ap (λ (b : Bool). cond b do_not_use (read_as f.kind x)) u.1)
-bits_read f (some said) x l m e =
+bits_read f (Some said) x l m e =
     let u = marked_none f (bits_for f.kind said) x e in
     let r = said_back_lem f.kind said x u.0 in
     (r.0, ap (λ (b : Bool). cond b do_not_use (read_as f.kind x)) u.1 ∙ r.1)
@@ -123,21 +123,21 @@ bits_read f (some said) x l m e =
 -- ---- what has bits is given again the same
 
 -- and is no refusal
-pub never_refused : (f : FieldRow) (w : Wanted) (x n : ℕ) → bits_of f w ≡ some x → said_back w ≡ field_refused n → ⊥
+pub never_refused : (f : FieldRow) (w : Wanted) (x n : ℕ) → bits_of f w ≡ Some x → said_back w ≡ field_refused n → ⊥
 unfolding bits_of bits_for
-never_refused f none x n e s = let z : ◌≡◌ {A = ℕ} 0 1 = cc s in omega arith
-never_refused f (some said) x n e s = none_some (sym (ap (λ (a : FieldSaid). unless_marked f (bits_for f.kind a)) s) ∙ e)
+never_refused f None x n e s = let z : ◌≡◌ {A = ℕ} 0 1 = cc s in omega arith
+never_refused f (Some said) x n e s = none_some (sym (ap (λ (a : FieldSaid). unless_marked f (bits_for f.kind a)) s) ∙ e)
 
-pub wanted_again : (f : FieldRow) (w : Wanted) (x : ℕ) → bits_of f w ≡ some x → as_read (said_back w) ≡ w
+pub wanted_again : (f : FieldRow) (w : Wanted) (x : ℕ) → bits_of f w ≡ Some x → as_read (said_back w) ≡ w
 unfolding bits_of bits_for
-wanted_again f none x e = refl
-wanted_again f (some (unsigned n)) x e = refl
-wanted_again f (some (signed z)) x e = refl
-wanted_again f (some (single b)) x e = refl
-wanted_again f (some (double b)) x e = refl
-wanted_again f (some do_not_use) x e = none_some e
-wanted_again f (some not_in_revision) x e = none_some e
-wanted_again f (some (field_refused n)) x e = none_some e
+wanted_again f None x e = refl
+wanted_again f (Some (unsigned n)) x e = refl
+wanted_again f (Some (signed z)) x e = refl
+wanted_again f (Some (single b)) x e = refl
+wanted_again f (Some (double b)) x e = refl
+wanted_again f (Some do_not_use) x e = none_some e
+wanted_again f (Some not_in_revision) x e = none_some e
+wanted_again f (Some (field_refused n)) x e = none_some e
 
-pub bits_again : (f : FieldRow) (w : Wanted) (x : ℕ) → bits_of f w ≡ some x → bits_of f (as_read (said_back w)) ≡ some x
+pub bits_again : (f : FieldRow) (w : Wanted) (x : ℕ) → bits_of f w ≡ Some x → bits_of f (as_read (said_back w)) ≡ Some x
 bits_again f w x e = ap (bits_of f) (wanted_again f w x e) ∙ e

@@ -3,8 +3,7 @@
 -- Assumes nothing.
 use mathlib.Core.Bool.{true}
 use mathlib.Core.List.{List, [], ◌∷◌}
-use mathlib.Core.Option
-use mathlib.Core.Option.{Option, none, some}
+use Rattle.std.proofs.Common.{Option, None, Some, unwrap_or}
 use mathlib.Core.Path.{◌≡◌, refl, sym, ap, ◌∙◌}
 use Prim.Native.Nat.{ℕ, zero, suc, ◌≤◌}
 use native.Mathlib.Omega.{arith}
@@ -52,7 +51,7 @@ module _ (at : ℕ) (f : FieldRow) (fs : List FieldRow) (kept : FieldsKept at (f
       let k = kept_rest in
       record { order = order_earlier fs (omega arith) k.order; types = k.types; marks = k.marks }
 
-pub row_kind : (at : ℕ) (fs : List FieldRow) → FieldsKept at fs → (i : ℕ) (f : FieldRow) → pick fs i ≡ some f → (type_ok f ≡ true) × (mark_ok f ≡ true)
+pub row_kind : (at : ℕ) (fs : List FieldRow) → FieldsKept at fs → (i : ℕ) (f : FieldRow) → pick fs i ≡ Some f → (type_ok f ≡ true) × (mark_ok f ≡ true)
 unfolding pick
 row_kind at [] kept i f q = none_some q
 row_kind at (g ∷ fs) kept zero f q = let same : g ≡ f = cc in rw (← same) (kept_kind at g fs kept)
@@ -60,44 +59,44 @@ row_kind at (g ∷ fs) kept (suc i) f q = row_kind (ends g) fs (kept_rest at g f
 
 -- ---- what may be wanted
 
-is_some_lem : {A : Type 0} (o : Option A) → is_some o ≡ true → (x : A) × (o ≡ some x)
-is_some_lem none e = never e refl
-is_some_lem (some x) e = (x, refl)
+is_some_lem : {A : Type 0} (o : Option A) → is_some o ≡ true → (x : A) × (o ≡ Some x)
+is_some_lem None e = never e refl
+is_some_lem (Some x) e = (x, refl)
 
 -- a carried field has bits
-pub wanted_bits_lem : (revision : ℕ) (f : FieldRow) (w : Wanted) → wanted_ok revision f w ≡ true → carried revision f ≡ true → (x : ℕ) × (bits_of f w ≡ some x)
+pub wanted_bits_lem : (revision : ℕ) (f : FieldRow) (w : Wanted) → wanted_ok revision f w ≡ true → carried revision f ≡ true → (x : ℕ) × (bits_of f w ≡ Some x)
 unfolding wanted_ok
 wanted_bits_lem revision f w e c = is_some_lem (bits_of f w) (rw c at e)
 
-pub bits_are : (f : FieldRow) (w : Wanted) {x : ℕ} → bits_of f w ≡ some x → field_bits f w ≡ x
-bits_are f w e = ap (λ (o : Option ℕ). Option.get_or o 0) e
+pub bits_are : (f : FieldRow) (w : Wanted) {x : ℕ} → bits_of f w ≡ Some x → field_bits f w ≡ x
+bits_are f w e = ap (λ (o : Option ℕ). unwrap_or o 0) e
 
 pub get_d_rest : {A : Type 0} (xs : List A) (i : ℕ) (d : A) → get_or (drop 1 xs) i d ≡ get_or xs (suc i) d
 get_d_rest [] i d = refl
 get_d_rest (x ∷ xs) i d = refl
 
 -- each row of a list
-pub wanted_at : (revision : ℕ) (fs : List FieldRow) (ws : List Wanted) → list_ok revision fs ws ≡ true → (i : ℕ) (f : FieldRow) → pick fs i ≡ some f
-    → wanted_ok revision f (get_or ws i none) ≡ true
+pub wanted_at : (revision : ℕ) (fs : List FieldRow) (ws : List Wanted) → list_ok revision fs ws ≡ true → (i : ℕ) (f : FieldRow) → pick fs i ≡ Some f
+    → wanted_ok revision f (get_or ws i None) ≡ true
 unfolding list_ok pick
 wanted_at revision [] ws ok i f q = none_some q
 wanted_at revision (g ∷ fs) ws ok zero f q =
     let same : g ≡ f = cc in
-    rw (← same) (both (wanted_ok revision g (get_or ws 0 none)) _ ok).0
+    rw (← same) (both (wanted_ok revision g (get_or ws 0 None)) _ ok).0
 wanted_at revision (g ∷ fs) ws ok (suc i) f q =
-    rw (get_d_rest ws i none) at (wanted_at revision fs (drop 1 ws) (both (wanted_ok revision g (get_or ws 0 none)) _ ok).1 i f q)
+    rw (get_d_rest ws i None) at (wanted_at revision fs (drop 1 ws) (both (wanted_ok revision g (get_or ws 0 None)) _ ok).1 i f q)
 
-unset_at : (ws : List Wanted) → every is_unset ws ≡ true → (i : ℕ) → get_or ws i none ≡ none
+unset_at : (ws : List Wanted) → every is_unset ws ≡ true → (i : ℕ) → get_or ws i None ≡ None
 unfolding every
 unset_at [] e i = refl
-unset_at (none ∷ ws) e zero = refl
-unset_at (some x ∷ ws) e zero = never e refl
+unset_at (None ∷ ws) e zero = refl
+unset_at (Some x ∷ ws) e zero = never e refl
 unset_at (w ∷ ws) e (suc i) = unset_at ws (both (is_unset w) _ e).1 i
 
 -- and past the last row all is unset
-pub unset_past : (revision : ℕ) (fs : List FieldRow) (ws : List Wanted) → list_ok revision fs ws ≡ true → (i : ℕ) → length fs ≤ i → get_or ws i none ≡ none
+pub unset_past : (revision : ℕ) (fs : List FieldRow) (ws : List Wanted) → list_ok revision fs ws ≡ true → (i : ℕ) → length fs ≤ i → get_or ws i None ≡ None
 unfolding list_ok
 unset_past revision [] ws ok i l = unset_at ws ok i
 unset_past revision (g ∷ fs) ws ok zero l = absurd (omega arith)
 unset_past revision (g ∷ fs) ws ok (suc i) l =
-    sym (get_d_rest ws i none) ∙ unset_past revision fs (drop 1 ws) (both (wanted_ok revision g (get_or ws 0 none)) _ ok).1 i (omega arith)
+    sym (get_d_rest ws i None) ∙ unset_past revision fs (drop 1 ws) (both (wanted_ok revision g (get_or ws 0 None)) _ ok).1 i (omega arith)

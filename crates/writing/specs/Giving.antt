@@ -1,7 +1,6 @@
 -- How drafts are given (rules W2, W3): every one that is allowed can be given as numbers, and what numbers at the limits say.
 -- Assumes nothing.
-use Rattle.std.specs.Prelude.{ℕ, ◌^◌, ◌<◌, true, List, [], ◌∷◌, map, ◌≡◌, pos, negsuc, length, get_or}
-use Rattle.std.proofs.Math.Option.{none, some}
+use Rattle.std.specs.Prelude.{ℕ, ◌^◌, ◌<◌, true, List, [], ◌∷◌, map, ◌≡◌, pos, negsuc, length, get_or, None, Some}
 use Rattle.wire.specs.Range.{Bytes}
 use Rattle.table.specs.Rows.{BlockRow}
 use Rattle.value.specs.Said.{unsigned, signed, single, double, field_refused}
@@ -54,20 +53,20 @@ in_lists kinds bits expected = record { given = values_in kinds bits ∷ subs_in
 
 -- W2: of no field
 abbrev of_no_field : ℕ → List Wanted
-of_no_field kind = some (field_refused kind) ∷ some (field_refused kind) ∷ some (field_refused kind) ∷ some (field_refused kind) ∷ []
+of_no_field kind = Some (field_refused kind) ∷ Some (field_refused kind) ∷ Some (field_refused kind) ∷ Some (field_refused kind) ∷ []
 
 abbrev pub giving_cases : List GivingCase
 giving_cases =
-    at_limits 0 (none ∷ none ∷ none ∷ none ∷ [])
+    at_limits 0 (None ∷ None ∷ None ∷ None ∷ [])
     ∷ at_limits 1
-    (some (unsigned 0) ∷ some (unsigned 0x7FFFFFFFFFFFFFFF) ∷ some (unsigned 0x8000000000000000) ∷ some (unsigned 0xFFFFFFFFFFFFFFFF) ∷ [])
+    (Some (unsigned 0) ∷ Some (unsigned 0x7FFFFFFFFFFFFFFF) ∷ Some (unsigned 0x8000000000000000) ∷ Some (unsigned 0xFFFFFFFFFFFFFFFF) ∷ [])
     -- the highest number is 2^63 - 1, the lowest -2^63 (one below the opposite of the highest), and all ones are -1
     ∷ at_limits 2
-    (some (signed (pos 0)) ∷ some (signed (pos 0x7FFFFFFFFFFFFFFF)) ∷ some (signed (negsuc 0x7FFFFFFFFFFFFFFF)) ∷ some (signed (negsuc 0)) ∷ [])
+    (Some (signed (pos 0)) ∷ Some (signed (pos 0x7FFFFFFFFFFFFFFF)) ∷ Some (signed (negsuc 0x7FFFFFFFFFFFFFFF)) ∷ Some (signed (negsuc 0)) ∷ [])
     ∷ at_limits 3
-    (some (single 0) ∷ some (single 0x7FFFFFFFFFFFFFFF) ∷ some (single 0x8000000000000000) ∷ some (single 0xFFFFFFFFFFFFFFFF) ∷ [])
+    (Some (single 0) ∷ Some (single 0x7FFFFFFFFFFFFFFF) ∷ Some (single 0x8000000000000000) ∷ Some (single 0xFFFFFFFFFFFFFFFF) ∷ [])
     ∷ at_limits 4
-    (some (double 0) ∷ some (double 0x7FFFFFFFFFFFFFFF) ∷ some (double 0x8000000000000000) ∷ some (double 0xFFFFFFFFFFFFFFFF) ∷ [])
+    (Some (double 0) ∷ Some (double 0x7FFFFFFFFFFFFFFF) ∷ Some (double 0x8000000000000000) ∷ Some (double 0xFFFFFFFFFFFFFFFF) ∷ [])
     ∷ at_limits 5 (of_no_field 5)
     ∷ at_limits 6 (of_no_field 6)
     ∷ at_limits 200 (of_no_field 200)
@@ -78,19 +77,19 @@ giving_cases =
     ∷ in_lists
     (1 ∷ 0 ∷ begins ∷ 2 ∷ begins ∷ begins ∷ 3 ∷ 4 ∷ [])
     (7 ∷ 8 ∷ 9 ∷ 0xFFFFFFFFFFFFFFFF ∷ 10 ∷ 11 ∷ 12 ∷ 13 ∷ [])
-    ((some (unsigned 7) ∷ none ∷ []) ∷ (some (signed (negsuc 0)) ∷ []) ∷ [] ∷ (some (single 12) ∷ some (double 13) ∷ []) ∷ [])
+    ((Some (unsigned 7) ∷ None ∷ []) ∷ (Some (signed (negsuc 0)) ∷ []) ∷ [] ∷ (Some (single 12) ∷ Some (double 13) ∷ []) ∷ [])
     -- no body
-    ∷ in_lists (begins ∷ 1 ∷ []) (9 ∷ 7 ∷ []) ([] ∷ (some (unsigned 7) ∷ []) ∷ [])
+    ∷ in_lists (begins ∷ 1 ∷ []) (9 ∷ 7 ∷ []) ([] ∷ (Some (unsigned 7) ∷ []) ∷ [])
     -- a kind of no field begins no sub-block
-    ∷ in_lists (6 ∷ 1 ∷ []) (9 ∷ 7 ∷ []) ((some (field_refused 6) ∷ some (unsigned 7) ∷ []) ∷ [])
+    ∷ in_lists (6 ∷ 1 ∷ []) (9 ∷ 7 ∷ []) ((Some (field_refused 6) ∷ Some (unsigned 7) ∷ []) ∷ [])
     -- fewer bits than kinds: the missing ones are 0
     ∷ in_lists
     (1 ∷ 1 ∷ begins ∷ 2 ∷ 0 ∷ [])
     (7 ∷ [])
-    ((some (unsigned 7) ∷ some (unsigned 0) ∷ []) ∷ (some (signed (pos 0)) ∷ none ∷ []) ∷ [])
-    ∷ in_lists (1 ∷ []) [] ((some (unsigned 0) ∷ []) ∷ [])
+    ((Some (unsigned 7) ∷ Some (unsigned 0) ∷ []) ∷ (Some (signed (pos 0)) ∷ None ∷ []) ∷ [])
+    ∷ in_lists (1 ∷ []) [] ((Some (unsigned 0) ∷ []) ∷ [])
     -- more bits than kinds
-    ∷ in_lists (1 ∷ begins ∷ 1 ∷ []) (7 ∷ 8 ∷ 9 ∷ 10 ∷ 11 ∷ []) ((some (unsigned 7) ∷ []) ∷ (some (unsigned 9) ∷ []) ∷ [])
+    ∷ in_lists (1 ∷ begins ∷ 1 ∷ []) (7 ∷ 8 ∷ 9 ∷ 10 ∷ 11 ∷ []) ((Some (unsigned 7) ∷ []) ∷ (Some (unsigned 9) ∷ []) ∷ [])
     ∷ []
 
 abbrev pub GivingHolds : Type 0

@@ -1,7 +1,6 @@
 -- What is written reads back (rule W20) by the state and the store that Write was given: the record calls of the same reader.
 -- Assumes nothing.
-use Rattle.std.specs.Prelude.{ℕ, List, ◌≡◌, length, get_or, take}
-use Rattle.std.proofs.Math.Option.{none, some}
+use Rattle.std.specs.Prelude.{ℕ, List, ◌≡◌, length, get_or, take, None, Some}
 use Rattle.table.specs.Lists.{pick}
 use Rattle.table.specs.Rows.{BlockRow}
 use Rattle.table.specs.Decode.{decode}
@@ -20,11 +19,11 @@ pub record MadeInForce (s : State) (force : List ℕ) (d : Draft) (buffer b : Li
   pub front : take (length b) (write_of s force d buffer).buffer ≡ b
 
 pub record ReadsBackInForce (s : State) (force : List ℕ) (r : BlockRow) (d : Draft) (b : List ℕ) : Type 0 where
-  pub found : find_row (decode (table_in_force s force)) d.number ≡ some r
+  pub found : find_row (decode (table_in_force s force)) d.number ≡ Some r
   pub tow : tow_of s b ≡ said_back d.tow
   pub wnc : wnc_of s b ≡ said_back d.wnc
   -- N and SBLength are among these
-  pub body : (i : ℕ) → body_of s force b i ≡ row_back d.revision (pick r.body i) (get_or (body_given r d) i none)
+  pub body : (i : ℕ) → body_of s force b i ≡ row_back d.revision (pick r.body i) (get_or (body_given r d) i None)
   pub sub : (k j : ℕ) → sub_of s force b k j ≡ sub_back d.revision (pick r.subs j) j (pick d.subs k)
   pub part : (k : ℕ) → sub_bytes_refusal s force b k ≡ part_back (pick d.subs k)
   -- no call is refused but with 9

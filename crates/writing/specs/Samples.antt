@@ -1,7 +1,6 @@
 -- Blocks that are written, each with all its bytes (rules W6 to W9), and drafts that their row does not write (R6).
 -- Assumes nothing.
-use Rattle.std.specs.Prelude.{ℕ, ◌+◌, List, [], ◌∷◌, ◌++◌, map, ◌≡◌, negsuc, replicate}
-use Rattle.std.proofs.Math.Option.{none, some}
+use Rattle.std.specs.Prelude.{ℕ, ◌+◌, List, [], ◌∷◌, ◌++◌, map, ◌≡◌, negsuc, replicate, None, Some}
 use Rattle.kinds.specs.Types.{u1, u2, u4, i1, i2, i4, i8, f4, f8}
 use Rattle.kinds.specs.Marks.{unmarked, ones, zeroes, minus2e10, least, seed}
 use Rattle.rows.specs.declared.FieldRow.{FieldRow}
@@ -73,10 +72,10 @@ stamped_by r revision tow wnc body subs =
 
 -- TOW 1, WNc 2
 abbrev one_two : BlockRow → ℕ → List Wanted → List (List Wanted) → Draft
-one_two r revision body subs = stamped_by r revision (some (unsigned 1)) (some (unsigned 2)) body subs
+one_two r revision body subs = stamped_by r revision (Some (unsigned 1)) (Some (unsigned 2)) body subs
 
 abbrev byte_pair : ℕ → ℕ → List Wanted
-byte_pair x y = some (unsigned x) ∷ some (unsigned y) ∷ []
+byte_pair x y = Some (unsigned x) ∷ Some (unsigned y) ∷ []
 
 -- ---- cases
 
@@ -97,39 +96,39 @@ unwritten r d n = record { row = r; draft = d; size = n; said = write_refused 6;
 abbrev pub block_cases : List BlockCase
 block_cases =
     -- without fields: two bytes of padding
-    block_case bare_row (stamped_by bare_row 0 (some (unsigned 0x01020304)) (some (unsigned 0x0506)) [] []) 16
+    block_case bare_row (stamped_by bare_row 0 (Some (unsigned 0x01020304)) (Some (unsigned 0x0506)) [] []) 16
     (0x24 ∷ 0x40 ∷ 0xA0 ∷ 0xA0 ∷ 0x05 ∷ 0x00 ∷ 0x10 ∷ 0x00 ∷ 0x04 ∷ 0x03 ∷ 0x02 ∷ 0x01 ∷ 0x06 ∷ 0x05 ∷ 0x00 ∷ 0x00 ∷ [])
     -- a gap, a number below zero (-2) and padding
     ∷ block_case gap_row
-    (stamped_by gap_row 0 (some (unsigned 123456)) (some (unsigned 2200)) (some (unsigned 0xAB) ∷ some (unsigned 0x11223344) ∷ some (signed (negsuc 1)) ∷ []) [])
+    (stamped_by gap_row 0 (Some (unsigned 123456)) (Some (unsigned 2200)) (Some (unsigned 0xAB) ∷ Some (unsigned 0x11223344) ∷ Some (signed (negsuc 1)) ∷ []) [])
     28
     (0x24 ∷ 0x40 ∷ 0xF9 ∷ 0xA9 ∷ 0xA7 ∷ 0x0F ∷ 0x1C ∷ 0x00 ∷ 0x40 ∷ 0xE2 ∷ 0x01 ∷ 0x00 ∷ 0x98 ∷ 0x08 ∷ 0xAB ∷ 0x00
     ∷ 0x00 ∷ 0x00 ∷ 0x00 ∷ 0x00 ∷ 0x44 ∷ 0x33 ∷ 0x22 ∷ 0x11 ∷ 0xFE ∷ 0xFF ∷ 0x00 ∷ 0x00 ∷ [])
     -- unset, by each mark; the list is shorter than the rows
-    ∷ block_case marked_row (stamped_by marked_row 0 none none (none ∷ none ∷ []) []) 52
+    ∷ block_case marked_row (stamped_by marked_row 0 None None (None ∷ None ∷ []) []) 52
     (0x24 ∷ 0x40 ∷ 0xE7 ∷ 0x3C ∷ 0x40 ∷ 0x00 ∷ 0x34 ∷ 0x00 ∷ 0xFF ∷ 0xFF ∷ 0xFF ∷ 0xFF ∷ 0xFF ∷ 0xFF ∷ 0xFF ∷ 0xFF
     ∷ 0x00 ∷ 0x00 ∷ 0x00 ∷ 0x00 ∷ 0xF9 ∷ 0x02 ∷ 0x95 ∷ 0xD0 ∷ 0x00 ∷ 0x00 ∷ 0x00 ∷ 0x20 ∷ 0x5F ∷ 0xA0 ∷ 0x12 ∷ 0xC2
     ∷ 0x80 ∷ 0x00 ∷ 0x00 ∷ 0x80 ∷ 0x00 ∷ 0x00 ∷ 0x00 ∷ 0x80 ∷ 0x00 ∷ 0x00 ∷ 0x00 ∷ 0x00 ∷ 0x00 ∷ 0x00 ∷ 0x00 ∷ 0x80
     ∷ 0x00 ∷ 0x00 ∷ 0x00 ∷ 0x00 ∷ [])
     -- the lowest number with a seed
-    ∷ block_case seed_row (one_two seed_row 0 (some (unsigned 0x2000) ∷ []) []) 16
+    ∷ block_case seed_row (one_two seed_row 0 (Some (unsigned 0x2000) ∷ []) []) 16
     (0x24 ∷ 0x40 ∷ 0x04 ∷ 0x12 ∷ 0x07 ∷ 0x00 ∷ 0x10 ∷ 0x00 ∷ 0x01 ∷ 0x00 ∷ 0x00 ∷ 0x00 ∷ 0x02 ∷ 0x00 ∷ 0x00 ∷ 0x20 ∷ [])
     -- revision 1 lacks the last field, which revision 2 carries (-3)
-    ∷ block_case growing_row (one_two growing_row 1 (some (unsigned 0x1234) ∷ some (single 0x3FC00000) ∷ []) []) 20
+    ∷ block_case growing_row (one_two growing_row 1 (Some (unsigned 0x1234) ∷ Some (single 0x3FC00000) ∷ []) []) 20
     (0x24 ∷ 0x40 ∷ 0xAD ∷ 0x3A ∷ 0x01 ∷ 0x20 ∷ 0x14 ∷ 0x00 ∷ 0x01 ∷ 0x00 ∷ 0x00 ∷ 0x00 ∷ 0x02 ∷ 0x00 ∷ 0x34 ∷ 0x12
     ∷ 0x00 ∷ 0x00 ∷ 0xC0 ∷ 0x3F ∷ [])
-    ∷ block_case growing_row (one_two growing_row 2 (some (unsigned 0x1234) ∷ some (single 0x3FC00000) ∷ some (signed (negsuc 2)) ∷ []) []) 28
+    ∷ block_case growing_row (one_two growing_row 2 (Some (unsigned 0x1234) ∷ Some (single 0x3FC00000) ∷ Some (signed (negsuc 2)) ∷ []) []) 28
     (0x24 ∷ 0x40 ∷ 0x75 ∷ 0x2E ∷ 0x01 ∷ 0x40 ∷ 0x1C ∷ 0x00 ∷ 0x01 ∷ 0x00 ∷ 0x00 ∷ 0x00 ∷ 0x02 ∷ 0x00 ∷ 0x34 ∷ 0x12
     ∷ 0x00 ∷ 0x00 ∷ 0xC0 ∷ 0x3F ∷ 0xFD ∷ 0xFF ∷ 0xFF ∷ 0xFF ∷ 0xFF ∷ 0xFF ∷ 0xFF ∷ 0xFF ∷ [])
     -- two sub-blocks of 5 bytes; the body's list is longer than its rows, and unset
-    ∷ block_case parted_row (one_two parted_row 3 (none ∷ none ∷ none ∷ []) (byte_pair 0x11 0x12 ∷ byte_pair 0x21 0x22 ∷ [])) 28
+    ∷ block_case parted_row (one_two parted_row 3 (None ∷ None ∷ None ∷ []) (byte_pair 0x11 0x12 ∷ byte_pair 0x21 0x22 ∷ [])) 28
     (0x24 ∷ 0x40 ∷ 0x46 ∷ 0xF0 ∷ 0x02 ∷ 0x60 ∷ 0x1C ∷ 0x00 ∷ 0x01 ∷ 0x00 ∷ 0x00 ∷ 0x00 ∷ 0x02 ∷ 0x00 ∷ 0x02 ∷ 0x05
     ∷ 0x11 ∷ 0x00 ∷ 0x00 ∷ 0x00 ∷ 0x12 ∷ 0x21 ∷ 0x00 ∷ 0x00 ∷ 0x00 ∷ 0x22 ∷ 0x00 ∷ 0x00 ∷ [])
     -- no sub-blocks: SBLength is 0
     ∷ block_case parted_row (one_two parted_row 3 [] []) 16
     (0x24 ∷ 0x40 ∷ 0x68 ∷ 0xD6 ∷ 0x02 ∷ 0x60 ∷ 0x10 ∷ 0x00 ∷ 0x01 ∷ 0x00 ∷ 0x00 ∷ 0x00 ∷ 0x02 ∷ 0x00 ∷ 0x00 ∷ 0x00 ∷ [])
     -- revision 0 carries no sub-field: N is 3 and SBLength 0
-    ∷ block_case parted_row (one_two parted_row 0 [] ([] ∷ (none ∷ []) ∷ [] ∷ [])) 16
+    ∷ block_case parted_row (one_two parted_row 0 [] ([] ∷ (None ∷ []) ∷ [] ∷ [])) 16
     (0x24 ∷ 0x40 ∷ 0x94 ∷ 0x6D ∷ 0x02 ∷ 0x00 ∷ 0x10 ∷ 0x00 ∷ 0x01 ∷ 0x00 ∷ 0x00 ∷ 0x00 ∷ 0x02 ∷ 0x00 ∷ 0x03 ∷ 0x00 ∷ [])
     -- a row of two levels, without sub-blocks and with one
     ∷ unwritten nesting_row (one_two nesting_row 0 [] []) 20
@@ -150,7 +149,7 @@ BlocksHold = map block_written block_cases ≡ map block_expected block_cases
 abbrev pub gap_written : ℕ → WriteSaid
 gap_written top =
     (written_of top (record { version = 1; rows = gap_row ∷ [] })
-    (stamped_by gap_row 0 (some (unsigned 123456)) (some (unsigned 2200)) (some (unsigned 0xAB) ∷ some (unsigned 0x11223344) ∷ some (signed (negsuc 1)) ∷ []) [])
+    (stamped_by gap_row 0 (Some (unsigned 123456)) (Some (unsigned 2200)) (Some (unsigned 0xAB) ∷ Some (unsigned 0x11223344) ∷ Some (signed (negsuc 1)) ∷ []) [])
     (replicate 30 0xEE)).said
 
 abbrev pub CeilingsHold : Type 0

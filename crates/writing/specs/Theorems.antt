@@ -1,8 +1,7 @@
 -- What holds of every block that Write made (rules W20 to W24), by the definitions that the contracts of the writer and of the record
 -- calls cite.
 -- Assumes nothing.
-use Rattle.std.specs.Prelude.{ℕ, ◌%◌, ◌≤◌, ◌<◌, true, cond, List, [], ◌∷◌, ◌≡◌, length, get_or, take}
-use Rattle.std.proofs.Math.Option.{Option, none, some}
+use Rattle.std.specs.Prelude.{ℕ, ◌%◌, ◌≤◌, ◌<◌, true, cond, List, [], ◌∷◌, ◌≡◌, length, get_or, take, Option, None, Some}
 use Rattle.wire.specs.Range.{Bytes}
 use Rattle.frame.specs.Frame.{ceiling_ok, whole_frame}
 use Rattle.framing.specs.ReadRun.{Reading, read_run}
@@ -25,7 +24,7 @@ use Rattle.writing.specs.Holds.{HoldsFields, Holds}
 pub record Made (c : ℕ) (tab : Table) (r : BlockRow) (d : Draft) (buffer b : List ℕ) : Type 0 where
   pub ceiling : ceiling_ok c ≡ true
   pub right : meaning_ok tab ≡ true
-  pub found : find_row tab d.number ≡ some r
+  pub found : find_row tab d.number ≡ Some r
   pub answer : (written_of c tab d buffer).said ≡ wrote (length b)
   pub front : take (length b) (written_of c tab d buffer).buffer ≡ b
 
@@ -33,26 +32,26 @@ pub record Made (c : ℕ) (tab : Table) (r : BlockRow) (d : Draft) (buffer b : L
 
 -- what a carried field answers: the value, or Do-Not-Use where it was unset
 abbrev pub said_back : Wanted → FieldSaid
-said_back none = do_not_use
-said_back (some said) = said
+said_back None = do_not_use
+said_back (Some said) = said
 
 -- of a row that is there, and R9 of one that is not
 abbrev pub row_back : ℕ → Option FieldRow → Wanted → FieldSaid
-row_back revision none w = field_refused 9
-row_back revision (some f) w = cond (carried revision f) (said_back w) not_in_revision
+row_back revision None w = field_refused 9
+row_back revision (Some f) w = cond (carried revision f) (said_back w) not_in_revision
 
 -- the same in a sub-block that is there, and R9 of one that is not; j is the field's number
 abbrev pub sub_back : ℕ → Option FieldRow → ℕ → Option (List Wanted) → FieldSaid
-sub_back revision f j none = field_refused 9
-sub_back revision f j (some ws) = row_back revision f (get_or ws j none)
+sub_back revision f j None = field_refused 9
+sub_back revision f j (Some ws) = row_back revision f (get_or ws j None)
 
 abbrev pub part_back : Option (List Wanted) → Option ℕ
-part_back none = some 9
-part_back (some ws) = none
+part_back None = Some 9
+part_back (Some ws) = None
 
 -- W7, W20: the values of the body, by the rule and apart from the writer: with sub-fields N and SBLength, and without what was given
 unfoldable pub body_given : BlockRow → Draft → List Wanted
-body_given r d = cond (has_subs r) (some (unsigned (length d.subs)) ∷ some (unsigned (sb_length r d)) ∷ []) d.body
+body_given r d = cond (has_subs r) (Some (unsigned (length d.subs)) ∷ Some (unsigned (sb_length r d)) ∷ []) d.body
 
 pub record ReadsBack (tab : Table) (r : BlockRow) (d : Draft) (b : List ℕ) : Type 0 where
   pub number : number_in b ≡ d.number
@@ -60,7 +59,7 @@ pub record ReadsBack (tab : Table) (r : BlockRow) (d : Draft) (b : List ℕ) : T
   pub tow : stamp tow_row b ≡ said_back d.tow
   pub wnc : stamp wnc_row b ≡ said_back d.wnc
   -- N and SBLength are among these
-  pub body : (i : ℕ) → body_field tab b i ≡ row_back d.revision (pick r.body i) (get_or (body_given r d) i none)
+  pub body : (i : ℕ) → body_field tab b i ≡ row_back d.revision (pick r.body i) (get_or (body_given r d) i None)
   pub sub : (k j : ℕ) → sub_field tab b k j ≡ sub_back d.revision (pick r.subs j) j (pick d.subs k)
   pub part : (k : ℕ) → sub_block_refusal tab b k ≡ part_back (pick d.subs k)
   -- no call is refused but with 9
@@ -76,13 +75,13 @@ AllReadBack = (c : ℕ) (tab : Table) (r : BlockRow) (d : Draft) (buffer b : Lis
 
 -- what was read, as it is given again
 abbrev pub as_read : FieldSaid → Wanted
-as_read (unsigned n) = some (unsigned n)
-as_read (signed z) = some (signed z)
-as_read (single x) = some (single x)
-as_read (double x) = some (double x)
-as_read do_not_use = none
-as_read not_in_revision = none
-as_read (field_refused n) = some (field_refused n)
+as_read (unsigned n) = Some (unsigned n)
+as_read (signed z) = Some (signed z)
+as_read (single x) = Some (single x)
+as_read (double x) = Some (double x)
+as_read do_not_use = None
+as_read not_in_revision = None
+as_read (field_refused n) = Some (field_refused n)
 
 -- all that the record calls answer of a block, as a draft; N and SBLength are not given
 unfoldable pub draft_read : Table → BlockRow → List ℕ → Draft
@@ -139,5 +138,5 @@ AllShortest = (c : ℕ) (tab : Table) (r : BlockRow) (d : Draft) (buffer b : Lis
 
 abbrev pub NeverOver : Type 0
 NeverOver =
-    (t : List ℕ) (r : BlockRow) (d : Draft) → Bytes t → table_ok t ≡ true → find_row (decode t) d.number ≡ some r → draft_ok r d ≡ true
+    (t : List ℕ) (r : BlockRow) (d : Draft) → Bytes t → table_ok t ≡ true → find_row (decode t) d.number ≡ Some r → draft_ok r d ≡ true
     → sb_length r d ≤ 255 → block_length r d ≤ 65532

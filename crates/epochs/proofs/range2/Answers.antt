@@ -1,7 +1,7 @@
 -- `epochs::range2` meets its contract: refused, or answered by the table in force.
 -- Assumes nothing.
 use mathlib.Core.Path.{◌≡◌, sym, ap, ◌∙◌}
-use mathlib.Core.Option.{none}
+use Rattle.std.proofs.Common.{None}
 use lib.Seq.{length-take-le}
 use Rattle.table.specs.Decode.{decode}
 use Rattle.epoch.specs.Ranges.{range2_field}
@@ -17,7 +17,7 @@ use Rattle.epochs.proofs.range2.Tie as tie
 abbrev AfterEnumTold : Type 0
 AfterEnumTold = Lts.Past-After-enum_told tie.the-claims Reads.Pre Reads.Post
 
-free : (e : AfterEnumTold) → ask_refusal e.args.s e.args.in_force.now ≡ none
+free : (e : AfterEnumTold) → ask_refusal e.args.s e.args.in_force.now ≡ None
 free e = sym e.of_ask-c.ensures ∙ ap refusal_of e.in-Passed.is
 
 pub slice_bounds-range2-end : goal.slice_bounds-range2-end

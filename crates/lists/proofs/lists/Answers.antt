@@ -5,7 +5,7 @@ use Prim.Native.Nat.{ℕ, ◌+◌}
 use mathlib.Core.Path.{◌≡◌, sym, ap, ◌∙◌}
 use native.Mathlib.Omega.{arith}
 use mathlib.Core.Bool.{Bool}
-use mathlib.Core.Option.{none, some}
+use Rattle.std.proofs.Common.{None, Some}
 use lib.ListN.{length, take, set, length-set}
 use Rattle.words.specs.Values.{value_in, kind_says}
 use borrow.Author.Tests.{not-true, not-false}
@@ -24,7 +24,7 @@ returns-then-not-v c =
     let w = c.word_at-word in
     let v = c.value-v in
     let t = c.args.text.now in
-    let e : value_in (word_at t l.next) ≡ none =
+    let e : value_in (word_at t l.next) ≡ None =
     sym (ap value_in w.ensures.0) ∙ sym v.ensures ∙ ap (λ (b : Bool). kind_says b v.result.kind v.result.bits) (not-true v.result.is_value c.if-not-v.true) in
     record { bits_after = lists_stop t l.next l.kinds l.bits l.count (omega arith) e ∙ l.invariant.5; count_in_bounds = omega arith }
 
@@ -40,7 +40,7 @@ loop-next-preserved c =
     let w = c.word_at-word in
     let v = c.value-v in
     let t = c.args.text.now in
-    let e : value_in (word_at t l.next) ≡ some (v.result.kind, v.result.bits) =
+    let e : value_in (word_at t l.next) ≡ Some (v.result.kind, v.result.bits) =
     sym (ap value_in w.ensures.0) ∙ sym v.ensures ∙ ap (λ (b : Bool). kind_says b v.result.kind v.result.bits) (not-false v.result.is_value c.if-not-v.false) in
     let d : length w.result.now ≡ length (word_at t l.next) = ap length w.ensures.0 in
     let m = value_long (word_at t l.next) _ e in

@@ -1,7 +1,7 @@
 -- `records::body` meets its contract: refused, or answered by the table in force.
 -- Assumes nothing.
 use mathlib.Core.Path.{◌≡◌, sym, ap, ◌∙◌}
-use mathlib.Core.Option.{none}
+use Rattle.std.proofs.Common.{None}
 use lib.Seq.{length-take-le}
 use Rattle.table.specs.Decode.{decode}
 use Rattle.record.specs.Calls.{body_field}
@@ -16,7 +16,7 @@ use Rattle.records.proofs.body.Tie as tie
 abbrev AfterEnumTold : Type 0
 AfterEnumTold = Lts.Past-After-enum_told tie.the-claims Reads.Pre Reads.Post
 
-free : (e : AfterEnumTold) → ask_refusal e.args.s e.args.in_force.now ≡ none
+free : (e : AfterEnumTold) → ask_refusal e.args.s e.args.in_force.now ≡ None
 free e = sym e.of_ask-c.ensures ∙ ap refusal_of e.in-Passed.is
 
 pub slice_bounds-body_field-end : goal.slice_bounds-body_field-end

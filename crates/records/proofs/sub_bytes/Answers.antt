@@ -1,7 +1,7 @@
 -- `records::sub_bytes` meets its contract: refused, or answered by the table in force.
 -- Assumes nothing.
 use mathlib.Core.Path.{◌≡◌, refl, sym, ap, ◌∙◌}
-use mathlib.Core.Option.{Option, none}
+use Rattle.std.proofs.Common.{Option, None}
 use mathlib.Core.List.{List, []}
 use Prim.Native.Nat.{ℕ}
 use lib.Seq.{length-take-le}
@@ -22,7 +22,7 @@ use Rattle.records.proofs.sub_bytes.Tie as tie
 abbrev AfterEnumTold2 : Type 0
 AfterEnumTold2 = Lts.Past-After-enum_told2 tie.the-claims Reads.Pre Reads.Post tie.handed_clauses
 
-free : (e : AfterEnumTold2) → ask_refusal e.args.s e.args.in_force.now ≡ none
+free : (e : AfterEnumTold2) → ask_refusal e.args.s e.args.in_force.now ≡ None
 free e = sym e.of_ask-c.ensures ∙ ap refusal_of e.in-Passed.is
 
 pub slice_bounds-sub_block-end : goal.slice_bounds-sub_block-end

@@ -1,7 +1,7 @@
 -- `records::sub_place` meets its contract: refused, or answered by the table in force.
 -- Assumes nothing.
 use mathlib.Core.Path.{◌≡◌, sym, ap, ◌∙◌}
-use mathlib.Core.Option.{Option, none}
+use Rattle.std.proofs.Common.{Option, None}
 use Prim.Native.Nat.{ℕ}
 use native.Mathlib.Omega.{arith}
 use lib.Seq.{length-take-le}
@@ -18,7 +18,7 @@ use Rattle.records.proofs.sub_place.Tie as tie
 abbrev AfterEnumTold : Type 0
 AfterEnumTold = Lts.Past-After-enum_told tie.the-claims Reads.Pre Reads.Post tie.handed_clauses
 
-free : (e : AfterEnumTold) → ask_refusal e.args.s e.args.in_force.now ≡ none
+free : (e : AfterEnumTold) → ask_refusal e.args.s e.args.in_force.now ≡ None
 free e = sym e.of_ask-c.ensures ∙ ap refusal_of e.in-Passed.is
 
 pub slice_bounds-sub_place-end : goal.slice_bounds-sub_place-end

@@ -1,7 +1,7 @@
 -- `runs::bytes` meets its contract: the standing block's bytes, or none.
 -- Assumes nothing.
 use mathlib.Core.Path.{◌≡◌, refl, sym, ap, ◌∙◌}
-use mathlib.Core.Option.{Option, none}
+use Rattle.std.proofs.Common.{Option, None}
 use Prim.Native.Nat.{ℕ}
 use native.Mathlib.Omega.{arith}
 use native.Mathlib.Nat.{add-zero}
@@ -22,14 +22,14 @@ use Rattle.runs.proofs.bytes.Tie as tie
 abbrev AfterEnumTold2 : Type 0
 AfterEnumTold2 = Lts.Past-After-enum_told2 tie.the-claims Reads.Pre Reads.Post tie.handed_clauses
 
-free : (e : AfterEnumTold2) → bytes_refusal e.args.s e.args.hold.now ≡ none
+free : (e : AfterEnumTold2) → bytes_refusal e.args.s e.args.hold.now ≡ None
 free e = sym (e.of_bytes-c.ensures _ refl) ∙ ap refusal_of e.in-Passed.is
 
 pub part-requires-in-Passed : goal.part-requires-in-Passed
 unfolding bytes_refusal
 part-requires-in-Passed c =
     let a = c.args in
-    let f = with_hold a.s a.hold.now (passes _ 1 none (free c.before)).0 in
+    let f = with_hold a.s a.hold.now (passes _ 1 None (free c.before)).0 in
     omega (arith, f.0.front, f.0.held, f.1)
 
 at_start : (p : ℕ × ℕ) → offset_by p 0 ≡ p

@@ -3,7 +3,7 @@
 use mathlib.Core.Path.{◌≡◌, sym, ap, ap₂, ◌∙◌}
 use mathlib.Core.Bool.{◌&&◌}
 use mathlib.Core.List.{List}
-use mathlib.Core.Option.{Option, none, some}
+use Rattle.std.proofs.Common.{Option, None, Some}
 use Prim.Native.Nat.{ℕ, ◌-◌, ◌≤◌, min}
 use native.Mathlib.Omega.{arith}
 use lib.ListN.{length, drop, length-append, length-drop}
@@ -108,7 +108,7 @@ went_on-next-requires c =
 
 pub returns-then-len-eq0 : goal.returns-then-len-eq0
 returns-then-len-eq0 c =
-    let e : (meaning c.before.before.before.before.before.before).standing ≡ none = none_if (meaning c.before.before.before.before.before.before).standing (meaning c.before.before.before.before.before.before).held (whole c.before.before.before.before.before.before) (sym (ap (λ (x : HoldNumbers). x.standing) (numbers c.before.before.before.before.before.before)) ∙ c.if-len-eq0.true) in
+    let e : (meaning c.before.before.before.before.before.before).standing ≡ None = none_if (meaning c.before.before.before.before.before.before).standing (meaning c.before.before.before.before.before.before).held (whole c.before.before.before.before.before.before) (sym (ap (λ (x : HoldNumbers). x.standing) (numbers c.before.before.before.before.before.before)) ∙ c.if-len-eq0.true) in
     same_outcome
     (ap₂ (λ (t : ℕ) (o : Option Report). took t o) (ap (λ (x : HoldNumbers). x.taken) (numbers c.before.before.before.before.before.before))
     (sym (ap (λ (o : Option ℕ). report_if o (front (run_on phase.Feeding (entry c.before.before.before.before.before.before).args.s.run (meaning c.before.before.before.before.before.before))) (meaning c.before.before.before.before.before.before).held) e)))
@@ -131,11 +131,11 @@ pub returns : goal.returns
 returns c =
     let F = meaning c.before.before.before.before.before.before.before.before in
     let n = c.feed-f.result.standing in
-    let es : (meaning c.before.before.before.before.before.before.before.before).standing ≡ some c.feed-f.result.standing =
+    let es : (meaning c.before.before.before.before.before.before.before.before).standing ≡ Some c.feed-f.result.standing =
     some_if (meaning c.before.before.before.before.before.before.before.before).standing c.feed-f.result.standing (sym (ap (λ (x : HoldNumbers). x.standing) (numbers c.before.before.before.before.before.before.before.before))) c.if-len-eq0.false in
     same_outcome
     (ap₂ (λ (t : ℕ) (o : Option Report). took t o) (ap (λ (x : HoldNumbers). x.taken) (numbers c.before.before.before.before.before.before.before.before))
-    (ap some
+    (ap Some
     (c.report_at-block.ensures ∙ ap (λ (h : List ℕ). report_at h (front c.went_on-next.result) n) (left c.before.before.before.before.before.before.before.before)
     ∙ report_is (meaning c.before.before.before.before.before.before.before.before).held (drop (length (meaning c.before.before.before.before.before.before.before.before).held) (entry c.before.before.before.before.before.before.before.before).args.hold.now) (front c.went_on-next.result) n (whole_some (meaning c.before.before.before.before.before.before.before.before).standing (meaning c.before.before.before.before.before.before.before.before).held n (whole c.before.before.before.before.before.before.before.before) es)
     ∙ ap (λ (r : Run). reported (front r) n (meaning c.before.before.before.before.before.before.before.before).held) (run_is c.before.before.before.before.before))

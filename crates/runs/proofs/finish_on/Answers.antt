@@ -3,7 +3,7 @@
 use mathlib.Core.Path.{◌≡◌, sym, ap, ap₂, ◌∙◌}
 use mathlib.Core.Bool.{◌&&◌}
 use mathlib.Core.List.{List}
-use mathlib.Core.Option.{Option, none, some}
+use Rattle.std.proofs.Common.{Option, None, Some}
 use Prim.Native.Nat.{ℕ, ◌-◌, ◌≤◌}
 use native.Mathlib.Omega.{arith}
 use lib.ListN.{length, drop, length-append, length-drop}
@@ -109,7 +109,7 @@ pub returns-then-len-eq0 : goal.returns-then-len-eq0
 returns-then-len-eq0 c =
     let d = fed c.before.before.before.before in
     let r = run_on (phase_after (meaning d).standing) (entry d).args.s.run (meaning d) in
-    let e : (meaning d).standing ≡ none = none_if (meaning d).standing (meaning d).held (whole d) (sym (ap (λ (x : HoldNumbers). x.standing) (numbers d)) ∙ c.if-len-eq0.true) in
+    let e : (meaning d).standing ≡ None = none_if (meaning d).standing (meaning d).held (whole d) (sym (ap (λ (x : HoldNumbers). x.standing) (numbers d)) ∙ c.if-len-eq0.true) in
     same_outcome
     (ap (λ (x : Run). ended x.counts) (run_is c.before.before.before.before) ∙ sym (ap (λ (o : Option ℕ). finish_said o r (meaning d).held) e))
     (state_is c.before.before.before) (left d)
@@ -133,7 +133,7 @@ returns c =
     let d = fed c.before.before.before.before in
     let n = d.finish-f.result.standing in
     let r = run_on (phase_after (meaning d).standing) (entry d).args.s.run (meaning d) in
-    let es : (meaning d).standing ≡ some d.finish-f.result.standing =
+    let es : (meaning d).standing ≡ Some d.finish-f.result.standing =
     some_if (meaning d).standing d.finish-f.result.standing (sym (ap (λ (x : HoldNumbers). x.standing) (numbers d))) c.if-len-eq0.false in
     same_outcome
     (ap found

@@ -4,7 +4,7 @@ use Prim.Native.Nat.{ℕ}
 use native.Mathlib.Omega.{arith}
 use mathlib.Core.Path.{◌≡◌, refl, sym, ap, ◌∙◌}
 use mathlib.Core.List.{map}
-use mathlib.Core.Option.{some}
+use Rattle.std.proofs.Common.{Some}
 use Rattle.wire.specs.Little.{little_at}
 use Rattle.table.specs.Lists.{pick}
 use Rattle.record.specs.Answer.{single}
@@ -18,21 +18,21 @@ use Rattle.samples.proofs.flight_line.Goals as goal
 at : (i : ℕ) → answered i ≡ pick (map (λ (x : Line). x.answer) flight) i
 at i = ap (λ (t : Transcript). pick (map (λ (x : Line). x.answer) t) i) computed.story
 
-before : answered 4 ≡ some (value (single roll))
+before : answered 4 ≡ Some (value (single roll))
 unfolding pick
 before = at 4
 
-after : answered 6 ≡ some (value (single roll))
+after : answered 6 ≡ Some (value (single roll))
 unfolding pick
 after = at 6
 
-next : answered 10 ≡ some (value (single pitch))
+next : answered 10 ≡ Some (value (single pitch))
 unfolding pick
 next = at 10
 
 differ : answered 6 ≡ answered 10 → ⊥
 differ e =
-    let f : some (value (single roll)) ≡ some (value (single pitch)) = sym after ∙ e ∙ next in
+    let f : Some (value (single roll)) ≡ Some (value (single pitch)) = sym after ∙ e ∙ next in
     let g : ◌≡◌ {A = ℕ} roll pitch = cc in
     omega arith
 

@@ -2,7 +2,7 @@
 -- Assumes nothing.
 use mathlib.Core.Path.{◌≡◌, refl, sym, ap, ◌∙◌}
 use mathlib.Core.Bool.{Bool, cond}
-use mathlib.Core.Option.{none}
+use Rattle.std.proofs.Common.{None}
 use Prim.Native.Nat.{ℕ}
 use native.Mathlib.Omega.{arith}
 use lib.ListN.{take}
@@ -29,7 +29,7 @@ Start = Lts.Start tie.the-claims Reads.Pre Reads.Post
 abbrev entry : AfterOfOpen → Start
 entry m = m.before.before.before
 
-free : (m : AfterOfOpen) {v : ℕ} → m.of_open-a.result ≡ Version v → open_refusal (entry m).args.s (entry m).args.settings (entry m).args.in_force.now (entry m).args.waiting.now ≡ none
+free : (m : AfterOfOpen) {v : ℕ} → m.of_open-a.result ≡ Version v → open_refusal (entry m).args.s (entry m).args.settings (entry m).args.in_force.now (entry m).args.waiting.now ≡ None
 unfolding open_of
 free m e =
     let a = (entry m).args in

@@ -2,7 +2,7 @@
 -- Assumes nothing.
 use mathlib.Core.Path.{◌≡◌, refl, sym, ap, ◌∙◌}
 use mathlib.Core.List.{List}
-use mathlib.Core.Option.{none}
+use Rattle.std.proofs.Common.{None}
 use Prim.Native.Nat.{ℕ, ◌≤◌}
 use native.Mathlib.Omega.{arith}
 use lib.ListN.{length}
@@ -30,7 +30,7 @@ Start = Lts.Start tie.the-claims Reads.Pre Reads.Post
 abbrev entry : AfterOfStage → Start
 entry m = m.before.before.before
 
-free : (m : AfterOfStage) {v : ℕ} → m.of_stage-a.result ≡ Version v → stage_refusal (entry m).args.s (entry m).args.waiting.now (entry m).args.t.now ≡ none
+free : (m : AfterOfStage) {v : ℕ} → m.of_stage-a.result ≡ Version v → stage_refusal (entry m).args.s (entry m).args.waiting.now (entry m).args.t.now ≡ None
 unfolding stage_of
 free m e =
     let a = (entry m).args in

@@ -3,7 +3,7 @@
 use mathlib.Core.Path.{◌≡◌, sym, ap, ◌∙◌}
 use native.Mathlib.Omega.{arith}
 use lib.ListN.{get_or}
-use mathlib.Core.Option.{none, some}
+use Rattle.std.proofs.Common.{None, Some}
 use Rattle.words.specs.Words.{number_says, add_digit}
 use Rattle.words.proofs.Reading.{number_empty, number_some, number_stop, number_more, number_end}
 use Rattle.words.proofs.number.Goals as goal
@@ -20,7 +20,7 @@ pub returns-in-NoNumber : goal.returns-in-NoNumber
 returns-in-NoNumber c =
     let l = c.loop-i in
     let w = c.args.word.now in
-    let e : add_digit l.v (get_or w l.i 0) ≡ none = sym c.add_digit-more.ensures ∙ ap number_says c.in-NoNumber.is in
+    let e : add_digit l.v (get_or w l.i 0) ≡ None = sym c.add_digit-more.ensures ∙ ap number_says c.in-NoNumber.is in
     sym (number_stop w l.i l.v (omega arith) e) ∙ l.invariant.1
 
 pub loop-i-preserved : goal.loop-i-preserved
@@ -28,7 +28,7 @@ loop-i-preserved c =
     let l = c.loop-i in
     let w = c.args.word.now in
     let n = c.in-Value.n in
-    let e : add_digit l.v (get_or w l.i 0) ≡ some n = sym c.add_digit-more.ensures ∙ ap number_says c.in-Value.is in
+    let e : add_digit l.v (get_or w l.i 0) ≡ Some n = sym c.add_digit-more.ensures ∙ ap number_says c.in-Value.is in
     (omega arith, sym (number_more w l.i l.v n (omega arith) e) ∙ l.invariant.1)
 
 pub returns : goal.returns

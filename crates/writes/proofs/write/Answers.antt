@@ -1,6 +1,6 @@
 -- `writes::write` meets its contract: refused, or written by the table in force.
 -- Assumes nothing.
-use mathlib.Core.Option.{none}
+use Rattle.std.proofs.Common.{None}
 use mathlib.Core.Path.{◌≡◌, sym, ap, ◌∙◌}
 use lib.Seq.{length-take-le}
 use Rattle.reader.specs.Said.{refusal_of}
@@ -15,7 +15,7 @@ use Rattle.writes.proofs.write.Tie as tie
 abbrev AfterEnumTold : Type 0
 AfterEnumTold = Lts.Past-After-enum_told tie.the-claims Reads.Pre Reads.Post
 
-free : (e : AfterEnumTold) → ask_refusal e.args.s e.args.in_force.now ≡ none
+free : (e : AfterEnumTold) → ask_refusal e.args.s e.args.in_force.now ≡ None
 free e = sym e.of_ask-c.ensures ∙ ap refusal_of e.in-Passed.is
 
 pub slice_bounds-write-end : goal.slice_bounds-write-end

@@ -2,7 +2,7 @@
 -- Assumes nothing.
 use mathlib.Core.Path.{◌≡◌, sym, ap, ◌∙◌}
 use mathlib.Core.Bool.{false}
-use mathlib.Core.Option.{none}
+use Rattle.std.proofs.Common.{None}
 use Rattle.walk.specs.declared.Span.{Span}
 use Rattle.reader.specs.State.{sound}
 use Rattle.reader.specs.declared.State.{State}
@@ -40,6 +40,6 @@ returns-in-Given c =
     let p = c.sub_place-p.ensures in
     handing.hands_it (λ (t : State). sub_bytes_refusal t force block a.k) (λ (t : State). (sub_place_of t force block a.k).at) (λ (t : State). sub_bytes_of t force block a.k) block
     (λ (t : State) (e : sound t ≡ false). sub_bytes_one t e force block a.k) (state_of a.s) t (sub_place_of t force block a.k).size c.state_of-t.ensures r
-    (ap (λ (x : Span). part_c none x.at x.size) p.span_value)
+    (ap (λ (x : Span). part_c None x.at x.size) p.span_value)
     (handing.sub-length t force block a.k p.span_value p.size_in_bounds)
     (handing.sub_cut t force block a.k)

@@ -2,7 +2,7 @@
 -- Assumes nothing.
 use mathlib.Core.Path.{sym, ap, ◌∙◌}
 use mathlib.Core.Bool.{Bool, ◌&&◌}
-use mathlib.Core.Option.{none}
+use Rattle.std.proofs.Common.{None}
 use Prim.Native.Nat.{ℕ}
 use lib.Dec.{leb}
 use Rattle.reader.specs.State.{sound}
@@ -19,10 +19,10 @@ pub returns-then-may_call : goal.returns-then-may_call
 unfolding bytes_refusal
 returns-then-may_call c v e =
     let s = c.args.s in
-    sym (ap (λ (x : Bool). need x 1 none) (ap (asked s) e ∙ sym c.may_call.ensures ∙ c.if-may_call.true))
+    sym (ap (λ (x : Bool). need x 1 None) (ap (asked s) e ∙ sym c.may_call.ensures ∙ c.if-may_call.true))
 
 pub returns-else-may_call : goal.returns-else-may_call
 unfolding bytes_refusal
 returns-else-may_call c v e =
     let s = c.args.s in
-    sym (ap (λ (x : Bool). need x 1 none) (ap (asked s) e ∙ sym c.may_call.ensures ∙ c.if-may_call.false))
+    sym (ap (λ (x : Bool). need x 1 None) (ap (asked s) e ∙ sym c.may_call.ensures ∙ c.if-may_call.false))

@@ -3,7 +3,7 @@
 use mathlib.Core.Path.{◌≡◌, refl, sym, ap, ◌∙◌}
 use mathlib.Core.Bool.{Bool, true, false, ◌&&◌, ◌||◌}
 use mathlib.Core.List.{List}
-use mathlib.Core.Option.{Option, none, some}
+use Rattle.std.proofs.Common.{Option, None, Some}
 use Prim.Native.Nat.{ℕ}
 use native.Mathlib.Omega.{arith}
 use lib.ListN.{length}
@@ -45,15 +45,15 @@ full_or false true x e = let z : ◌≡◌ {A = ℕ} 0 1 = cc in let f : ⊥ = o
 full_or false false x e = refl
 
 -- each refusal stands behind those before it
-at_1 : (a : Bool) (o : Option ℕ) → a ≡ false → some 1 ≡ need a 1 o
+at_1 : (a : Bool) (o : Option ℕ) → a ≡ false → Some 1 ≡ need a 1 o
 at_1 a o p = sym (ap (λ (x : Bool). need x 1 o) p)
 
-at_2 : (a b : Bool) (o : Option ℕ) → a ≡ true → b ≡ false → some 2 ≡ need a 1 (need b 2 o)
+at_2 : (a b : Bool) (o : Option ℕ) → a ≡ true → b ≡ false → Some 2 ≡ need a 1 (need b 2 o)
 at_2 a b o p q = sym (ap (λ (x : Bool). need x 1 (need b 2 o)) p ∙ ap (λ (x : Bool). need x 2 o) q)
 
-at_3 : (a b c d : Bool) → a ≡ true → b ≡ true → c ≡ d → need d 3 none ≡ need a 1 (need b 2 (need c 3 none))
+at_3 : (a b c d : Bool) → a ≡ true → b ≡ true → c ≡ d → need d 3 None ≡ need a 1 (need b 2 (need c 3 None))
 at_3 a b c d p q r =
-    sym (ap (λ (x : Bool). need x 1 (need b 2 (need c 3 none))) p ∙ ap (λ (x : Bool). need x 2 (need c 3 none)) q ∙ ap (λ (x : Bool). need x 3 none) r)
+    sym (ap (λ (x : Bool). need x 1 (need b 2 (need c 3 None))) p ∙ ap (λ (x : Bool). need x 2 (need c 3 None)) q ∙ ap (λ (x : Bool). need x 3 None) r)
 
 abbrev safe : State → List ℕ → Bool
 safe s hold = sound s && long_hold hold

@@ -3,7 +3,7 @@
 use mathlib.Core.Path.{◌≡◌, sym, ap, ◌∙◌}
 use mathlib.Core.Bool.{Bool, true, not, ◌&&◌}
 use mathlib.Core.List.{List}
-use mathlib.Core.Option.{none}
+use Rattle.std.proofs.Common.{None}
 use Prim.Native.Nat.{ℕ}
 use lib.Dec.{leb}
 use lib.ListN.{length}
@@ -27,16 +27,16 @@ pub returns-then-not-may_call : goal.returns-then-not-may_call
 unfolding finish_refusal
 returns-then-not-may_call c v e =
     let s = c.args.s in
-    sym (ap (λ (x : Bool). need x 1 (need (not (is_closed s.run.phase)) 2 none)) (ap (asked s) e ∙ sym c.may_call.ensures ∙ c.if-not-may_call.true))
+    sym (ap (λ (x : Bool). need x 1 (need (not (is_closed s.run.phase)) 2 None)) (ap (asked s) e ∙ sym c.may_call.ensures ∙ c.if-not-may_call.true))
 
 fine : (c : Else1) (v : List ℕ) → length v ≡ c.args.hold → (sound c.args.s && long_hold v) ≡ true
 fine c v e = ap (asked c.args.s) e ∙ sym c.may_call.ensures ∙ c.if-not-may_call.false
 
 -- the phase is asked where the hold is long enough
-second : (s : State) (v : List ℕ) {b : Bool} → (sound s && long_hold v) ≡ true → is_closed s.run.phase ≡ b → need (not b) 2 none ≡ finish_refusal s v
+second : (s : State) (v : List ℕ) {b : Bool} → (sound s && long_hold v) ≡ true → is_closed s.run.phase ≡ b → need (not b) 2 None ≡ finish_refusal s v
 unfolding finish_refusal
 second s v e f =
-    sym (ap (λ (x : Bool). need x 1 (need (not (is_closed s.run.phase)) 2 none)) e ∙ ap (λ (x : Bool). need (not x) 2 none) f)
+    sym (ap (λ (x : Bool). need x 1 (need (not (is_closed s.run.phase)) 2 None)) e ∙ ap (λ (x : Bool). need (not x) 2 None) f)
 
 pub returns-then-is_closed : goal.returns-then-is_closed
 returns-then-is_closed c v e =
