@@ -11,7 +11,6 @@ use lib.ListN.{length}
 use borrow.Author.Tests.{ltb-true, le-leb, lt-leb, ne_eqb}
 use Rattle.crc.specs.Crc.{crc_of}
 use Rattle.rows.specs.declared.Row.{Row}
-use Rattle.table.specs.declared.RowFound.TheVariants.{At, Nothing}
 use Rattle.table.specs.Lists.{chain, neighbours, first_that, pick}
 use Rattle.table.specs.Rows.{BlockRow}
 use Rattle.rows.specs.Places.{block_count, field_count, row_at}
@@ -74,10 +73,10 @@ module _ (t : List ℕ) (n : ℕ) where
   unfolding find_row decode block_of
   find_is = first_map (block_of t) (has_number n) (rows_of t)
 
-  pub found_at : table_ok t ≡ true → {r : Row} {i : ℕ} → first_that (numbered n) (rows_of t) ≡ Some r → r ≡ row_at t i → i < block_count t → Finding t n (At r)
+  pub found_at : table_ok t ≡ true → {r : Row} {i : ℕ} → first_that (numbered n) (rows_of t) ≡ Some r → r ≡ row_at t i → i < block_count t → Finding t n (Some r)
   found_at ok e g h = record { is = sym (find_is ∙ ap (option_map (block_of t)) e); stands = stands t ok _ h g }
 
-  pub found_nothing : first_that (numbered n) (rows_of t) ≡ None → Finding t n Nothing
+  pub found_nothing : first_that (numbered n) (rows_of t) ≡ None → Finding t n None
   found_nothing e = record { is = sym (find_is ∙ ap (option_map (block_of t)) e); stands = tt }
 
 -- a number has one row

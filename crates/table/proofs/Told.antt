@@ -5,8 +5,7 @@ use mathlib.Core.List.{List}
 use mathlib.Core.Path.{◌≡◌, refl, sym, ap, ◌∙◌}
 use Prim.Native.Nat.{ℕ}
 use native.Mathlib.Omega.{arith}
-use Rattle.table.specs.declared.Checked.{Checked}
-use Rattle.table.specs.declared.Checked.TheVariants.{Version, Broken}
+use Rattle.std.proofs.Common.{Option, Some, None}
 use Rattle.table.specs.Decode.{decode}
 use Rattle.table.specs.Rules.{table_ok}
 use Rattle.table.specs.Answer.{check_version, check_refused, check_says, check_of}
@@ -19,11 +18,11 @@ breaks_by : (ok : Bool) (v : ℕ) → check_refused 4 ≡ cond ok (check_version
 breaks_by false v e = refl
 breaks_by true v e = let z : ◌≡◌ {A = ℕ} 0 1 = cc in absurd (omega arith)
 
-module _ (t : List ℕ) {a : Checked} (e : check_says a ≡ check_of t) where
-  pub version_passes : {w : ℕ} → a ≡ Version w → (table_ok t ≡ true) × (w ≡ (decode t).version)
+module _ (t : List ℕ) {a : Option ℕ} (e : check_says a ≡ check_of t) where
+  pub version_passes : {w : ℕ} → a ≡ Some w → (table_ok t ≡ true) × (w ≡ (decode t).version)
   unfolding check_of
   version_passes {w} g = passes_by (table_ok t) (decode t).version w (sym (ap check_says g) ∙ e)
 
-  pub broken_breaks : a ≡ Broken → table_ok t ≡ false
+  pub broken_breaks : a ≡ None → table_ok t ≡ false
   unfolding check_of
   broken_breaks g = breaks_by (table_ok t) (decode t).version (sym (ap check_says g) ∙ e)

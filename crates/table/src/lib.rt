@@ -14,34 +14,18 @@ mod blocks; // blocks.rt: the rules on block rows, and the pass over all rows
 mod fields; // fields.rt: the rules on field rows
 mod trailer; // trailer.rt: the rules on file and trailer
 
-// What the check says: the version, or that a rule is broken.
-#[derive(Clone, Copy)]
-pub enum Checked {
-    Version(u16),
-    Broken,
-}
-
-#[derive(Clone, Copy)]
-pub enum RowFound {
-    At(Row),
-    Nothing,
-}
-
-// The version of a table, or that it breaks a rule.
-pub fn check(t: &[u8]) -> Checked
+// The version of a table, where it breaks no rule.
+pub fn check(t: &[u8]) -> Option<u16>
     ensures { check_says result ≡ check_of t.now }
 {
-    if !trailer::file_ok(t) {
-        return Checked::Broken;
+    if !trailer::file_ok(t) || !blocks::rows_ok(t) {
+        return None;
     }
-    if !blocks::rows_ok(t) {
-        return Checked::Broken;
-    }
-    Checked::Version(rows::version(t))
+    Some(rows::version(t))
 }
 
 // The row of a block's number, in a table that passes.
-pub fn find(t: &[u8], number: u16) -> RowFound
+pub fn find(t: &[u8], number: u16) -> Option<Row>
     requires { table_ok t.now ≡ true }
     ensures { Finding t.now number result }
 {
@@ -51,11 +35,11 @@ pub fn find(t: &[u8], number: u16) -> RowFound
     while i < count {
         let r = rows::row_at(t, at, i);
         if r.number == number {
-            return RowFound::At(r);
+            return Some(r);
         }
         i += 1;
     }
-    RowFound::Nothing
+    None
 }
 
 // How many field rows the first level of a block row has, or the only one.
