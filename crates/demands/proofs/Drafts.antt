@@ -46,7 +46,7 @@ module _ (w : Wanted) (ws : List Wanted) where
 -- all are unset
 unset_tells : (ws : List Wanted) → Tells (every is_unset ws) (SetFrom 0 ws)
 unfolding every
-unset_tells [] = record { fine = λ _ g. g.1.1; holds = λ z. never refl z }
+unset_tells [] = record { fine = λ _ g. never g.1.1 refl; holds = λ z. never refl z }
 unset_tells (w ∷ ws) = retell (set_here w ws) (λ g. set_which w ws g.0 g.1.1) (both (one_tells w) (unset_tells ws))
 
 -- the first value and the first row, and then the others

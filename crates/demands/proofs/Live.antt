@@ -90,7 +90,7 @@ pub record DidOpen (x : Settings) (w : World) (r : Step) : Type 0 where
   pub is : r.world ≡ (left_force w (opening w.state x w.force w.wait)).world
 
 opened_by : (x : Settings) (w : World) {r : Step} → How (open_run x) w r → IsSome (told r.answer).version → DidOpen x w r
-opened_by x w (isnt k e) f = absurd f
+opened_by x w (isnt k e) f = let z : ⊥ = cc in absurd z
 opened_by x w (is e) f = record { may = may_open x w e; is = refl }
 
 -- what a run within a sequence stands on
