@@ -4,7 +4,6 @@ use mathlib.Core.Path.{◌≡◌, refl, sym, ap, ◌∙◌}
 use mathlib.Core.List.{List}
 use Rattle.std.proofs.Common.{Option, None, Some}
 use Prim.Native.Nat.{ℕ}
-use native.Mathlib.Omega.{arith}
 use Rattle.reader.specs.Said.{Said, refused, version}
 use Rattle.reader.specs.Outcome.{Outcome, outcome, unless, RefusalKeeps}
 use Rattle.reader.specs.declared.State.{State}
@@ -15,10 +14,10 @@ refusal_keeps = record { all = λ n s lent done. refl; empty = λ n part. refl }
 module _ (s : State) (l : List ℕ) (d : Outcome) where
   pub refused_by_lem : (o : Option ℕ) (n : ℕ) {v : ℕ} → d.said ≡ version v → (unless o s l d).said ≡ refused n → unless o s l d ≡ outcome (refused n) s l
   refused_by_lem (Some m) n e f = let q : m ≡ n = cc in ap (λ (k : ℕ). outcome (refused k) s l) q
-  refused_by_lem None n e f = let z : ◌≡◌ {A = ℕ} 0 1 = cc in let g : ⊥ = omega arith in absurd g
+  refused_by_lem None n e f = absurd cc
 
   pub accepted_by : (o : Option ℕ) {v : ℕ} → (unless o s l d).said ≡ version v → o ≡ None
-  accepted_by (Some m) f = let z : ◌≡◌ {A = ℕ} 0 1 = cc in let g : ⊥ = omega arith in absurd g
+  accepted_by (Some m) f = absurd cc
   accepted_by None f = refl
 
   pub is_refused : (o : Option ℕ) (n : ℕ) → o ≡ Some n → outcome (refused n) s l ≡ unless o s l d

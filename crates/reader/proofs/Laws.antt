@@ -5,7 +5,6 @@ use mathlib.Core.Bool.{Bool, true, false, ◌&&◌}
 use mathlib.Core.List.{List}
 use Rattle.std.proofs.Common.{Option, None}
 use Prim.Native.Nat.{ℕ, ◌≤◌}
-use native.Mathlib.Omega.{arith}
 use lib.ListN.{length}
 use lib.Dec.{leb}
 use borrow.Author.Tests.{leb-true}
@@ -20,7 +19,7 @@ use Rattle.reader.specs.declared.State.{State}
 
 pub passes : (b : Bool) (n : ℕ) (rest : Option ℕ) → need b n rest ≡ None → (b ≡ true) × (rest ≡ None)
 passes true n rest e = (refl, e)
-passes false n rest e = let z : ◌≡◌ {A = ℕ} 0 1 = cc in let f : ⊥ = omega arith in absurd f
+passes false n rest e = absurd cc
 
 -- ---- a state that refusal 1 does not name
 

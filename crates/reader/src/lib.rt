@@ -8,11 +8,11 @@ ghost use Rattle.reader.specs.Said.{refusal_of};
 ghost use Rattle.reader.specs.Refusals.{is_closed, need};
 ghost use Rattle.reader.specs.Outcome.{RefusalKeeps};
 
-pub mod after; // after.rt: after a call, the run, its counts and what is reported of a block
+pub mod step; // step.rt: the run after a call, its counts and what is reported of a block
 
 use refusal::Refusal;
 
-#[derive(Clone, Copy)]
+#[derive(Clone, Copy, PartialEq, Eq)]
 pub enum Phase {
     Closed,
     Feeding,
@@ -54,7 +54,8 @@ pub struct Run {
     pub settings: Settings,
 }
 
-// A length of 0 means that no table is in force, or that none waits.
+// A length of 0 says that no table is in force, that none waits, or, of the run's block, that none stands: C's state has these
+// numbers, and the rules are said of them.
 #[derive(Clone, Copy)]
 pub struct State {
     pub run: Run,
@@ -62,11 +63,24 @@ pub struct State {
     pub waiting: usize,
 }
 
-// Whether a call is refused.
+// C1: what a call answers, and the state that it leaves.
 #[derive(Clone, Copy)]
-pub enum Check {
-    Passed,
-    Refused(Refusal),
+pub struct After<T> {
+    pub answer: Result<T, Refusal>,
+    pub state: State,
+}
+
+// A phase by its number.
+impl From<Phase> for usize {
+    ghost from_gives = { λ p n. n ≡ phase_number p };
+
+    fn from(p: Phase) -> usize {
+        match p {
+            Phase::Closed => 0,
+            Phase::Feeding => 1,
+            Phase::Finishing => 2,
+        }
+    }
 }
 
 // The counts of a run that has taken nothing.
@@ -112,7 +126,6 @@ pub fn is_sound(s: State) -> bool
 {
     let r = s.run;
     let c = r.counts;
-    let x = r.settings;
     (r.held <= 65532)
         & (r.held <= c.taken)
         & (r.standing <= r.held)
@@ -121,35 +134,24 @@ pub fn is_sound(s: State) -> bool
         & (c.taken <= 4294967295)
         & (c.blocks <= c.taken)
         & (c.skipped <= c.taken)
-        & frame::ceiling_ok(x.ceiling)
+        & frame::ceiling_ok(r.settings.ceiling)
 }
 
 // R1: the state is sound, and a hold of so many bytes is long enough.
 pub fn may_call(s: State, hold: usize) -> bool
     ensures { result ≡ (sound s && leb 65536 hold) }
 {
-    is_sound(s) & (65536 <= hold)
+    is_sound(s) && 65536 <= hold
 }
 
 // R1 of a call that is lent nothing.
-pub fn of_state(s: State) -> Check
+pub fn of_state(s: State) -> Result<(), Refusal>
     ensures { refusal_of result ≡ need (sound s) 1 None }
 {
     if is_sound(s) {
-        Check::Passed
+        Ok(())
     } else {
-        Check::Refused(Refusal::BadBuffer)
-    }
-}
-
-// A phase by its number.
-pub fn phase_number(p: Phase) -> usize
-    ensures { result ≡ phase_number p }
-{
-    match p {
-        Phase::Closed => 0,
-        Phase::Feeding => 1,
-        Phase::Finishing => 2,
+        Err(Refusal::BadBuffer)
     }
 }
 
@@ -157,11 +159,7 @@ pub fn phase_number(p: Phase) -> usize
 pub fn is_closed(p: Phase) -> bool
     ensures { result ≡ is_closed p }
 {
-    match p {
-        Phase::Closed => true,
-        Phase::Feeding => false,
-        Phase::Finishing => false,
-    }
+    p == Phase::Closed
 }
 
 // R21, R22: the old state, and no byte written or handed back, whatever the call.
