@@ -2,6 +2,8 @@
 -- Assumes nothing.
 use mathlib.Core.Path.{◌≡◌, sym, ap, ◌∙◌, subst}
 use mathlib.Core.List.{List}
+use Rattle.std.proofs.Common.{Option, None, Some, option_map, Result, Ok, Err}
+use Rattle.std.specs.Option.{ok_or}
 use mathlib.Core.Bool.{Bool, true, false, not, ◌&&◌, ◌||◌}
 use Prim.Native.Nat.{ℕ, ◌+◌, ◌-◌, ◌*◌, ◌%◌, ◌<◌, ◌≤◌}
 use native.Mathlib.Omega.{arith}
@@ -14,27 +16,20 @@ use Rattle.frame.specs.Frame.{greatest_ceiling, length_at, sync_at, allowed, end
 use Rattle.refusal.specs.declared.Refusal.{Refusal}
 use Rattle.refusal.specs.declared.Refusal.TheVariants.{NoRow, TooShort, BadSubBlocks, NoSuchField, NotOneFrame}
 use Rattle.rows.specs.declared.Row.{Row}
-use Rattle.table.specs.declared.RowFound.{RowFound}
-use Rattle.table.specs.declared.RowFound.TheVariants as found
 use Rattle.table.specs.Lists.{tabulate, every, pick}
 use Rattle.rows.specs.Places.{field_count, field_at}
 use Rattle.table.specs.Rows.{nested_row}
 use Rattle.table.specs.Decode.{block_of, decode}
 use Rattle.table.specs.Rules.{block_ok}
-use Rattle.table.specs.Lookup.{Stands, StandsIfAny, Finding}
-use Rattle.table.specs.Lookup as lookup
+use Rattle.table.specs.Lookup.{Finding}
 use Rattle.table.proofs.Lists.{length_tab}
 use Rattle.table.proofs.Levels.{first_two, second_are, nested_is}
 use Rattle.walk.specs.declared.Span.{Span}
 use Rattle.walk.specs.declared.Nest.{Nest}
 use Rattle.walk.specs.Walk.{second_length_in, span, walk_end, any_second, nest_or}
-use Rattle.block.specs.declared.Matched.{Matched}
-use Rattle.block.specs.declared.Matched.TheVariants.{At, Refused}
-use Rattle.block.specs.declared.SubMatched.{SubMatched}
-use Rattle.block.specs.declared.SubMatched.TheVariants as sub
 use Rattle.block.specs.Block.{number_in, revision_in, count_in, sub_length_in, ends_by, body_fits, one_span, one_fits, offset_of, walk_of, nest_fits, subs_fit, alone, nest_of}
-use Rattle.block.specs.Block.{row, seen_row, seen, seen_sub_row, seen_sub, sub_matched_says, Fine, FineIfAny, Matching, SubFine, SubMatching}
-use Rattle.block.specs.Code.{Looked, LookedIfAny, Fitting, Looking}
+use Rattle.block.specs.Block.{row, seen_row, seen, seen_sub_row, seen_sub, Matching, SubFine, SubMatching}
+use Rattle.block.specs.Code.{Fitting, Looking}
 use Rattle.block.proofs.Nests.{NestFine, nest_fine}
 use Rattle.wire.proofs.Tests.{both}
 
@@ -120,23 +115,23 @@ module _ (t b : List ℕ) (r : Row) where
 
   module _ (k : ℕ) where
     -- refusals 7 and 8
-    pub fit_7 : body_fits b (block_of t r) ≡ false → Fitting t b k r (sub.Refused TooShort)
+    pub fit_7 : body_fits b (block_of t r) ≡ false → Fitting t b k r (Err TooShort)
     unfolding seen_row
     fit_7 e = record { is = rw e; fine = tt }
 
     module _ (fit : body_fits b (block_of t r) ≡ true) where
-      fit_8 : subs_fit b (block_of t r) ≡ false → Fitting t b k r (sub.Refused BadSubBlocks)
+      fit_8 : subs_fit b (block_of t r) ≡ false → Fitting t b k r (Err BadSubBlocks)
       unfolding seen_row
       fit_8 e = record { is = rw (fit, e); fine = tt }
 
-      pub fit_8_one : r.firsts ≡ 0 → one_fits b (block_of t r) ≡ false → Fitting t b k r (sub.Refused BadSubBlocks)
+      pub fit_8_one : r.firsts ≡ 0 → one_fits b (block_of t r) ≡ false → Fitting t b k r (Err BadSubBlocks)
       fit_8_one z e = fit_8 (fit_one z ∙ e)
 
-      pub fit_8_two : 0 < r.firsts → nest_fits b (block_of t r) ≡ false → Fitting t b k r (sub.Refused BadSubBlocks)
+      pub fit_8_two : 0 < r.firsts → nest_fits b (block_of t r) ≡ false → Fitting t b k r (Err BadSubBlocks)
       fit_8_two h e = fit_8 (fit_two h ∙ e)
 
       module _ (whole : whole_frame b ≡ true) (i : r.start + r.bodies + r.subs ≤ field_count t) (ok : block_ok (block_of t r) ≡ true) where
-        fit_at : subs_fit b (block_of t r) ≡ true → {n : Nest} → (k < count_in b → n ≡ nest_of (block_of t r) b k) → Fitting t b k r (sub.At r n)
+        fit_at : subs_fit b (block_of t r) ≡ true → {n : Nest} → (k < count_in b → n ≡ nest_of (block_of t r) b k) → Fitting t b k r (Ok (r, n))
         unfolding seen_row
         fit_at e d =
             record {
@@ -144,62 +139,56 @@ module _ (t b : List ℕ) (r : Row) where
               fine = record { fine = record { inside = i; rules = ok; long = sixteen b whole (long fit); body = fit; subs = e }; nest = d };
             }
 
-        pub fit_at_one : r.firsts ≡ 0 → one_fits b (block_of t r) ≡ true → {n : Nest} → (k < count_in b → n ≡ alone (one_span b k)) → Fitting t b k r (sub.At r n)
+        pub fit_at_one : r.firsts ≡ 0 → one_fits b (block_of t r) ≡ true → {n : Nest} → (k < count_in b → n ≡ alone (one_span b k)) → Fitting t b k r (Ok (r, n))
         fit_at_one z e d = fit_at (fit_one z ∙ e) (λ h. d h ∙ sym (nest_one z k))
 
-        pub fit_at_two : 0 < r.firsts → nest_fits b (block_of t r) ≡ true → {n : Nest} → n ≡ nest_or (pick (walk_of (block_of t r) b) k) → Fitting t b k r (sub.At r n)
+        pub fit_at_two : 0 < r.firsts → nest_fits b (block_of t r) ≡ true → {n : Nest} → n ≡ nest_or (pick (walk_of (block_of t r) b) k) → Fitting t b k r (Ok (r, n))
         fit_at_two h e d = fit_at (fit_two h ∙ e) (λ j. d ∙ sym (nest_two h k))
 
 -- refusals 10 and 6
 module _ (t b : List ℕ) (k : ℕ) where
-  pub look_10 : whole_frame b ≡ false → Looking t b k (sub.Refused NotOneFrame)
+  pub look_10 : whole_frame b ≡ false → Looking t b k (Err NotOneFrame)
   unfolding seen
   look_10 e = record { is = rw e; fine = tt }
 
-  module _ (whole : whole_frame b ≡ true) (n : ℕ) (f : RowFound) (d : Finding t n f) (g : n ≡ number_in b) where
-    seen_by : seen (decode t) b ≡ seen_row b (lookup.row_says t f)
+  module _ (whole : whole_frame b ≡ true) (n : ℕ) (f : Option Row) (d : Finding t n f) (g : n ≡ number_in b) where
+    seen_by : seen (decode t) b ≡ seen_row b (option_map (block_of t) f)
     unfolding seen
     seen_by = rw (whole, ← g, ← d.is)
 
-    pub look_6 : f ≡ found.Nothing → Looking t b k (sub.Refused NoRow)
+    pub look_6 : {x : Refusal} → f ≡ None → Err x ≡ ok_or f NoRow → Looking t b k (Err x)
     unfolding seen_row
-    look_6 h = record { is = sym (seen_by ∙ ap (λ (x : RowFound). seen_row b (lookup.row_says t x)) h); fine = tt }
+    look_6 {x} h v =
+        let e : x ≡ NoRow = cc in
+        rw e (record { is = sym (seen_by ∙ ap (λ (o : Option Row). seen_row b (option_map (block_of t) o)) h); fine = tt })
 
-    pub look_at : {r : Row} {l : SubMatched} → f ≡ found.At r → Fitting t b k r l → Looking t b k l
-    look_at h j = record { is = j.is ∙ sym (seen_by ∙ ap (λ (x : RowFound). seen_row b (lookup.row_says t x)) h); fine = j.fine }
-
-pub stands_at : (t : List ℕ) {n : ℕ} {f : RowFound} {r : Row} → Finding t n f → f ≡ found.At r → Stands t r
-stands_at t d h = subst (StandsIfAny t) h d.stands
-
-pub fine_at : (t b : List ℕ) {l : Matched} {r : Row} → Matching t b l → l ≡ At r → Fine t b r
-fine_at t b d h = subst (FineIfAny t b) h d.fine
+    pub look_at : {r : Row} {l : Result (Row × Nest) Refusal} → f ≡ Some r → Fitting t b k r l → Looking t b k l
+    look_at h j = record { is = j.is ∙ sym (seen_by ∙ ap (λ (x : Option Row). seen_row b (option_map (block_of t) x)) h); fine = j.fine }
 
 -- without a sub-block, and sub-blocks: refusal 9
-module _ (t b : List ℕ) (k : ℕ) {l : SubMatched} (d : Looking t b k l) where
-  pub row_refused : {x : Refusal} → l ≡ sub.Refused x → Matching t b (Refused x)
-  row_refused h = record { is = sym (ap (sub_matched_says t) h) ∙ d.is; fine = tt }
+module _ (t b : List ℕ) (k : ℕ) where
+  module _ {x : Refusal} (d : Looking t b k (Err x)) where
+    pub row_refused : Matching t b (Err x)
+    row_refused = record { is = d.is; fine = tt }
 
-  pub sub_refused : {x : Refusal} → l ≡ sub.Refused x → SubMatching t b k (sub.Refused x)
-  unfolding seen_sub seen_sub_row
-  sub_refused h = record { is = ap (seen_sub_row b k) (sym (ap (sub_matched_says t) h) ∙ d.is); fine = tt }
+    pub sub_refused : SubMatching t b k (Err x)
+    unfolding seen_sub seen_sub_row
+    sub_refused = record { is = ap (seen_sub_row b k) d.is; fine = tt }
 
-  module _ (r : Row) (n : Nest) (h : l ≡ sub.At r n) where
-    pub looked : Looked t b k r n
-    looked = subst (LookedIfAny t b k) h d.fine
-
-    pub row_at : Matching t b (At r)
-    row_at = record { is = sym (ap (sub_matched_says t) h) ∙ d.is; fine = looked.fine }
+  module _ (r : Row) (n : Nest) (d : Looking t b k (Ok (r, n))) where
+    pub row_at : Matching t b (Ok r)
+    row_at = record { is = d.is; fine = d.fine.fine }
 
     sub_seen : seen_sub (decode t) b k ≡ seen_sub_row b k (row (block_of t r))
     unfolding seen_sub
-    sub_seen = ap (seen_sub_row b k) (sym d.is ∙ ap (sub_matched_says t) h)
+    sub_seen = ap (seen_sub_row b k) (sym d.is)
 
-    pub sub_none : r.subs ≡ 0 → SubMatching t b k (sub.Refused NoSuchField)
+    pub sub_none : r.subs ≡ 0 → SubMatching t b k (Err NoSuchField)
     unfolding seen_sub_row block_of
     sub_none e = record { is = sym (sub_seen ∙ rw (length_tab (field_at t) (r.start + r.bodies) r.subs, e, le-ltb k 0 (omega arith))); fine = tt }
 
     module _ (some_subs : r.subs ≡ 0 → ⊥) {c : ℕ} (g : c ≡ count_in b) where
-      pub sub_past : c ≤ k → SubMatching t b k (sub.Refused NoSuchField)
+      pub sub_past : c ≤ k → SubMatching t b k (Err NoSuchField)
       unfolding seen_sub_row block_of
       sub_past i =
           let j : count_in b ≤ k = omega arith in
@@ -211,19 +200,19 @@ module _ (t b : List ℕ) (k : ℕ) {l : SubMatched} (d : Looking t b k l) where
       -- what is known where it stands
       there : k < count_in b → SubFine t b k r n
       there j =
-          let e = looked.nest j in
-          let f : NestFine t b r n = subst (NestFine t b r) (sym e) (nest_fine t b r looked.fine some_subs k j) in
+          let e = d.fine.nest j in
+          let f : NestFine t b r n = subst (NestFine t b r) (sym e) (nest_fine t b r d.fine.fine some_subs k j) in
           record {
-            inside = looked.fine.inside;
-            rules = looked.fine.rules;
-            long = looked.fine.long;
+            inside = d.fine.fine.inside;
+            rules = d.fine.fine.rules;
+            long = d.fine.fine.long;
             stands = e;
             within = f.within;
             fields = f.fields;
             nested = f.nested;
           }
 
-      pub sub_at : k < c → SubMatching t b k (sub.At r n)
+      pub sub_at : k < c → SubMatching t b k (Ok (r, n))
       unfolding seen_sub_row block_of
       sub_at i =
           let j : k < count_in b = omega arith in

@@ -1,7 +1,8 @@
 -- A block against a table: its row, or why it is refused (rule R20: 10, 6, 7, 8, and 9 of a sub-block), and where its sub-blocks stand.
 -- Assumes nothing.
-use Rattle.std.specs.Prelude.{ℕ, ◌+◌, ◌*◌, ◌≤◌, ◌<◌, ◌≡◌, List, Bool, true, not, ◌&&◌, ◌||◌, cond, length, ltb, leb, eqb, Option, None, Some}
+use Rattle.std.specs.Prelude.{ℕ, ◌+◌, ◌*◌, ◌≤◌, ◌<◌, ◌≡◌, List, Bool, true, not, ◌&&◌, ◌||◌, cond, length, ltb, leb, eqb, Option, None, Some, Result, Ok, Err, IfOk}
 use Rattle.frame.specs.Frame.{id_at, number_of, revision_of, whole_frame}
+use Rattle.refusal.specs.declared.Refusal.{Refusal}
 use Rattle.refusal.specs.Numbers.{number_for}
 use Rattle.rows.specs.declared.FieldRow.{FieldRow}
 use Rattle.rows.specs.declared.Row.{Row}
@@ -15,10 +16,6 @@ use Rattle.walk.specs.declared.Span.{Span}
 use Rattle.walk.specs.declared.Nest.{Nest}
 use Rattle.walk.specs.Walk.{second_length_in, span, nest_end, walk_over, walk_end, any_second, nest_or}
 pub use Rattle.walk.specs.Walk.{count_in, sub_length_in}
-use Rattle.block.specs.declared.Matched.{Matched}
-use Rattle.block.specs.declared.Matched.TheVariants as matched
-use Rattle.block.specs.declared.SubMatched.{SubMatched}
-use Rattle.block.specs.declared.SubMatched.TheVariants as subMatched
 
 -- F9: the two parts of its ID
 abbrev pub number_in : List ℕ → ℕ
@@ -112,13 +109,13 @@ unfoldable pub seen_sub : Table → List ℕ → ℕ → Seen
 seen_sub tab b k = seen_sub_row b k (seen tab b)
 
 -- D9: the row or the number that the code's answer means
-abbrev pub matched_says : List ℕ → Matched → Seen
-matched_says t (matched.At r) = row (block_of t r)
-matched_says t (matched.Refused x) = refused_by (number_for x)
+abbrev pub matched_says : List ℕ → Result Row Refusal → Seen
+matched_says t (Ok r) = row (block_of t r)
+matched_says t (Err x) = refused_by (number_for x)
 
-abbrev pub sub_matched_says : List ℕ → SubMatched → Seen
-sub_matched_says t (subMatched.At r n) = row (block_of t r)
-sub_matched_says t (subMatched.Refused x) = refused_by (number_for x)
+abbrev pub sub_matched_says : List ℕ → Result (Row × Nest) Refusal → Seen
+sub_matched_says t (Ok m) = row (block_of t m.0)
+sub_matched_says t (Err x) = refused_by (number_for x)
 
 -- what a caller may use of a row that was found: its field rows are there and keep the rules, N and SBLength are there, and the block
 -- passed
@@ -129,13 +126,9 @@ pub record Fine (t b : List ℕ) (r : Row) : Type 0 where
   pub body : body_fits b (block_of t r) ≡ true
   pub subs : subs_fit b (block_of t r) ≡ true
 
-abbrev pub FineIfAny : List ℕ → List ℕ → Matched → Type 0
-FineIfAny t b (matched.At r) = Fine t b r
-FineIfAny t b (matched.Refused x) = Unit
-
-pub record Matching (t b : List ℕ) (l : Matched) : Type 0 where
+pub record Matching (t b : List ℕ) (l : Result Row Refusal) : Type 0 where
   pub is : matched_says t l ≡ seen (decode t) b
-  pub fine : FineIfAny t b l
+  pub fine : IfOk l (Fine t b)
 
 -- of a sub-block that is there: where it stands, in the block, with those nested in it, and the carried fields of each level lie in theirs
 pub record SubFine (t b : List ℕ) (k : ℕ) (r : Row) (n : Nest) : Type 0 where
@@ -147,10 +140,6 @@ pub record SubFine (t b : List ℕ) (k : ℕ) (r : Row) (n : Nest) : Type 0 wher
   pub fields : every (ends_by (revision_in b) n.first.size) (first_rows (block_of t r)) ≡ true
   pub nested : 0 < n.count → every (ends_by (revision_in b) n.size) (second_rows (block_of t r)) ≡ true
 
-abbrev pub SubFineIfAny : List ℕ → List ℕ → ℕ → SubMatched → Type 0
-SubFineIfAny t b k (subMatched.At r n) = SubFine t b k r n
-SubFineIfAny t b k (subMatched.Refused x) = Unit
-
-pub record SubMatching (t b : List ℕ) (k : ℕ) (l : SubMatched) : Type 0 where
+pub record SubMatching (t b : List ℕ) (k : ℕ) (l : Result (Row × Nest) Refusal) : Type 0 where
   pub is : sub_matched_says t l ≡ seen_sub (decode t) b k
-  pub fine : SubFineIfAny t b k l
+  pub fine : IfOk l (λ m. SubFine t b k m.0 m.1)

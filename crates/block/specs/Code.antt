@@ -1,11 +1,10 @@
 -- Working definitions that only contracts inside the crate cite.
 -- Assumes nothing.
-use Rattle.std.specs.Prelude.{ℕ, ◌<◌, ◌≡◌, List, Some}
+use Rattle.std.specs.Prelude.{ℕ, ◌<◌, ◌≡◌, List, Some, Result, IfOk}
+use Rattle.refusal.specs.declared.Refusal.{Refusal}
 use Rattle.rows.specs.declared.Row.{Row}
 use Rattle.table.specs.Decode.{block_of, decode}
 use Rattle.walk.specs.declared.Nest.{Nest}
-use Rattle.block.specs.declared.SubMatched.{SubMatched}
-use Rattle.block.specs.declared.SubMatched.TheVariants as subMatched
 use Rattle.block.specs.Block.{count_in, nest_of, seen_row, seen, sub_matched_says, Fine}
 
 -- of a row that a block passed by: what a caller may use of it, and sub-block k, if the block has so many
@@ -13,16 +12,12 @@ pub record Looked (t b : List ℕ) (k : ℕ) (r : Row) (n : Nest) : Type 0 where
   pub fine : Fine t b r
   pub nest : k < count_in b → n ≡ nest_of (block_of t r) b k
 
-abbrev pub LookedIfAny : List ℕ → List ℕ → ℕ → SubMatched → Type 0
-LookedIfAny t b k (subMatched.At r n) = Looked t b k r n
-LookedIfAny t b k (subMatched.Refused x) = Unit
-
 -- of a row whose block is a whole frame: what refusals 7 and 8 make of it
-pub record Fitting (t b : List ℕ) (k : ℕ) (r : Row) (l : SubMatched) : Type 0 where
+pub record Fitting (t b : List ℕ) (k : ℕ) (r : Row) (l : Result (Row × Nest) Refusal) : Type 0 where
   pub is : sub_matched_says t l ≡ seen_row b (Some (block_of t r))
-  pub fine : LookedIfAny t b k l
+  pub fine : IfOk l (λ m. Looked t b k m.0 m.1)
 
 -- and 10 and 6 before them
-pub record Looking (t b : List ℕ) (k : ℕ) (l : SubMatched) : Type 0 where
+pub record Looking (t b : List ℕ) (k : ℕ) (l : Result (Row × Nest) Refusal) : Type 0 where
   pub is : sub_matched_says t l ≡ seen (decode t) b
-  pub fine : LookedIfAny t b k l
+  pub fine : IfOk l (λ m. Looked t b k m.0 m.1)

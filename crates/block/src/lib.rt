@@ -14,22 +14,7 @@ ghost use Rattle.frame.specs.Frame.{whole_frame};
 
 use refusal::Refusal;
 use rows::{FieldRow, Row};
-use table::RowFound;
 use walk::{Nest, Span, Walked};
-
-// The row that a block is read by, or why it is refused.
-#[derive(Clone, Copy)]
-pub enum Matched {
-    At(Row),
-    Refused(Refusal),
-}
-
-// The row that a sub-block is read by and where it stands, with those nested in it; or why it is refused.
-#[derive(Clone, Copy)]
-pub enum SubMatched {
-    At(Row, Nest),
-    Refused(Refusal),
-}
 
 pub fn number(block: &[u8]) -> u16
     requires { 8 ≤ length block.now }
@@ -155,68 +140,55 @@ fn nest_fits(t: &[u8], row: Row, block: &[u8], w: Walked) -> bool
 }
 
 // Refusals 7 and 8, in this order; and sub-block k, found on the way.
-fn fitted(t: &[u8], row: Row, block: &[u8], k: usize) -> SubMatched
+fn fitted(t: &[u8], row: Row, block: &[u8], k: usize) -> Result<(Row, Nest), Refusal>
     requires { (whole_frame block.now ≡ true) × (row.start + row.bodies + row.subs ≤ field_count t.now) × (block_ok (block_of t.now row) ≡ true) }
     ensures { Fitting t.now block.now k row result }
 {
     if !body_fits(t, row, block) {
-        return SubMatched::Refused(Refusal::TooShort);
+        return Err(Refusal::TooShort);
     }
     if row.firsts == 0 {
         if !subs_fit(t, row, block) {
-            return SubMatched::Refused(Refusal::BadSubBlocks);
+            return Err(Refusal::BadSubBlocks);
         }
-        return SubMatched::At(row, one_nest(block, k));
+        return Ok((row, one_nest(block, k)));
     }
     let w = walk::walk(block, nested_at(t, row), k);
     if !nest_fits(t, row, block, w) {
-        return SubMatched::Refused(Refusal::BadSubBlocks);
+        return Err(Refusal::BadSubBlocks);
     }
-    let nest = w.nest;
-    SubMatched::At(row, nest)
+    Ok((row, w.nest))
 }
 
 // The row that a block is read by, or the first refusal of 10, 6, 7 and 8.
-fn look(t: &[u8], block: &[u8], k: usize) -> SubMatched
+fn look(t: &[u8], block: &[u8], k: usize) -> Result<(Row, Nest), Refusal>
     requires { table_ok t.now ≡ true }
     ensures { Looking t.now block.now k result }
 {
     if !frame::is_frame(block) {
-        return SubMatched::Refused(Refusal::NotOneFrame);
+        return Err(Refusal::NotOneFrame);
     }
-    match table::find(t, number(block)) {
-        RowFound::At(row) => fitted(t, row, block, k),
-        RowFound::Nothing => SubMatched::Refused(Refusal::NoRow),
-    }
+    let row = table::find(t, number(block)).ok_or(Refusal::NoRow)?;
+    fitted(t, row, block, k)
 }
 
-// The same without a sub-block.
-pub fn row_of(t: &[u8], block: &[u8]) -> Matched
+// The row that a block is read by, or why it is refused.
+pub fn row_of(t: &[u8], block: &[u8]) -> Result<Row, Refusal>
     requires { table_ok t.now ≡ true }
     ensures { Matching t.now block.now result }
 {
-    match look(t, block, 0) {
-        SubMatched::At(row, _) => Matched::At(row),
-        SubMatched::Refused(x) => Matched::Refused(x),
-    }
+    let (row, _) = look(t, block, 0)?;
+    Ok(row)
 }
 
-// The same for sub-block k and where it stands, with refusal 9 after them.
-pub fn sub_row_of(t: &[u8], block: &[u8], k: usize) -> SubMatched
+// The same for sub-block k and where it stands, with those nested in it; refusal 9 comes after the others.
+pub fn sub_row_of(t: &[u8], block: &[u8], k: usize) -> Result<(Row, Nest), Refusal>
     requires { table_ok t.now ≡ true }
     ensures { SubMatching t.now block.now k result }
 {
-    match look(t, block, k) {
-        SubMatched::At(row, nest) => {
-            let m = row.subs;
-            if m == 0 {
-                return SubMatched::Refused(Refusal::NoSuchField);
-            }
-            if rows::wide(block[14]) <= k {
-                return SubMatched::Refused(Refusal::NoSuchField);
-            }
-            SubMatched::At(row, nest)
-        }
-        SubMatched::Refused(x) => SubMatched::Refused(x),
+    let (row, nest) = look(t, block, k)?;
+    if row.subs == 0 || rows::wide(block[14]) <= k {
+        return Err(Refusal::NoSuchField);
     }
+    Ok((row, nest))
 }

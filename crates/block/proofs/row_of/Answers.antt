@@ -1,10 +1,13 @@
 -- `block::row_of` meets its contract: what `look` answers, without its sub-block.
 -- Assumes nothing.
+use Rattle.std.proofs.lemmas.Result.{err_from_is_err_and}
 use Rattle.block.proofs.Blocks.{row_refused, row_at}
 use Rattle.block.proofs.row_of.Goals as goal
 
-pub returns-in-At : goal.returns-in-At
-returns-in-At c = row_at _ _ _ c.look.ensures _ _ c.in-At.is
+pub returns-in_err-row : goal.returns-in_err-row
+returns-in_err-row c =
+    let p = err_from_is_err_and c.from_residual.result c.from_residual.ensures.1 in
+    rw (p.1, p.2) (row_refused _ _ _ c.in_err-row.ensures)
 
-pub returns-in-Refused : goal.returns-in-Refused
-returns-in-Refused c = row_refused _ _ _ c.look.ensures c.in-Refused.is
+pub returns : goal.returns
+returns c = row_at _ _ _ _ _ c.in_ok-row.ensures
