@@ -4,7 +4,7 @@
 ghost use Rattle.std.specs.Prelude.{◌≡◌};
 ghost use Rattle.refusal.specs.Numbers.{number_for, NumbersApart};
 
-#[derive(Clone, Copy)]
+#[derive(Clone, Copy, PartialEq, Eq, Debug)]
 pub enum Refusal {
     BadBuffer,
     OutOfTurn,
@@ -22,24 +22,32 @@ pub enum Refusal {
 }
 
 // The number of a refusal.
+impl From<Refusal> for u32 {
+    ghost from_gives = { λ x n. n ≡ number_for x };
+
+    fn from(x: Refusal) -> u32 {
+        match x {
+            Refusal::BadBuffer => 1,
+            Refusal::OutOfTurn => 2,
+            Refusal::RunFull => 3,
+            Refusal::BadTable => 4,
+            Refusal::NoTable => 5,
+            Refusal::NoRow => 6,
+            Refusal::TooShort => 7,
+            Refusal::BadSubBlocks => 8,
+            Refusal::NoSuchField => 9,
+            Refusal::NotOneFrame => 10,
+            Refusal::BadValues => 11,
+            Refusal::NoRoom => 12,
+            Refusal::BadCeiling => 13,
+        }
+    }
+}
+
 pub fn number(x: Refusal) -> u32
     ensures { result ≡ number_for x }
 {
-    match x {
-        Refusal::BadBuffer => 1,
-        Refusal::OutOfTurn => 2,
-        Refusal::RunFull => 3,
-        Refusal::BadTable => 4,
-        Refusal::NoTable => 5,
-        Refusal::NoRow => 6,
-        Refusal::TooShort => 7,
-        Refusal::BadSubBlocks => 8,
-        Refusal::NoSuchField => 9,
-        Refusal::NotOneFrame => 10,
-        Refusal::BadValues => 11,
-        Refusal::NoRoom => 12,
-        Refusal::BadCeiling => 13,
-    }
+    u32::from(x)
 }
 
 // A number tells its refusal.
