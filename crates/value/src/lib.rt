@@ -96,7 +96,7 @@ fn byte(s: &[u8], at: usize) -> u64
     requires { at < length s.now }
     ensures { (result ≡ little_at 1 s.now at) × (result < 256) }
 {
-    s[at] as u64
+    u64::from(s[at])
 }
 
 // The bits of a field of the type.
@@ -106,8 +106,8 @@ fn bits_at(s: &[u8], at: usize, kind: u8) -> u64
 {
     match kinds::size(kind) {
         1 => byte(s, at),
-        2 => wire::u2(s, at) as u64,
-        4 => wire::u4(s, at) as u64,
+        2 => u64::from(wire::u2(s, at)),
+        4 => u64::from(wire::u4(s, at)),
         8 => wire::u8(s, at),
         _ => 0,
     }

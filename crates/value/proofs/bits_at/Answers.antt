@@ -10,10 +10,10 @@ pub returns-in-1 : goal.returns-in-1
 returns-in-1 c = let e = sym c.size.ensures.0 ∙ c.in-1.is in rw e c.byte.ensures
 
 pub returns-in-2 : goal.returns-in-2
-returns-in-2 c = let e = sym c.size.ensures.0 ∙ c.in-2.is in rw e (c.u2.ensures, omega arith)
+returns-in-2 c = let e = sym c.size.ensures.0 ∙ c.in-2.is in rw e (c.from.ensures ∙ c.u2.ensures, omega arith)
 
 pub returns-in-4 : goal.returns-in-4
-returns-in-4 c = let e = sym c.size.ensures.0 ∙ c.in-4.is in rw e (c.u4.ensures, omega arith)
+returns-in-4 c = let e = sym c.size.ensures.0 ∙ c.in-4.is in rw e (c.from-in-4.ensures ∙ c.u4.ensures, omega arith)
 
 pub returns-in-8 : goal.returns-in-8
 returns-in-8 c = let e = sym c.size.ensures.0 ∙ c.in-8.is in rw e (c.u8.ensures, omega arith)
