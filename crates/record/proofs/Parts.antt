@@ -30,4 +30,4 @@ part_at tab b k = part_by_lem b k (seen_sub tab b k)
 -- and it is empty where the call is refused
 pub refused_part : (b : List ℕ) (k : ℕ) (x : Seen) (n : ℕ) → number_by x ≡ Some n → part_by b k x ≡ []
 refused_part b k (refused_by m) n e = refl
-refused_part b k (row r) n e = let z : ◌≡◌ {A = ℕ} 0 1 = cc in let f : ⊥ = omega arith in absurd f
+refused_part b k (row r) n e = cc

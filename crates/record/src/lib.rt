@@ -2,39 +2,22 @@
 #![tactic(auto)]
 
 ghost use Rattle.std.specs.Prelude.{◌≡◌, true, ◌+◌, ◌≤◌, length};
+ghost use Rattle.std.specs.Result.{result_unwrap_or};
 ghost use Rattle.wire.specs.Parts.{offset_by};
 ghost use Rattle.table.specs.Rows.{ends};
 ghost use Rattle.table.specs.Decode.{decode};
 ghost use Rattle.table.specs.Rules.{table_ok};
 ghost use Rattle.record.specs.Answer.{Answers, handed_says};
 ghost use Rattle.block.specs.Block.{ends_by};
-ghost use Rattle.record.specs.Calls.{field_said, body_field, sub_slice, sub_field, sub_block, sub_place, sub_block_refusal, tow_row, wnc_row, stamp};
+ghost use Rattle.record.specs.Calls.{field_said, body_field, sub_slice, sub_field, sub_block, nowhere, sub_place, sub_block_refusal, tow_row, wnc_row, stamp};
 
-use block::{Matched, SubMatched};
 use refusal::Refusal;
 use rows::FieldRow;
 use value::Value;
 use walk::Span;
 
-#[derive(Clone, Copy)]
-pub enum Answer {
-    Field(Value),
-    Refused(Refusal),
-}
-
-// Whether a part is handed back.
-#[derive(Clone, Copy)]
-pub enum Handed {
-    Refused(Refusal),
-    Given,
-}
-
-// The same, and where the part stands in its block: an empty one at the start where it is refused.
-#[derive(Clone, Copy)]
-pub struct Placed {
-    pub handed: Handed,
-    pub span: Span,
-}
+// What a field answers, or why it is refused.
+pub type Answer = Result<Value, Refusal>;
 
 // A field in these bytes, in which it ends if the revision carries it.
 pub fn field_said(s: &[u8], f: FieldRow, revision: u8) -> Answer
@@ -42,9 +25,9 @@ pub fn field_said(s: &[u8], f: FieldRow, revision: u8) -> Answer
     ensures { Answers result (field_said revision s.now f) }
 {
     if revision < f.first {
-        return Answer::Field(Value::NotInRevision);
+        return Ok(Value::NotInRevision);
     }
-    Answer::Field(value::read(s, f))
+    Ok(value::read(s, f))
 }
 
 // Body field i of a block.
@@ -52,18 +35,12 @@ pub fn body_field(table: &[u8], block: &[u8], i: usize) -> Answer
     requires { table_ok table.now ≡ true }
     ensures { Answers result (body_field (decode table.now) block.now i) }
 {
-    match block::row_of(table, block) {
-        Matched::At(row) => {
-            let start = row.start;
-            let count = row.bodies;
-            if count <= i {
-                return Answer::Refused(Refusal::NoSuchField);
-            }
-            let f = rows::field_at(table, start + i);
-            field_said(block, f, block::revision(block))
-        }
-        Matched::Refused(x) => Answer::Refused(x),
+    let row = block::row_of(table, block)?;
+    if row.bodies <= i {
+        return Err(Refusal::NoSuchField);
     }
+    let f = rows::field_at(table, row.start + i);
+    field_said(block, f, block::revision(block))
 }
 
 // The part of a block that stands there.
@@ -80,42 +57,23 @@ pub fn sub_field(table: &[u8], block: &[u8], k: usize, j: usize) -> Answer
     requires { table_ok table.now ≡ true }
     ensures { Answers result (sub_field (decode table.now) block.now k j) }
 {
-    match block::sub_row_of(table, block, k) {
-        SubMatched::At(row, nest) => {
-            let start = row.start + row.bodies;
-            let count = table::first_count(row);
-            if count <= j {
-                return Answer::Refused(Refusal::NoSuchField);
-            }
-            let f = rows::field_at(table, start + j);
-            let revision = block::revision(block);
-            let span = nest.first;
-            field_said(part(block, span), f, revision)
-        }
-        SubMatched::Refused(x) => Answer::Refused(x),
+    let (row, nest) = block::sub_row_of(table, block, k)?;
+    if table::first_count(row) <= j {
+        return Err(Refusal::NoSuchField);
     }
+    let f = rows::field_at(table, row.start + row.bodies + j);
+    field_said(part(block, nest.first), f, block::revision(block))
 }
 
 // Where sub-block k of a block stands, or why there is none.
-pub fn sub_place(table: &[u8], block: &[u8], k: usize) -> Placed
+pub fn sub_place(table: &[u8], block: &[u8], k: usize) -> Result<Span, Refusal>
     requires { table_ok table.now ≡ true }
-    ensures handed_value { handed_says result.handed ≡ sub_block_refusal (decode table.now) block.now k }
-    ensures span_value { result.span ≡ sub_place (decode table.now) block.now k }
-    ensures size_in_bounds { result.span.at + result.span.size ≤ length block.now }
+    ensures handed_value { handed_says result ≡ sub_block_refusal (decode table.now) block.now k }
+    ensures span_value { result_unwrap_or result nowhere ≡ sub_place (decode table.now) block.now k }
+    ensures size_in_bounds { let s = result_unwrap_or result nowhere in s.at + s.size ≤ length block.now }
 {
-    match block::sub_row_of(table, block, k) {
-        SubMatched::At(_, nest) => {
-            let span = nest.first;
-            Placed {
-                handed: Handed::Given,
-                span,
-            }
-        }
-        SubMatched::Refused(x) => Placed {
-            handed: Handed::Refused(x),
-            span: Span { at: 0, size: 0 },
-        },
-    }
+    let (_, nest) = block::sub_row_of(table, block, k)?;
+    Ok(nest.first)
 }
 
 // The bytes of sub-block k of a block; none where the call is refused.
@@ -124,17 +82,17 @@ pub fn sub_block<'a, 'b>(table: &'a [u8], block: &'b [u8], k: usize) -> &'b [u8]
     ensures result_value { result.now ≡ sub_block (decode table.now) block.now k }
     ensures ref_ptr_value { result.ref_ptr ≡ offset_by block.entry.ref_ptr (sub_place (decode table.now) block.now k).at }
 {
-    let p = sub_place(table, block, k);
-    part(block, p.span)
+    let place = sub_place(table, block, k).unwrap_or(Span { at: 0, size: 0 });
+    part(block, place)
 }
 
 // Whether `sub_block` is refused.
-pub fn sub_block_refusal(table: &[u8], block: &[u8], k: usize) -> Handed
+pub fn sub_block_refusal(table: &[u8], block: &[u8], k: usize) -> Result<(), Refusal>
     requires { table_ok table.now ≡ true }
     ensures { handed_says result ≡ sub_block_refusal (decode table.now) block.now k }
 {
-    let p = sub_place(table, block, k);
-    p.handed
+    sub_place(table, block, k)?;
+    Ok(())
 }
 
 // A field that stands in every block from length 14 on.
@@ -143,12 +101,12 @@ fn stamped(block: &[u8], f: FieldRow) -> Answer
     ensures { Answers result (stamp f block.now) }
 {
     if !frame::is_frame(block) {
-        return Answer::Refused(Refusal::NotOneFrame);
+        return Err(Refusal::NotOneFrame);
     }
     if block.len() < 14 {
-        return Answer::Refused(Refusal::TooShort);
+        return Err(Refusal::TooShort);
     }
-    Answer::Field(value::read(block, f))
+    Ok(value::read(block, f))
 }
 
 // The time of week of a block.

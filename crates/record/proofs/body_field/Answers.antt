@@ -1,27 +1,19 @@
 -- `record::body_field` meets its contract: each return is one law of `body_field`.
 -- Assumes nothing.
-use native.Mathlib.Omega.{arith}
-use Rattle.block.proofs.Blocks.{fine_at}
+use Rattle.std.proofs.lemmas.Result.{err_from_is_err_and}
 use Rattle.record.proofs.Calls.{body_refused, body_9, body_says, body_ends}
 use Rattle.record.proofs.body_field.Goals as goal
 
-pub returns-then-count-i : goal.returns-then-count-i
-returns-then-count-i c = body_9 _ _ c.row_of.ensures _ _ c.in-At.is c.if-count-i.true
+pub returns-in_err-row : goal.returns-in_err-row
+returns-in_err-row c =
+    let p = err_from_is_err_and c.from_residual.result c.from_residual.ensures.1 in
+    rw (p.1, p.2) (body_refused _ _ _ c.in_err-row.ensures)
 
-pub overflow_add-start : goal.overflow_add-start
-overflow_add-start c = omega (arith, (fine_at _ _ c.row_of.ensures c.in-At.is).inside)
-
-pub field_at-f-requires : goal.field_at-f-requires
-field_at-f-requires c = omega (arith, (fine_at _ _ c.row_of.ensures c.in-At.is).inside)
-
-pub revision-requires : goal.revision-requires
-revision-requires c = omega (arith, (fine_at _ _ c.row_of.ensures c.in-At.is).long)
+pub returns-then-row-i : goal.returns-then-row-i
+returns-then-row-i c = body_9 _ _ _ c.in_ok-row.ensures c.if-row-i.true
 
 pub field_said-requires : goal.field_said-requires
-field_said-requires c = body_ends _ _ c.row_of.ensures _ _ c.in-At.is c.if-count-i.false c.field_at-f.ensures.0 c.revision.ensures
+field_said-requires c = body_ends _ _ _ c.in_ok-row.ensures c.if-row-i.false c.field_at-f.ensures.0 c.revision.ensures
 
-pub returns-else-count-i : goal.returns-else-count-i
-returns-else-count-i c = body_says _ _ c.row_of.ensures _ _ c.in-At.is c.if-count-i.false c.field_at-f.ensures.0 c.revision.ensures c.field_said.ensures
-
-pub returns-in-Refused : goal.returns-in-Refused
-returns-in-Refused c = body_refused _ _ c.row_of.ensures _ c.in-Refused.is
+pub returns : goal.returns
+returns c = body_says _ _ _ c.in_ok-row.ensures c.if-row-i.false c.field_at-f.ensures.0 c.revision.ensures c.field_said.ensures

@@ -3,6 +3,6 @@
 use Rattle.record.specs.Calls.{sub_slice}
 use Rattle.record.proofs.part.Goals as goal
 
-pub returns : goal.returns
+pub returns-clause-result_value : goal.returns-clause-result_value
 unfolding sub_slice
-returns c = c.part.ensures
+returns-clause-result_value c = c.part.ensures.result_value

@@ -7,6 +7,3 @@ use Rattle.record.proofs.wnc.Goals as goal
 pub stamped-requires : goal.stamped-requires
 unfolding size_of
 stamped-requires c = omega arith
-
-pub returns : goal.returns
-returns c = c.stamped.ensures
