@@ -1,7 +1,7 @@
 -- Working definitions for the code: what a call did is counted, the run goes on, and a block is reported, by the numbers that
 -- `feed` gives. No contract of a call cites them; that they come to what the calls' definitions say is proved where the calls are.
 -- Assumes nothing.
-use Rattle.std.specs.Prelude.{ℕ, zero, suc, ◌+◌, List}
+use Rattle.std.specs.Prelude.{ℕ, zero, suc, ◌+◌, List, Option, None, Some}
 use Rattle.wire.specs.Little.{little_at}
 use Rattle.frame.specs.Frame.{number_of, revision_of}
 use Rattle.feed.specs.declared.HoldNumbers.{HoldNumbers}
@@ -28,6 +28,11 @@ run_by x r f = record { phase = x; held = f.held; standing = f.standing; counts 
 abbrev pub report_at : List ℕ → ℕ → ℕ → Report
 report_at hold p n =
     record { place = p; number = number_of (little_at 2 hold 4); revision = revision_of (little_at 2 hold 4); size = n }
+
+-- the block at the front of the hold by its length, or none by 0
+abbrev pub standing_by : ℕ → List ℕ → ℕ → Option Report
+standing_by zero hold p = None
+standing_by (suc n) hold p = Some (report_at hold p (suc n))
 
 -- the phase after Finish, by the length of the block that stands; 0 says none, for a block has at least eight bytes
 abbrev pub phase_by : ℕ → Phase

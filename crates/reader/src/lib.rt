@@ -70,6 +70,18 @@ pub struct After<T> {
     pub state: State,
 }
 
+impl<T> After<T> {
+    // R21: a refused call leaves the state as it was.
+    pub fn refused(why: Refusal, s: State) -> After<T>
+        ensures { (result.answer ≡ Err why) × (result.state ≡ s) }
+    {
+        After {
+            answer: Err(why),
+            state: s,
+        }
+    }
+}
+
 // A phase by its number.
 impl From<Phase> for usize {
     ghost from_gives = { λ p n. n ≡ phase_number p };

@@ -1,8 +1,8 @@
 // After a call: the run, its counts, and what is reported of a block. Here alone what a call did is added to the counts.
-ghost use Rattle.std.specs.Prelude.{◌≡◌, ◌+◌, ◌≤◌, length};
+ghost use Rattle.std.specs.Prelude.{◌≡◌, ◌+◌, ◌-◌, ◌≤◌, length, option_map};
 ghost use Rattle.reader.specs.Counting.{with_run};
 ghost use Rattle.reader.specs.Said.{report_of};
-ghost use Rattle.reader.specs.Code.{counted_by, run_by, phase_by, report_at};
+ghost use Rattle.reader.specs.Code.{counted_by, run_by, phase_by, standing_by};
 
 use crate::{Block, Counts, Phase, Run, State};
 
@@ -49,16 +49,19 @@ pub fn phase_after(standing: usize) -> Phase
     }
 }
 
-// The block of n bytes that stands at the front of the hold, at the place p.
-pub fn report_at(hold: &[u8], p: usize, n: usize) -> Block
-    requires { 6 ≤ length hold.now }
-    ensures { report_of result ≡ report_at hold.now p n }
+// The block that stands at the front of the hold, where one does; its place is that of the first held byte.
+pub fn standing_block(r: Run, hold: &[u8]) -> Option<Block>
+    requires { (6 ≤ length hold.now) × (r.held ≤ r.counts.taken) }
+    ensures { option_map report_of result ≡ standing_by r.standing hold.now (r.counts.taken - r.held) }
 {
+    if r.standing == 0 {
+        return None;
+    }
     let id = wire::u2(hold, 4);
-    Block {
-        place: p,
+    Some(Block {
+        place: r.counts.taken - r.held,
         number: wire::number(id),
         revision: wire::revision(id),
-        length: n,
-    }
+        length: r.standing,
+    })
 }

@@ -22,10 +22,10 @@ use Rattle.scan.proofs.Calls.{call, fed_stopped, settle_sum}
 use Rattle.feed.specs.Hold.{numbers_of}
 use Rattle.feed.specs.declared.HoldNumbers.{HoldNumbers}
 use Rattle.reader.specs.Counting.{one}
-use Rattle.reader.specs.Code.{one_by, run_by, report_at, phase_by}
+use Rattle.reader.specs.Code.{one_by, run_by, report_at, standing_by, phase_by}
 use Rattle.reader.specs.declared.Phase.{Phase}
 use Rattle.reader.specs.declared.Run.{Run}
-use Rattle.runs.specs.Calls.{reported, run_on, phase_after}
+use Rattle.runs.specs.Calls.{reported, report_if, run_on, phase_after}
 
 -- ---- a standing block is there whole
 
@@ -49,26 +49,16 @@ fed_whole c h piece room =
 pub end_whole : (c : ℕ) (h : List ℕ) → WholeIf (settle (judged_last c) h).standing (settle (judged_last c) h).rest
 end_whole c h = whole_by (judged_last c) (last_fits c) (settle (judged_last c) h).standing (settle (judged_last c) h).rest (settle_stopped (judged_last c) h)
 
--- ---- a length of 0 says that none stands
-
-pub none_if : (o : Option ℕ) (v : List ℕ) → WholeIf o v → size o ≡ 0 → o ≡ None
-none_if None v w e = refl
-none_if (Some n) v w e = let f : ⊥ = omega (arith, w.eight) in absurd f
-
-pub some_if : (o : Option ℕ) (n : ℕ) → size o ≡ n → (n ≡ 0 → ⊥) → o ≡ Some n
-some_if None n e f = absurd (f (sym e))
-some_if (Some m) n e f = ap Some e
-
 pub phase_is : (o : Option ℕ) (v : List ℕ) → WholeIf o v → phase_by (size o) ≡ phase_after o
 phase_is None v w = refl
-phase_is (Some zero) v w = let f : ⊥ = omega (arith, w.eight) in absurd f
+phase_is (Some zero) v w = absurd (omega (arith, w.eight))
 phase_is (Some (suc n)) v w = refl
 
 -- ---- the run goes on
 
 one_is : (o : Option ℕ) (v : List ℕ) → WholeIf o v → one_by (size o) ≡ one o
 one_is None v w = refl
-one_is (Some zero) v w = let f : ⊥ = omega (arith, w.eight) in absurd f
+one_is (Some zero) v w = absurd (omega (arith, w.eight))
 one_is (Some (suc n)) v w = refl
 
 -- by the numbers that are given back as by what a call did
@@ -95,8 +85,10 @@ id_is v l n w =
 pub report_is : (v l : List ℕ) (p n : ℕ) → Whole n v → report_at (v ++ l) p n ≡ reported p n v
 report_is v l p n w = ap (λ (i : ℕ). record { place = p; number = number_of i; revision = revision_of i; size = n }) (id_is v l n w)
 
-pub whole_some : (o : Option ℕ) (v : List ℕ) (n : ℕ) → WholeIf o v → o ≡ Some n → Whole n v
-whole_some o v n w e = subst (λ (x : Option ℕ). WholeIf x v) e w
+pub standing_is : (o : Option ℕ) (v l : List ℕ) (p : ℕ) → WholeIf o v → standing_by (size o) (v ++ l) p ≡ report_if o p v
+standing_is None v l p w = refl
+standing_is (Some zero) v l p w = absurd (omega (arith, w.eight))
+standing_is (Some (suc n)) v l p w = ap Some (report_is v l p (suc n) w)
 
 -- ---- numbers
 

@@ -1,3 +1,4 @@
 pub mod Feeding
+pub mod Going
 pub mod Giving
 pub mod Emptying

@@ -10,15 +10,14 @@ ghost use Rattle.runs.specs.Calls.{feeding_of, feeding_by, feed_of, finishing_of
 
 mod refusals; // refusals.rt: the refusals of each call, in their order
 
-use reader::{Block, Check, Counts, Phase, State, after};
+use reader::{After, Block, Counts, Phase, State, step};
 use refusal::Refusal;
 
 // How many bytes were taken, with a block or with none.
 #[derive(Clone, Copy)]
-pub enum Fed {
-    Block(usize, Block),
-    More(usize),
-    Refused(Refusal),
+pub struct Fed {
+    pub taken: usize,
+    pub block: Option<Block>,
 }
 
 // A block, or the run's end with its counts.
@@ -26,99 +25,67 @@ pub enum Fed {
 pub enum Finished {
     Block(Block),
     End(Counts),
-    Refused(Refusal),
 }
 
-#[derive(Clone, Copy)]
-pub struct FeedAnswer {
-    pub answer: Fed,
-    pub state: State,
-}
-
-#[derive(Clone, Copy)]
-pub struct FinishAnswer {
-    pub answer: Finished,
-    pub state: State,
-}
-
-fn feed_on(s: State, hold: &mut [u8], piece: &[u8]) -> FeedAnswer
+fn feed_on(s: State, hold: &mut [u8], piece: &[u8]) -> After<Fed>
     requires { feed_refusal s hold.old piece.now ≡ None }
     ensures { outcome (said_fed result.answer) result.state hold.new ≡ feeding_by (feeding_of s hold.old piece.now) s hold.old }
 {
     let run = s.run;
-    let held = run.held;
-    let standing = run.standing;
-    let settings = run.settings;
     let room = 4294967295 - run.counts.taken;
-    let f = feed::feed(settings.ceiling, hold, held, standing, piece, room);
-    let taken = f.taken;
-    let len = f.standing;
-    let next = after::went_on(run, Phase::Feeding, f);
-    let state = after::with_run(s, next);
-    if len == 0 {
-        return FeedAnswer {
-            answer: Fed::More(taken),
-            state,
-        };
-    }
-    let block = after::report_at(hold, next.counts.taken - next.held, len);
-    FeedAnswer {
-        answer: Fed::Block(taken, block),
-        state,
+    let f = feed::feed(
+        run.settings.ceiling,
+        hold,
+        run.held,
+        run.standing,
+        piece,
+        room,
+    );
+    let next = step::went_on(run, Phase::Feeding, f);
+    let block = step::standing_block(next, hold);
+    After {
+        answer: Ok(Fed {
+            taken: f.taken,
+            block,
+        }),
+        state: step::with_run(s, next),
     }
 }
 
 // C6, C7.
-pub fn feed(s: State, hold: &mut [u8], piece: &[u8]) -> FeedAnswer
+pub fn feed(s: State, hold: &mut [u8], piece: &[u8]) -> After<Fed>
     ensures { outcome (said_fed result.answer) result.state hold.new ≡ feed_of s hold.old piece.now }
 {
-    let c = refusals::of_feed(s, hold, piece.len());
-    match c {
-        Check::Refused(why) => FeedAnswer {
-            answer: Fed::Refused(why),
-            state: s,
-        },
-        Check::Passed => feed_on(s, hold, piece),
+    match refusals::of_feed(s, hold, piece.len()) {
+        Err(why) => After::refused(why, s),
+        Ok(()) => feed_on(s, hold, piece),
     }
 }
 
-fn finish_on(s: State, hold: &mut [u8]) -> FinishAnswer
+fn finish_on(s: State, hold: &mut [u8]) -> After<Finished>
     requires { finish_refusal s hold.old ≡ None }
     ensures { outcome (said_finished result.answer) result.state hold.new ≡ finishing_by (finishing_of s hold.old) s hold.old }
 {
     let run = s.run;
-    let held = run.held;
-    let standing = run.standing;
-    let settings = run.settings;
-    let f = feed::finish(settings.ceiling, hold, held, standing);
-    let len = f.standing;
-    let next = after::went_on(run, after::phase_after(len), f);
-    let state = after::with_run(s, next);
-    if len == 0 {
-        let counts = next.counts;
-        return FinishAnswer {
-            answer: Finished::End(counts),
-            state,
-        };
-    }
-    let block = after::report_at(hold, next.counts.taken - next.held, len);
-    FinishAnswer {
-        answer: Finished::Block(block),
-        state,
+    let f = feed::finish(run.settings.ceiling, hold, run.held, run.standing);
+    let next = step::went_on(run, step::phase_after(f.standing), f);
+    let found = match step::standing_block(next, hold) {
+        Some(block) => Finished::Block(block),
+        None => Finished::End(next.counts),
+    };
+    After {
+        answer: Ok(found),
+        state: step::with_run(s, next),
     }
 }
 
 // C8.
-pub fn finish(s: State, hold: &mut [u8]) -> FinishAnswer
+pub fn finish(s: State, hold: &mut [u8]) -> After<Finished>
     ensures { outcome (said_finished result.answer) result.state hold.new ≡ finish_of s hold.old }
 {
-    let c = refusals::of_finish(s, hold.len());
-    match c {
-        Check::Refused(why) => FinishAnswer {
-            answer: Finished::Refused(why),
-            state: s,
-        },
-        Check::Passed => finish_on(s, hold),
+    match refusals::of_finish(s, hold.len()) {
+        Err(why) => After::refused(why, s),
+        Ok(()) => finish_on(s, hold),
     }
 }
 
@@ -127,17 +94,14 @@ pub fn bytes(s: State, hold: &[u8]) -> &[u8]
     ensures result_value { result.now ≡ bytes_of s hold.now }
     ensures ref_ptr_value { result.ref_ptr ≡ hold.entry.ref_ptr }
 {
-    let c = refusals::of_bytes(s, hold.len());
-    let run = s.run;
-    let n = run.standing;
-    match c {
-        Check::Refused(_) => wire::part(hold, 0, 0),
-        Check::Passed => wire::part(hold, 0, n),
+    match refusals::of_bytes(s, hold.len()) {
+        Err(_) => wire::part(hold, 0, 0),
+        Ok(()) => wire::part(hold, 0, s.run.standing),
     }
 }
 
 // R22: whether `bytes` is refused, and why.
-pub fn bytes_refused(s: State, hold: &[u8]) -> Check
+pub fn bytes_refused(s: State, hold: &[u8]) -> Result<(), Refusal>
     ensures { refusal_of result ≡ bytes_refusal s hold.now }
 {
     refusals::of_bytes(s, hold.len())

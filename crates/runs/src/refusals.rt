@@ -6,17 +6,13 @@ ghost use Rattle.scan.specs.Settle.{settle};
 ghost use Rattle.reader.specs.Said.{refusal_of};
 ghost use Rattle.runs.specs.Refusals.{is_feeding, is_some, feed_refusal, finish_refusal, bytes_refusal};
 
-use reader::{Check, Phase, State};
+use reader::{Phase, State};
 use refusal::Refusal;
 
 fn is_feeding(p: Phase) -> bool
     ensures { result ≡ is_feeding p }
 {
-    match p {
-        Phase::Closed => false,
-        Phase::Feeding => true,
-        Phase::Finishing => false,
-    }
+    p == Phase::Feeding
 }
 
 // Whether the held bytes, without the standing block, give a block.
@@ -29,52 +25,46 @@ fn gives_block(ceiling: usize, hold: &[u8], held: usize, standing: usize) -> boo
 }
 
 // Feed, with a piece of so many bytes: 1, 2, 3.
-pub fn of_feed(s: State, hold: &[u8], piece: usize) -> Check
+pub fn of_feed(s: State, hold: &[u8], piece: usize) -> Result<(), Refusal>
     ensures { (v : List ℕ) → length v ≡ piece → refusal_of result ≡ feed_refusal s hold.now v }
 {
     if !reader::may_call(s, hold.len()) {
-        return Check::Refused(Refusal::BadBuffer);
+        return Err(Refusal::BadBuffer);
     }
     let run = s.run;
-    let phase = run.phase;
-    if !is_feeding(phase) {
-        return Check::Refused(Refusal::OutOfTurn);
+    if !is_feeding(run.phase) {
+        return Err(Refusal::OutOfTurn);
     }
     if (run.counts.taken < 4294967295) | (piece == 0) {
-        return Check::Passed;
+        return Ok(());
     }
-    let held = run.held;
-    let standing = run.standing;
-    let settings = run.settings;
-    if gives_block(settings.ceiling, hold, held, standing) {
-        Check::Passed
+    if gives_block(run.settings.ceiling, hold, run.held, run.standing) {
+        Ok(())
     } else {
-        Check::Refused(Refusal::RunFull)
+        Err(Refusal::RunFull)
     }
 }
 
 // Finish, with a hold of so many bytes: 1, 2.
-pub fn of_finish(s: State, hold: usize) -> Check
+pub fn of_finish(s: State, hold: usize) -> Result<(), Refusal>
     ensures { (v : List ℕ) → length v ≡ hold → refusal_of result ≡ finish_refusal s v }
 {
     if !reader::may_call(s, hold) {
-        return Check::Refused(Refusal::BadBuffer);
+        return Err(Refusal::BadBuffer);
     }
-    let run = s.run;
-    let phase = run.phase;
-    if reader::is_closed(phase) {
-        return Check::Refused(Refusal::OutOfTurn);
+    if reader::is_closed(s.run.phase) {
+        return Err(Refusal::OutOfTurn);
     }
-    Check::Passed
+    Ok(())
 }
 
 // Bytes, with a hold of so many bytes: 1.
-pub fn of_bytes(s: State, hold: usize) -> Check
+pub fn of_bytes(s: State, hold: usize) -> Result<(), Refusal>
     ensures { (v : List ℕ) → length v ≡ hold → refusal_of result ≡ bytes_refusal s v }
 {
     if reader::may_call(s, hold) {
-        Check::Passed
+        Ok(())
     } else {
-        Check::Refused(Refusal::BadBuffer)
+        Err(Refusal::BadBuffer)
     }
 }

@@ -1,27 +1,16 @@
 -- `runs::feed` meets its contract: refused, or done.
 -- Assumes nothing.
-use mathlib.Core.Path.{refl, sym, ap, ◌∙◌}
-use Rattle.refusal.specs.Numbers.{number_for}
-use Rattle.reader.specs.Said.{refusal_of}
-use Rattle.runs.specs.Refusals.{feed_refusal}
-use Rattle.runs.specs.Calls.{feeding_by, feeding_of, feed_of}
-use Rattle.reader.proofs.Accepted.{is_refused, is_done}
+use Rattle.std.proofs.Common.{refl, sym}
+use Rattle.runs.specs.Calls.{feed_of}
 use Rattle.runs.proofs.feed.Goals as goal
 
 pub feed_on-requires : goal.feed_on-requires
-feed_on-requires c = sym (c.of_feed-c.ensures _ refl) ∙ ap refusal_of c.in-Passed.is
+feed_on-requires c = sym (c.in-Ok.ensures _ refl)
 
-pub returns-in-Refused : goal.returns-in-Refused
+pub returns-in-Err : goal.returns-in-Err
 unfolding feed_of
-returns-in-Refused c =
-    let a = c.args in
-    is_refused a.s a.hold.now (feeding_by (feeding_of a.s a.hold.now a.piece.now) a.s a.hold.now) (feed_refusal a.s a.hold.now a.piece.now) (number_for c.in-Refused.why)
-    (sym (c.of_feed-c.ensures _ refl) ∙ ap refusal_of c.in-Refused.is)
+returns-in-Err c = rw (sym (c.in-Err.ensures _ refl), c.refused.ensures.0, c.refused.ensures.1)
 
-pub returns-in-Passed : goal.returns-in-Passed
+pub returns-in-Ok : goal.returns-in-Ok
 unfolding feed_of
-returns-in-Passed c =
-    let a = c.args in
-    c.feed_on.ensures
-    ∙ is_done a.s a.hold.now (feeding_by (feeding_of a.s a.hold.now a.piece.now) a.s a.hold.now) (feed_refusal a.s a.hold.now a.piece.now)
-    (sym (c.of_feed-c.ensures _ refl) ∙ ap refusal_of c.in-Passed.is)
+returns-in-Ok c = rw (sym (c.in-Ok.ensures _ refl)) c.feed_on.ensures
