@@ -1,14 +1,16 @@
 // The block table: its check (rules T1 to T20), and the row of a block's number.
 #![tactic(auto)]
 
-ghost use Rattle.std.specs.Prelude.{◌≡◌, true};
-ghost use Rattle.table.specs.Decode.{first_count};
+ghost use Rattle.std.specs.Prelude.{◌≡◌, true, ◌+◌, ◌≤◌};
+ghost use Rattle.table.specs.Decode.{block_of, first_count};
 ghost use Rattle.table.specs.Rules.{table_ok};
 ghost use Rattle.table.specs.Answer.{check_says, check_of};
 ghost use Rattle.table.specs.Lookup.{Finding};
+ghost use Rattle.rows.specs.Places.{field_count};
+ghost use Rattle.table.specs.Shape.{field_of, shape_says};
 ghost use Rattle.table.specs.Theorems.{OneRow};
 
-use rows::Row;
+use rows::{FieldRow, Row};
 
 mod blocks; // blocks.rt: the rules on block rows, and the pass over all rows
 mod fields; // fields.rt: the rules on field rows
@@ -40,6 +42,45 @@ pub fn find(t: &[u8], number: u16) -> Option<Row>
         i += 1;
     }
     None
+}
+
+// A block row by what it says: beside its numbers its field rows as they stand in the table, four bytes each, those of the body and those of
+// sub-blocks, of which the first `firsts` are the first level's.
+#[derive(Clone, Copy)]
+pub struct Shape<'a> {
+    pub number: u16,
+    pub highest: u8,
+    pub body: &'a [[u8; 4]],
+    pub subs: &'a [[u8; 4]],
+    pub firsts: usize,
+}
+
+// T11: a field row, from its bytes.
+pub fn field(bytes: [u8; 4]) -> FieldRow
+    ensures { result ≡ field_of bytes }
+{
+    let [offset, kind, first, mark] = bytes;
+    FieldRow {
+        offset: usize::from(offset),
+        kind,
+        first,
+        mark,
+    }
+}
+
+pub fn shaped(t: &[u8], r: Row) -> Shape<'_>
+    requires { r.start + r.bodies + r.subs ≤ field_count t.now }
+    ensures { shape_says result ≡ block_of t.now r }
+{
+    let (rows, _) = t.as_chunks::<4>();
+    let at = r.start + r.bodies;
+    Shape {
+        number: r.number,
+        highest: r.highest,
+        body: &rows[r.start..at],
+        subs: &rows[at..at + r.subs],
+        firsts: r.firsts,
+    }
 }
 
 // How many field rows the first level of a block row has, or the only one.
