@@ -7,3 +7,4 @@ pub mod Laws
 pub mod Told
 pub mod Levels
 pub mod Chunks
+pub mod FieldRows

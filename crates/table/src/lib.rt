@@ -1,7 +1,7 @@
 // The block table: its check (rules T1 to T20), and the row of a block's number.
 #![tactic(auto)]
 
-ghost use Rattle.std.specs.Prelude.{◌≡◌, true, ◌+◌, ◌≤◌};
+ghost use Rattle.std.specs.Prelude.{◌≡◌, true, ◌+◌, ◌≤◌, ◌<◌};
 ghost use Rattle.table.specs.Decode.{block_of, first_count};
 ghost use Rattle.table.specs.Rules.{table_ok};
 ghost use Rattle.table.specs.Answer.{check_says, check_of};
@@ -57,7 +57,7 @@ pub struct Shape<'a> {
 
 // T11: a field row, from its bytes.
 pub fn field(bytes: [u8; 4]) -> FieldRow
-    ensures { result ≡ field_of bytes }
+    ensures { (result ≡ field_of bytes) × (result.offset < 256) }
 {
     let [offset, kind, first, mark] = bytes;
     FieldRow {
