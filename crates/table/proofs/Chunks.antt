@@ -6,7 +6,8 @@ use Rattle.std.specs.Simd.{first_chunks}
 use Rattle.rows.specs.declared.FieldRow.{FieldRow}
 use Rattle.rows.specs.Places.{field_row, field_at}
 use Rattle.table.specs.Lists.{tabulate}
-use Rattle.table.specs.Shape.{field_of, fields_of}
+use Rattle.rows.specs.Places.{field_of}
+use Rattle.table.specs.Shape.{fields_of}
 
 byte_of : (t : List ℕ) (i j : ℕ) → j < 4 → get_or (take 4 (drop (4 * i) t)) j 0 ≡ get_or t (4 * i + j) 0
 byte_of t i j h = get_or-take 4 (drop (4 * i) t) j 0 h ∙ get_or-drop (4 * i) t j 0

@@ -4,7 +4,8 @@ use Rattle.std.proofs.Common.{◌≡◌, ℕ, zero, suc, ◌+◌, ◌-◌, ◌<�
 use Rattle.std.proofs.Math.ListN.{drop_of_length-le}
 use Rattle.rows.specs.declared.FieldRow.{FieldRow}
 use Rattle.table.specs.Lists.{every, pick}
-use Rattle.table.specs.Shape.{field_of, fields_of}
+use Rattle.rows.specs.Places.{field_of}
+use Rattle.table.specs.Shape.{fields_of}
 
 -- none are left
 pub none_left : (rows : List (List ℕ)) (k : ℕ) → length rows ≤ k → fields_of (drop k rows) ≡ []

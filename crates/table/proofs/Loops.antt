@@ -17,7 +17,8 @@ use Rattle.rows.specs.Places.{field_at, row_at}
 use Rattle.table.specs.Decode.{block_of}
 use Rattle.table.specs.Rules.{is_count, is_pair, is_nested, is_triple, early, nest_ok}
 use Rattle.table.specs.Code.{field_step, field_pass, one_pass, two_pass, block_pass, row_step, row_pass}
-use Rattle.table.specs.Shape.{field_of, fields_of, shape_says}
+use Rattle.rows.specs.Places.{field_of}
+use Rattle.table.specs.Shape.{fields_of, shape_says}
 use Rattle.table.specs.declared.Shape.{Shape}
 use Rattle.std.proofs.Math.ListN.{drop_of_length-le}
 use Rattle.std.proofs.lemmas.List.{take-map, drop-map, length-map}

@@ -1,15 +1,12 @@
 -- What the code's view of a block row says (rules T7, T11, T17): the block row of the decoded table.
 -- Assumes nothing.
-use Rattle.std.specs.Prelude.{List, map, ℕ, get_or}
+use Rattle.std.specs.Prelude.{List, map, ℕ}
 use Rattle.rows.specs.declared.FieldRow.{FieldRow}
-use Rattle.rows.specs.Places.{field_row}
+use Rattle.rows.specs.Places.{field_of}
 use Rattle.table.specs.Rows.{BlockRow}
 use Rattle.table.specs.declared.Shape.{Shape}
 
--- T11: what the four bytes of a field row say
-abbrev pub field_of : List ℕ → FieldRow
-field_of b = field_row (get_or b 0 0) (get_or b 1 0) (get_or b 2 0) (get_or b 3 0)
-
+-- T11: of field rows as they stand, four bytes each
 abbrev pub fields_of : List (List ℕ) → List FieldRow
 fields_of rows = map field_of rows
 

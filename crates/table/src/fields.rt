@@ -1,12 +1,12 @@
 // The rules on field rows (T12 to T16, T20), as they stand: four bytes each.
 ghost use Rattle.std.specs.Prelude.{◌≡◌, ◌<◌};
+ghost use Rattle.rows.specs.Places.{field_of};
 ghost use Rattle.table.specs.Lists.{every};
-ghost use Rattle.table.specs.Shape.{field_of, fields_of};
+ghost use Rattle.table.specs.Shape.{fields_of};
 ghost use Rattle.table.specs.Rules.{is_count, is_pair, is_nested, is_triple, early};
 ghost use Rattle.table.specs.Code.{field_step, field_pass};
 
-use crate::field;
-use rows::FieldRow;
+use rows::{FieldRow, field};
 
 // A field row, where the one before ends at `low` and has the first revision `rev`.
 fn field_ok(f: FieldRow, low: usize, rev: u8, highest: u8) -> bool
@@ -64,9 +64,7 @@ pub fn triple_ok(rows: &[[u8; 4]]) -> bool
 {
     match rows {
         [n, first, second, ..] => {
-            is_count(field(*n), 14)
-                & is_count(field(*first), 15)
-                & is_count(field(*second), 16)
+            is_count(field(*n), 14) & is_count(field(*first), 15) & is_count(field(*second), 16)
         }
         _ => false,
     }

@@ -1,16 +1,17 @@
 // The block table: its check (rules T1 to T20), and the row of a block's number.
 #![tactic(auto)]
 
-ghost use Rattle.std.specs.Prelude.{◌≡◌, true, ◌+◌, ◌≤◌, ◌<◌};
-ghost use Rattle.table.specs.Decode.{block_of, first_count};
+ghost use Rattle.std.specs.Prelude.{◌≡◌, true, min, ◌+◌, ◌≤◌, length};
+ghost use Rattle.table.specs.Decode.{block_of};
+ghost use Rattle.table.specs.Rows.{first_rows, second_rows};
 ghost use Rattle.table.specs.Rules.{table_ok};
 ghost use Rattle.table.specs.Answer.{check_says, check_of};
 ghost use Rattle.table.specs.Lookup.{Finding};
 ghost use Rattle.rows.specs.Places.{field_count};
-ghost use Rattle.table.specs.Shape.{field_of, shape_says};
+ghost use Rattle.table.specs.Shape.{fields_of, shape_says};
 ghost use Rattle.table.specs.Theorems.{OneRow};
 
-use rows::{FieldRow, Row};
+use rows::Row;
 
 mod blocks; // blocks.rt: the rules on block rows, and the pass over all rows
 mod fields; // fields.rt: the rules on field rows
@@ -27,19 +28,17 @@ pub fn check(t: &[u8]) -> Option<u16>
 }
 
 // The row of a block's number, in a table that passes.
-pub fn find(t: &[u8], number: u16) -> Option<Row>
+pub fn find(t: &[u8], number: u16) -> Option<Shape<'_>>
     requires { table_ok t.now ≡ true }
     ensures { Finding t.now number result }
 {
     let count = rows::block_count(t);
     let at = rows::blocks_at(t);
-    let mut i: usize = 0;
-    while i < count {
+    for i in 0..count {
         let r = rows::row_at(t, at, i);
         if r.number == number {
-            return Some(r);
+            return Some(shaped(t, r));
         }
-        i += 1;
     }
     None
 }
@@ -55,20 +54,7 @@ pub struct Shape<'a> {
     pub firsts: usize,
 }
 
-// T11: a field row, from its bytes.
-pub fn field(bytes: [u8; 4]) -> FieldRow
-    ensures { (result ≡ field_of bytes) × (result.offset < 256) }
-{
-    let [offset, kind, first, mark] = bytes;
-    FieldRow {
-        offset: usize::from(offset),
-        kind,
-        first,
-        mark,
-    }
-}
-
-pub fn shaped(t: &[u8], r: Row) -> Shape<'_>
+fn shaped(t: &[u8], r: Row) -> Shape<'_>
     requires { r.start + r.bodies + r.subs ≤ field_count t.now }
     ensures { shape_says result ≡ block_of t.now r }
 {
@@ -83,11 +69,37 @@ pub fn shaped(t: &[u8], r: Row) -> Shape<'_>
     }
 }
 
-// How many field rows the first level of a block row has, or the only one.
-pub fn first_count(r: Row) -> usize
-    ensures { result ≡ first_count r }
+// Where the second level's field rows begin among those of sub-blocks.
+fn split(s: Shape) -> usize
+    ensures { result ≡ min s.entry.firsts (length s.entry.subs.now) }
 {
-    if r.firsts == 0 { r.subs } else { r.firsts }
+    if s.firsts < s.subs.len() {
+        s.firsts
+    } else {
+        s.subs.len()
+    }
+}
+
+// The field rows of the first level, or of the only one.
+pub fn first_rows(s: Shape<'_>) -> &[[u8; 4]]
+    ensures { fields_of result.now ≡ first_rows (shape_says s.entry) }
+{
+    if s.firsts == 0 {
+        s.subs
+    } else {
+        &s.subs[..split(s)]
+    }
+}
+
+// The field rows of the second level.
+pub fn second_rows(s: Shape<'_>) -> &[[u8; 4]]
+    ensures { fields_of result.now ≡ second_rows (shape_says s.entry) }
+{
+    if s.firsts == 0 {
+        &s.subs[..0]
+    } else {
+        &s.subs[split(s)..]
+    }
 }
 
 // A number has one row.
