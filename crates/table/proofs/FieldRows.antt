@@ -1,10 +1,11 @@
 -- Field rows as they stand, four bytes each, and as they are meant: parts of them, one after the other, and what holds of every one.
 -- Assumes nothing.
-use Rattle.std.proofs.Common.{◌≡◌, ℕ, zero, suc, ◌+◌, ◌-◌, ◌<◌, ◌≤◌, Bool, true, false, ◌&&◌, Option, None, Some, List, [], ◌∷◌, map, length, take, drop, get_or, refl, ap, sym, ◌∙◌, arith, drop-cons, add-one}
+use Rattle.std.proofs.Common.{◌≡◌, ℕ, zero, suc, ◌+◌, ◌<◌, ◌≤◌, Bool, true, false, ◌&&◌, None, Some, List, [], ◌∷◌, length, drop, get_or, refl, ap, sym, ◌∙◌, arith, drop-cons, add-one}
 use Rattle.std.proofs.Math.ListN.{drop_of_length-le}
 use Rattle.rows.specs.declared.FieldRow.{FieldRow}
 use Rattle.table.specs.Lists.{every, pick}
 use Rattle.rows.specs.Places.{field_of}
+use Rattle.wire.proofs.Tests.{both}
 use Rattle.table.specs.Shape.{fields_of}
 
 -- none are left
@@ -26,6 +27,13 @@ unfolding pick
 fields_past [] k h = refl
 fields_past (r ∷ rows) zero h = let z : ⊥ = omega arith in absurd z
 fields_past (r ∷ rows) (suc k) h = fields_past rows k (omega arith)
+
+-- what holds of every one holds of each
+pub every_pick : {A : Type 0} (p : A → Bool) (xs : List A) (k : ℕ) (x : A) → every p xs ≡ true → pick xs k ≡ Some x → p x ≡ true
+unfolding every pick
+every_pick p [] k x e h = let z : ⊥ = cc in absurd z
+every_pick p (y ∷ ys) zero x e h = let s : y ≡ x = cc in rw (← s) (both (p y) _ e).0
+every_pick p (y ∷ ys) (suc k) x e h = every_pick p ys k x (both (p y) _ e).1 h
 
 -- a loop over them that asks the same of each: what is left gives the whole
 module _ (p : FieldRow → Bool) (rows : List (List ℕ)) (k : ℕ) (whole : Bool) (inv : whole ≡ every p (fields_of (drop k rows))) where

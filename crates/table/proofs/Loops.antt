@@ -4,7 +4,7 @@ use mathlib.Core.Bool.{Bool, true, false, ◌&&◌, cond, and-false}
 use mathlib.Core.List.{List, [], ◌∷◌}
 use Rattle.std.proofs.Common.{Option, None, Some}
 use mathlib.Core.Path.{◌≡◌, refl, sym, ap, ◌∙◌}
-use Prim.Native.Nat.{ℕ, zero, suc, ◌+◌, ◌-◌, ◌<◌, ◌≤◌}
+use Prim.Native.Nat.{ℕ, ◌+◌, ◌-◌, ◌<◌, ◌≤◌}
 use lib.Dec.{leb, eqb}
 use lib.ListN.{take, drop, get_or, length}
 use native.Mathlib.Omega.{arith}
@@ -13,7 +13,7 @@ use Rattle.rows.specs.declared.FieldRow.{FieldRow}
 use Rattle.rows.specs.declared.Row.{Row}
 use Rattle.table.specs.Lists.{tabulate, every, first_that}
 use Rattle.table.specs.Rows.{ends}
-use Rattle.rows.specs.Places.{field_at, row_at}
+use Rattle.rows.specs.Places.{row_at}
 use Rattle.table.specs.Decode.{block_of}
 use Rattle.table.specs.Rules.{is_count, is_pair, is_nested, is_triple, early, nest_ok}
 use Rattle.table.specs.Code.{field_step, field_pass, one_pass, two_pass, block_pass, row_step, row_pass}
@@ -24,7 +24,7 @@ use Rattle.std.proofs.Math.ListN.{drop_of_length-le}
 use Rattle.std.proofs.lemmas.List.{take-map, drop-map, length-map}
 use Rattle.table.proofs.FieldRows.{none_left, one_left, fields_pick}
 use Rattle.table.proofs.Bools.{last_four}
-use Rattle.table.proofs.Lists.{tab_none, tab-more, length_tab, pick_in, take_tab, drop_tab}
+use Rattle.table.proofs.Lists.{tab_none, tab-more}
 use Rattle.wire.proofs.Tests.{both}
 
 -- field rows

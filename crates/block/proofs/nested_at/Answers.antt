@@ -1,6 +1,6 @@
 -- `block::nested_at` meets its contract: the first level's last row.
 -- Assumes nothing.
-use Rattle.std.proofs.Common.{ap, ◌∙◌, ◌≤◌, arith, lit<}
+use Rattle.std.proofs.Common.{ap, ◌∙◌, arith}
 use Rattle.rows.specs.declared.FieldRow.{FieldRow}
 use Rattle.block.proofs.Blocks.{nested_some, nested_none}
 use Rattle.block.proofs.nested_at.Goals as goal

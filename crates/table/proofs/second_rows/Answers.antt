@@ -1,6 +1,6 @@
 -- `table::second_rows` meets its contract: of one level none, of two those behind the first.
 -- Assumes nothing.
-use Rattle.std.proofs.Common.{◌≡◌, ◌-◌, List, length, take, drop, sym, arith}
+use Rattle.std.proofs.Common.{◌≡◌, ◌-◌, length, take, drop, sym, arith}
 use Rattle.std.proofs.lemmas.Grind.{common_steps}
 use Rattle.std.proofs.lemmas.List.{drop_min, drop-map}
 use borrow.Author.Tests.{ne_eqb}
