@@ -8,6 +8,8 @@ ghost use Rattle.kinds.specs.Marks.{all_ones, minus, seed_type, mark_fits, is_do
 ghost use Rattle.kinds.specs.Grid.{GridHolds};
 ghost use Rattle.kinds.specs.Seed.{SeedHolds};
 
+// A type and a mark are bytes here, as a table has them (T11). A table may have any byte there, and the promises are over every number.
+
 // D7: entry k is the size of type k + 1. Table check, field reader and writer look sizes up here. They are bytes: a constant array is
 // stored anew wherever it is named, and ten bytes are two stores.
 const SIZES: [u8; 10] = [1, 2, 4, 8, 1, 2, 4, 8, 4, 8];
@@ -23,6 +25,7 @@ pub fn size(kind: u8) -> usize
     }
 }
 
+// V1: the three kinds of types.
 fn is_unsigned(kind: u8) -> bool
     ensures { result ≡ is_unsigned kind }
 {
@@ -42,6 +45,7 @@ fn is_float(kind: u8) -> bool
 }
 
 // Whether a type may bear a mark.
+#[tactic(auto, unfolding(crate::specs::Marks::mark_fits))]
 pub fn mark_fits(kind: u8, mark: u8) -> bool
     ensures { result ≡ mark_fits kind mark }
 {
@@ -57,6 +61,7 @@ pub fn mark_fits(kind: u8, mark: u8) -> bool
 }
 
 // The bits that mark 1 names, of a type: all ones in its bytes.
+#[tactic(auto, unfolding(crate::specs::Types::size_of))]
 fn all_ones(kind: u8) -> u64
     ensures { result ≡ all_ones (size_of kind) }
 {
@@ -70,6 +75,7 @@ fn all_ones(kind: u8) -> u64
 }
 
 // The bits that mark 3 names: -2e10 in four bytes, or in eight.
+#[tactic(auto, unfolding(crate::specs::Types::size_of))]
 fn minus_2e10(kind: u8) -> u64
     ensures { result ≡ minus (size_of kind) }
 {
@@ -80,6 +86,7 @@ fn minus_2e10(kind: u8) -> u64
 }
 
 // The bits that mark 4 names: the least signed number in its bytes.
+#[tactic(auto, unfolding(crate::specs::Types::size_of))]
 fn least_bits(kind: u8) -> u64
     ensures { result ≡ half (size_of kind) }
 {
@@ -100,6 +107,7 @@ fn seed_type(x: u64) -> u64
 }
 
 // Whether the bits of a type are its mark's Do-Not-Use.
+#[tactic(auto, unfolding(crate::specs::Marks::is_do_not_use))]
 pub fn is_do_not_use(mark: u8, kind: u8, x: u64) -> bool
     ensures { result ≡ is_do_not_use mark kind x }
 {
