@@ -85,10 +85,9 @@ pub fn first_rows(s: Shape<'_>) -> &[[u8; 4]]
     ensures { fields_of result.now ≡ first_rows (shape_says s.entry) }
 {
     if s.firsts == 0 {
-        s.subs
-    } else {
-        &s.subs[..split(s)]
+        return s.subs;
     }
+    &s.subs[..split(s)]
 }
 
 // The field rows of the second level.
@@ -96,10 +95,9 @@ pub fn second_rows(s: Shape<'_>) -> &[[u8; 4]]
     ensures { fields_of result.now ≡ second_rows (shape_says s.entry) }
 {
     if s.firsts == 0 {
-        &s.subs[..0]
-    } else {
-        &s.subs[split(s)..]
+        return &s.subs[..0];
     }
+    &s.subs[split(s)..]
 }
 
 // A number has one row.

@@ -11,8 +11,8 @@ pub returns-then-s-eq0 : goal.returns-then-s-eq0
 unfolding first_rows
 returns-then-s-eq0 c = rw c.if-s-eq0.true
 
-pub returns-else-s-eq0 : goal.returns-else-s-eq0
+pub returns : goal.returns
 unfolding first_rows
-returns-else-s-eq0 c =
+returns c =
     let s = c.args.s in
     rw (c.split.ensures, take_min s.firsts s.subs.now, ne_eqb s.firsts 0 c.if-s-eq0.false) (sym (take-map field_of s.firsts s.subs.now))

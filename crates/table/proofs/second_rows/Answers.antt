@@ -12,9 +12,9 @@ pub returns-then-s-eq0 : goal.returns-then-s-eq0
 unfolding second_rows
 returns-then-s-eq0 c = rw c.if-s-eq0.true
 
-pub returns-else-s-eq0 : goal.returns-else-s-eq0
+pub returns : goal.returns
 unfolding second_rows
-returns-else-s-eq0 c =
+returns c =
     let s = c.args.s in
     let k = c.split.result in
     let e : take (length s.subs.now - k) (drop k s.subs.now) ≡ drop k s.subs.now = grind (arith, common_steps) in
