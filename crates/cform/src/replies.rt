@@ -24,7 +24,12 @@ pub fn fed_c(a: Result<Fed, Refusal>) -> CAnswer
     ensures { result ≡ answer_c (said_fed a) }
 {
     match a {
-        Ok(Fed { taken, block: Some(b) }) => answers::block_c(taken, b),
+        Ok(
+            Fed {
+                taken,
+                block: Some(b),
+            },
+        ) => answers::block_c(taken, b),
         Ok(Fed { taken, block: None }) => answers::no_block(0, 3, 0, 0, taken),
         Err(why) => answers::refused_c(why),
     }
@@ -54,7 +59,11 @@ pub fn reply(s: CState, next: State, a: CAnswer) -> CReply
     ensures { result ≡ record { state = back_c s (state_of s) next; answer = a } }
 {
     CReply {
-        state: if 2 < s.phase { s } else { states::state_c(next) },
+        state: if 2 < s.phase {
+            s
+        } else {
+            states::state_c(next)
+        },
         answer: a,
     }
 }

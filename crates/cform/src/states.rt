@@ -20,6 +20,7 @@ pub fn settings_back(given: CSettings) -> Settings
 }
 
 // The phase of a number; any other is none.
+#[tactic(auto, unfolding(crate::specs::State::phase_of))]
 fn phase_of(n: usize) -> Option<Phase>
     ensures { result ≡ phase_of n }
 {
