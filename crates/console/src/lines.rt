@@ -11,6 +11,7 @@ const TOO_LONG: usize = 270001;
 
 // The lines of standard input: the last one that was found, the piece that was read last, of which the bytes from `at` to `end`
 // are yet to be looked at, and whether the input has ended.
+#[derive(Drop)]
 pub struct Lines<'a> {
     pub line: &'a mut [u8; 270000],
     piece: &'a mut [u8; 65536],
