@@ -30,7 +30,7 @@ impl Buffers {
         ensures { T (plain result.turn) }
     {
         let values = lists::read(text, &mut self.kinds, &mut self.bits);
-        let k = values.count;
+        let k = values.map_or(0, |v| v.count);
         play::write_call(
             desk,
             values,

@@ -2,7 +2,6 @@
 // docs/REPLAY.md without that word. The table is the file that its argument names, or, without one, the rows shipped.
 #![tactic(auto)]
 
-ghost use Rattle.std.specs.Prelude.{◌≤◌, length};
 ghost use Rattle.std.specs.Counts.{IsPrefixLen};
 
 use console::Failure;
@@ -69,14 +68,16 @@ pub struct Scribe<'a> {
 }
 
 impl Scribe<'_> {
-    // Writes the block of a line, and answers how long it is.
-    fn write_block(&mut self, text: &[u8]) -> Result<usize, Fault>
-        requires { length text.now ≤ 270000 }
-    {
-        let read = lists::read(text, &mut self.kinds, &mut self.bits);
-        if !read.good {
+    // Writes the block of a line of n bytes, and answers how long it is: none for a line that is passed over. A line that is too long
+    // is longer than what is kept of it, and gives no values.
+    fn write_block(&mut self, line: &[u8; 270000], n: usize) -> Result<usize, Fault> {
+        let Some(text) = line.get(..n) else {
             return Err(Fault::NoValues);
+        };
+        if is_passed_over(text) {
+            return Ok(0);
         }
+        let read = lists::read(text, &mut self.kinds, &mut self.bits).ok_or(Fault::NoValues)?;
         let k = read.count;
         let in_force = self.in_force;
         let written = writes::write(
@@ -93,38 +94,25 @@ impl Scribe<'_> {
         }
     }
 
-    // Writes out the block of a line, or tells why there is none.
-    fn play_line(&mut self, rt: &HostRuntime, number: u64, text: &[u8]) -> Result<(), Failure>
-        requires { length text.now ≤ 270000 }
-    {
-        match self.write_block(text) {
-            Ok(n) => {
-                // A block is never longer than its buffer.
-                let whole = n.min(65536);
-                let written = rt.stdout().write_all(&self.block[..whole]);
-                written.or(Err(Failure::Write))
-            }
-            Err(why) => {
-                let _ = eprintln!(rt; "scribe: line {number}: {why}");
-                Ok(())
-            }
-        }
+    // Writes out a block of so many bytes. It is never longer than its buffer.
+    fn put_block(&self, rt: &HostRuntime, n: usize) -> Result<(), Failure> {
+        let whole = n.min(65536);
+        let written = rt.stdout().write_all(&self.block[..whole]);
+        written.or(Err(Failure::Write))
     }
 
-    // Writes line after line. A line that is too long is longer than what is kept of it, and gives no values.
-    fn play_all(&mut self, rt: &HostRuntime, lines: &mut Lines) -> Result<(), Failure> {
+    // Writes line after line, and tells why one makes no block.
+    fn write_all(&mut self, rt: &HostRuntime, lines: &mut Lines) -> Result<(), Failure> {
         // A proved loop has to end, and nothing says that the input does; so many lines are never read.
         for number in 1..u64::MAX {
             let Some(n) = lines.next_line(rt)? else {
                 break;
             };
-            let Some(text) = lines.line.get(..n) else {
-                let why = Fault::NoValues;
-                let _ = eprintln!(rt; "scribe: line {number}: {why}");
-                continue;
-            };
-            if !is_passed_over(text) {
-                self.play_line(rt, number, text)?;
+            match self.write_block(lines.line, n) {
+                Ok(length) => self.put_block(rt, length)?,
+                Err(why) => {
+                    let _ = eprintln!(rt; "scribe: line {number}: {why}");
+                }
             }
         }
         Ok(())
@@ -142,7 +130,7 @@ fn scribe_lines(rt: &HostRuntime, state: State, in_force: &[u8; 8192]) {
         bits: [0u64; 135000],
         block: [0u8; 65536],
     };
-    if let Err(why) = scribe.play_all(rt, &mut lines) {
+    if let Err(why) = scribe.write_all(rt, &mut lines) {
         console::tell(rt, "scribe", why);
     }
 }
@@ -195,6 +183,7 @@ fn read_full(file: &mut File, buf: &mut [u8]) -> usize
     ensures { IsPrefixLen result buf.new }
 {
     let mut done: usize = 0;
+    // The reads say how far it goes on, so no range does.
     while done < buf.len() {
         match file.read(&mut buf[done..]) {
             Ok(0) | Err(_) => return done,
