@@ -9,11 +9,5 @@ pub fn copy_in(out: &mut [u8], at: usize, s: &[u8], b: usize, k: usize)
     requires { (at + k ≤ length out.old) × (b + k ≤ length s.now) }
     ensures { out.new ≡ paste out.old at (drop b s.now) k }
 {
-    let mut j: usize = 0;
-    while j < k {
-        let to = at + j;
-        let from = b + j;
-        out[to] = s[from];
-        j += 1;
-    }
+    out[at..at + k].copy_from_slice(&s[b..b + k]);
 }

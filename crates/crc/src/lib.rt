@@ -42,8 +42,20 @@ fn after_byte(t: &[u16; 256], c: u16, b: u8) -> u16
     requires { Remainders t.now }
     ensures { result ≡ crc_byte c b }
 {
-    let k = ((c >> 8) ^ (b as u16)) as usize;
+    let k = usize::from((c >> 8) ^ u16::from(b));
     (c << 8) ^ t[k]
+}
+
+// The register after the bytes of `s`, through such a table.
+fn after_bytes(t: &[u16; 256], crc: u16, s: &[u8]) -> u16
+    requires { Remainders t.now }
+    ensures { result ≡ crc_from crc s.now }
+{
+    let mut c = crc;
+    for b in s {
+        c = after_byte(t, c, *b);
+    }
+    c
 }
 
 // The register after the bytes of `a` and then of `b`. It asks for the table once: a constant array is stored anew
@@ -52,18 +64,8 @@ pub fn update(crc: u16, a: &[u8], b: &[u8]) -> u16
     ensures { result ≡ crc_from crc (a.now ++ b.now) }
 {
     let t = remainders();
-    let mut c = crc;
-    let mut i: usize = 0;
-    while i < a.len() {
-        c = after_byte(&t, c, a[i]);
-        i += 1;
-    }
-    let mut j: usize = 0;
-    while j < b.len() {
-        c = after_byte(&t, c, b[j]);
-        j += 1;
-    }
-    c
+    let c = after_bytes(&t, crc, a);
+    after_bytes(&t, c, b)
 }
 
 // The CRC of the bytes of `s`.

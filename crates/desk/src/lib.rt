@@ -87,7 +87,6 @@ pub fn sized(b: Desk, buffer: Buffer, n: usize) -> Desk {
         Buffer::InForce => next.in_force = n,
         Buffer::Waiting => next.waiting = n,
         Buffer::Out => next.out = n,
-        Buffer::Unknown => {}
     }
     next
 }
@@ -138,7 +137,6 @@ pub fn poked(b: Desk, part: StateNumber, v: usize) -> Desk {
         StateNumber::Blocks => next.state.run.counts.blocks = v,
         StateNumber::Skipped => next.state.run.counts.skipped = v,
         StateNumber::Ceiling => next.state.run.settings.ceiling = v,
-        StateNumber::Unknown => {}
     }
     next
 }

@@ -1,12 +1,15 @@
 -- A draft by its row: each answer is one law of `draft_ok`.
 -- Assumes nothing.
-use mathlib.Core.Bool.{Bool, true, false, not, ◌&&◌}
-use mathlib.Core.List.{List, []}
-use mathlib.Core.Path.{◌≡◌, refl, sym}
+use mathlib.Core.Bool.{true, false, not}
+use mathlib.Core.List.{List, [], ◌∷◌}
+use mathlib.Core.Path.{◌≡◌, refl}
+use Rattle.std.specs.Bool.{then_some}
+use Rattle.std.proofs.Common.{Option, None, Some}
 use Prim.Native.Nat.{ℕ, ◌+◌, ◌≤◌, ◌<◌}
+use native.Mathlib.Omega.{arith}
 use lib.Dec.{eqb}
 use lib.ListN.{length}
-use borrow.Author.Tests.{le-leb, lt-leb, eqb-true, ne_eqb}
+use borrow.Author.Tests.{le-leb, lt-leb, ne_eqb}
 use Rattle.rows.specs.declared.Row.{Row}
 use Rattle.rows.specs.Places.{field_at}
 use Rattle.table.specs.Lists.{tabulate}
@@ -14,18 +17,16 @@ use Rattle.table.specs.Rows.{BlockRow}
 use Rattle.table.specs.Decode.{block_of}
 use Rattle.table.proofs.Lists.{length_tab}
 use Rattle.block.specs.Block.{has_subs}
-use Rattle.wire.proofs.Tests.{never}
-use Rattle.entry.specs.Wanted.{values_in, subs_in}
+use Rattle.entry.specs.Wanted.{Wanted, subs_in}
 use Rattle.entry.specs.Bits.{list_ok}
-use Rattle.draft.specs.declared.Accepted.{Accepted}
 use Rattle.draft.specs.declared.Head.{Head}
-use Rattle.draft.specs.declared.Walked.{Walked}
 use Rattle.draft.specs.Draft.{draft_of, stamps_ok, body_ok, subs_ok, draft_ok}
-use Rattle.draft.specs.Code.{ListLeft, Resting, Listing, Accepting, Subbing, ListsAccepting}
+use Rattle.draft.specs.Code.{Resting, Listing, subs_from, counted, subs_allowed, lists_counted}
 use Rattle.draft.proofs.Walks.{ends_last}
 
-pub refuses : (ok : Bool) (n m : ℕ) → false ≡ ok → Accepting ok n (record { ok = false; subs = m })
-refuses ok n m e = record { is = e; count = λ y. never y refl }
+none_counted : (ss : List (List Wanted)) → then_some (eqb (length ss) 0) 0 ≡ counted (eqb (length ss) 0) ss
+none_counted [] = refl
+none_counted (s ∷ ss) = rw (ne_eqb (length (s ∷ ss)) 0 (λ e. omega arith))
 
 -- the lists, by a row of a table
 module _ (t : List ℕ) (row : Row) (revision : ℕ) (kinds bits : List ℕ) where
@@ -33,41 +34,44 @@ module _ (t : List ℕ) (row : Row) (revision : ℕ) (kinds bits : List ℕ) whe
   unfolding block_of
   has_subs_lem = rw (length_tab (field_at t) (row.start + row.bodies) row.subs)
 
+  abbrev all_counted : Option ℕ
+  all_counted = lists_counted (block_of t row) revision kinds bits
+
   -- a row without sub-fields: all is in the body
-  plain : (w : Walked) (ok : Bool) → w.ok ≡ ok → (w.ok ≡ true → ListLeft kinds bits 0 w.next)
-      → Accepting (ok && eqb (length (subs_in kinds bits)) 0) (length (subs_in kinds bits)) (record { ok = w.ok && eqb w.next (length kinds); subs = 0 })
-  plain w false e l = rw e (refuses false (length (subs_in kinds bits)) 0 refl)
-  plain w true e l =
-      rw (e, ends_last kinds bits 0 w.next (l e))
-      (record { is = refl; count = λ y. sym (eqb-true (length (subs_in kinds bits)) 0 y) })
-
-  pub lists_plain : row.subs ≡ 0 → (w : Walked) → Listing revision (tabulate (field_at t) row.start row.bodies) kinds bits 0 w
-      → ListsAccepting (block_of t row) revision kinds bits (record { ok = w.ok && eqb w.next (length kinds); subs = 0 })
-  unfolding block_of
-  lists_plain z w l = rw (has_subs_lem, z) (plain w (list_ok revision (tabulate (field_at t) row.start row.bodies) (values_in kinds bits)) l.is l.left)
-
-  module _ (z : row.subs ≡ 0 → ⊥) (w : Walked) (r : Resting kinds 0 w) where
-    pub lists_set : w.ok ≡ false → ListsAccepting (block_of t row) revision kinds bits (record { ok = false; subs = 0 })
+  module _ (z : row.subs ≡ 0) where
+    pub body_not : Listing revision (tabulate (field_at t) row.start row.bodies) kinds bits 0 None → None ≡ all_counted
     unfolding block_of
-    lists_set e = rw (has_subs_lem, ne_eqb row.subs 0 z, ← r.is bits, e) (refuses false _ 0 refl)
+    body_not l = rw (has_subs_lem, z, ← l.is)
 
-    pub lists_subs : w.ok ≡ true → {a : Accepted} → Subbing revision (tabulate (field_at t) (row.start + row.bodies) row.subs) kinds bits w.next a
-        → ListsAccepting (block_of t row) revision kinds bits a
+    pub body_all : {q : ℕ} → Listing revision (tabulate (field_at t) row.start row.bodies) kinds bits 0 (Some q) → then_some (eqb q (length kinds)) 0 ≡ all_counted
     unfolding block_of
-    lists_subs e s = rw (has_subs_lem, ne_eqb row.subs 0 z, ← r.is bits, e, ← (r.left bits e).subs) s
+    body_all {q} l = rw (has_subs_lem, z, ← l.is, ends_last kinds bits 0 q l.left) (none_counted (subs_in kinds bits))
+
+  module _ (z : row.subs ≡ 0 → ⊥) where
+    pub lists_set : Resting kinds 0 None → None ≡ all_counted
+    unfolding block_of
+    lists_set r = rw (has_subs_lem, ne_eqb row.subs 0 z, ← r.is bits)
+
+    pub lists_subs : {q : ℕ} → Resting kinds 0 (Some q) → {a : Option ℕ}
+        → a ≡ counted (subs_allowed (list_ok revision (tabulate (field_at t) (row.start + row.bodies) row.subs)) (subs_from kinds bits q)) (subs_from kinds bits q)
+        → a ≡ all_counted
+    unfolding block_of
+    lists_subs r s = rw (has_subs_lem, ne_eqb row.subs 0 z, ← r.is bits, ← (r.left bits).subs) s
 
 -- the whole draft
 module _ (b : BlockRow) (h : Head) (kinds bits : List ℕ) where
-  pub draft_late : 7 < h.revision → false ≡ draft_ok b (draft_of h kinds bits)
+  abbrev whole_counted : Option ℕ
+  whole_counted = counted (draft_ok b (draft_of h kinds bits)) (draft_of h kinds bits).subs
+
+  pub draft_late : 7 < h.revision → None ≡ whole_counted
   unfolding draft_ok
   draft_late l = rw (lt-leb h.revision 7 l)
 
   module _ (l : h.revision ≤ 7) where
-    pub draft_unstamped : stamps_ok (draft_of h [] []) ≡ false → false ≡ draft_ok b (draft_of h kinds bits)
+    pub draft_unstamped : stamps_ok (draft_of h [] []) ≡ false → None ≡ whole_counted
     unfolding draft_ok stamps_ok
     draft_unstamped e = rw (le-leb h.revision 7 l, e)
 
-    pub draft_listed : stamps_ok (draft_of h [] []) ≡ true → {r : Accepted} → ListsAccepting b h.revision kinds bits r
-        → Accepting (draft_ok b (draft_of h kinds bits)) (length (draft_of h kinds bits).subs) r
+    pub draft_listed : stamps_ok (draft_of h [] []) ≡ true → {r : Option ℕ} → r ≡ lists_counted b h.revision kinds bits → r ≡ whole_counted
     unfolding draft_ok stamps_ok body_ok subs_ok
     draft_listed e a = rw (le-leb h.revision 7 l, e) a

@@ -1,15 +1,13 @@
 -- Working definitions for the code: a walk over the values from a place on, and what its answers say.
 -- Assumes nothing.
-use Rattle.std.specs.Prelude.{ℕ, ◌≤◌, Bool, true, ◌&&◌, cond, List, [], ◌≡◌, leb, eqb, length, drop}
+use Rattle.std.specs.Prelude.{ℕ, ◌≤◌, Bool, ◌&&◌, cond, List, [], ◌≡◌, leb, eqb, length, drop, Option, None, Some, IfSome, is_some}
 use Rattle.rows.specs.declared.FieldRow.{FieldRow}
 use Rattle.table.specs.Lists.{every}
 use Rattle.table.specs.Rows.{BlockRow}
 use Rattle.block.specs.Block.{has_subs}
 use Rattle.entry.specs.Wanted.{Wanted, is_unset, values_in, subs_in}
 use Rattle.entry.specs.Bits.{list_ok}
-use Rattle.draft.specs.declared.Accepted.{Accepted}
 use Rattle.draft.specs.declared.Measured.{Measured}
-use Rattle.draft.specs.declared.Walked.{Walked}
 use Rattle.draft.specs.Draft.{sb_length_by, block_end_by, round_up}
 
 -- the values of the list from p on, and the sub-blocks from there on
@@ -30,34 +28,32 @@ pub record ListLeft (kinds bits : List ℕ) (p q : ℕ) : Type 0 where
   pub stops : Stops kinds bits q
   pub subs : subs_from kinds bits q ≡ subs_from kinds bits p
 
--- whatever the bits are
-pub record Resting (kinds : List ℕ) (p : ℕ) (r : Walked) : Type 0 where
-  pub is : (bits : List ℕ) → r.ok ≡ every is_unset (values_from kinds bits p)
-  pub left : (bits : List ℕ) → r.ok ≡ true → ListLeft kinds bits p r.next
+-- the list that has p has only unset values from there on, and where it ends; whatever the bits are
+pub record Resting (kinds : List ℕ) (p : ℕ) (r : Option ℕ) : Type 0 where
+  pub is : (bits : List ℕ) → is_some r ≡ every is_unset (values_from kinds bits p)
+  pub left : (bits : List ℕ) → IfSome r (ListLeft kinds bits p)
 
-pub record Listing (revision : ℕ) (fs : List FieldRow) (kinds bits : List ℕ) (p : ℕ) (r : Walked) : Type 0 where
-  pub is : r.ok ≡ list_ok revision fs (values_from kinds bits p)
-  pub left : r.ok ≡ true → ListLeft kinds bits p r.next
+-- the values from p on are allowed by these rows, and where the list ends
+pub record Listing (revision : ℕ) (fs : List FieldRow) (kinds bits : List ℕ) (p : ℕ) (r : Option ℕ) : Type 0 where
+  pub is : is_some r ≡ list_ok revision fs (values_from kinds bits p)
+  pub left : IfSome r (ListLeft kinds bits p)
 
--- an answer, and where it is yes so many sub-blocks
-pub record Accepting (ok : Bool) (n : ℕ) (r : Accepted) : Type 0 where
-  pub is : r.ok ≡ ok
-  pub count : r.ok ≡ true → r.subs ≡ n
+-- how many sub-blocks there are, where all is allowed
+abbrev pub counted : Bool → List (List Wanted) → Option ℕ
+counted ok ss = cond ok (Some (length ss)) None
 
-abbrev pub Subbing : ℕ → List FieldRow → List ℕ → List ℕ → ℕ → Accepted → Type 0
-Subbing revision fs kinds bits p r =
-    let ss = subs_from kinds bits p in
-    Accepting (leb (length ss) 255 && every (list_ok revision fs) ss) (length ss) r
+abbrev pub subs_allowed : (List Wanted → Bool) → List (List Wanted) → Bool
+subs_allowed test ss = leb (length ss) 255 && every test ss
 
 -- W4, W5: both parts of R11 that read the lists
-abbrev pub ListsAccepting : BlockRow → ℕ → List ℕ → List ℕ → Accepted → Type 0
-ListsAccepting b revision kinds bits r =
+abbrev pub lists_counted : BlockRow → ℕ → List ℕ → List ℕ → Option ℕ
+lists_counted b revision kinds bits =
     let ws = values_in kinds bits in
     let ss = subs_in kinds bits in
-    Accepting
+    counted
     (cond (has_subs b) (every is_unset ws) (list_ok revision b.body ws)
-    && cond (has_subs b) (leb (length ss) 255 && every (list_ok revision b.subs) ss) (eqb (length ss) 0))
-    (length ss) r
+    && cond (has_subs b) (subs_allowed (list_ok revision b.subs) ss) (eqb (length ss) 0))
+    ss
 
 pub record Sizing (b : BlockRow) (revision n : ℕ) (r : Measured) : Type 0 where
   pub sub : r.sub ≡ sb_length_by b revision n

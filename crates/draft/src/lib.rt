@@ -6,12 +6,15 @@ ghost use Rattle.rows.specs.Places.{field_count, field_at};
 ghost use Rattle.table.specs.Lists.{tabulate};
 ghost use Rattle.table.specs.Decode.{block_of};
 ghost use Rattle.entry.specs.Wanted.{wanted_of};
-ghost use Rattle.entry.specs.Bits.{wanted_ok};
+ghost use Rattle.entry.specs.Bits.{wanted_ok, list_ok};
 ghost use Rattle.draft.specs.Draft.{draft_of, stamps_ok, draft_ok, last_end, sb_length_by};
-ghost use Rattle.draft.specs.Code.{Stops, Resting, Listing, Subbing, ListsAccepting, Accepting, Sizing};
+ghost use Rattle.draft.specs.Code.{Stops, Resting, Listing, subs_from, subs_allowed, lists_counted, counted, Sizing};
 
 use entry::Entry;
 use rows::{FieldRow, Row};
+
+// N is one byte, so a block has at most so many sub-blocks.
+const MOST: usize = 255;
 
 // W1: what a block begins with.
 #[derive(Clone, Copy)]
@@ -22,20 +25,6 @@ pub struct Head {
     pub wnc: Entry,
 }
 
-// Whether the values of a list are allowed, and where the list ended.
-#[derive(Clone, Copy)]
-pub struct Walked {
-    pub ok: bool,
-    pub next: usize,
-}
-
-// Whether a draft is allowed, and how many sub-blocks it has.
-#[derive(Clone, Copy)]
-pub struct Accepted {
-    pub ok: bool,
-    pub subs: usize,
-}
-
 // W7, W9: SBLength, where the last field or sub-block ends, and L.
 #[derive(Clone, Copy)]
 pub struct Measured {
@@ -44,23 +33,19 @@ pub struct Measured {
     pub all: usize,
 }
 
-// The rest of a list, from p on, where all is to be unset.
-pub fn rest_ok(kinds: &[u8], p: usize) -> Walked
+// The rest of a list, from p on, where all is to be unset: where the list ends.
+pub fn rest_ok(kinds: &[u8], p: usize) -> Option<usize>
     requires { p ≤ length kinds.now }
     ensures { Resting kinds.now p result }
 {
-    let mut i = p;
-    while i < kinds.len() {
-        let kind = kinds[i];
-        if kind != 0 {
-            return Walked {
-                ok: kind == 255,
-                next: i,
-            };
+    for i in p..kinds.len() {
+        match kinds[i] {
+            0 => {}
+            255 => return Some(i),
+            _ => return None,
         }
-        i += 1;
     }
-    Walked { ok: true, next: i }
+    Some(kinds.len())
 }
 
 // What is wanted of a field.
@@ -68,13 +53,12 @@ pub fn wanted_ok(f: FieldRow, revision: u8, e: Entry) -> bool
     ensures { result ≡ wanted_ok revision f (wanted_of e.kind e.bits) }
 {
     if f.first <= revision {
-        let b = entry::bits_of(f, e);
-        return b.ok;
+        return entry::bits_of(f, e).is_some();
     }
     e.kind == 0
 }
 
-// The list from p on, for these field rows, count of them from index `at`.
+// The list from p on, for these field rows, count of them from index `at`: where it ends.
 pub fn list_ok(
     table: &[u8],
     at: usize,
@@ -83,26 +67,23 @@ pub fn list_ok(
     kinds: &[u8],
     bits: &[u64],
     p: usize,
-) -> Walked
+) -> Option<usize>
     requires { (at + count ≤ field_count table.now) × (p ≤ length kinds.now) }
     ensures { Listing revision (tabulate (field_at table.now) at count) kinds.now bits.now p result }
 {
-    let mut i: usize = 0;
     let mut next = p;
-    while i < count {
+    for i in 0..count {
         let f = rows::field_at(table, at + i);
         let t = entry::take(kinds, bits, next);
-        let e = t.entry;
-        if !wanted_ok(f, revision, e) {
-            return Walked { ok: false, next };
+        if !wanted_ok(f, revision, t.entry) {
+            return None;
         }
         next = t.next;
-        i += 1;
     }
     rest_ok(kinds, next)
 }
 
-// The sub-blocks' lists from p on, where the first one begins or all has ended.
+// The sub-blocks' lists from p on, where the first one begins or all has ended: how many there are.
 fn subs_ok(
     table: &[u8],
     at: usize,
@@ -111,76 +92,55 @@ fn subs_ok(
     kinds: &[u8],
     bits: &[u64],
     p: usize,
-) -> Accepted
+) -> Option<usize>
     requires { (at + count ≤ field_count table.now) × (p ≤ length kinds.now) × Stops kinds.now bits.now p }
-    ensures { Subbing revision (tabulate (field_at table.now) at count) kinds.now bits.now p result }
+    ensures { result ≡ counted (subs_allowed (list_ok revision (tabulate (field_at table.now) at count)) (subs_from kinds.now bits.now p)) (subs_from kinds.now bits.now p) }
 {
     let mut n: usize = 0;
     let mut next = p;
     while next < kinds.len() {
-        let w = list_ok(table, at, count, revision, kinds, bits, next + 1);
-        if !w.ok | (255 <= n) {
-            return Accepted { ok: false, subs: n };
+        next = list_ok(table, at, count, revision, kinds, bits, next + 1)?;
+        if MOST <= n {
+            return None;
         }
-        next = w.next;
         n += 1;
     }
-    Accepted { ok: true, subs: n }
+    Some(n)
 }
 
 // V8: TOW and WNc.
 fn stamps_ok(h: Head) -> bool
     ensures { result ≡ stamps_ok (draft_of h [] []) }
 {
-    let tow = FieldRow {
-        offset: 8,
-        kind: 3,
-        first: 0,
-        mark: 1,
-    };
-    let wnc = FieldRow {
-        offset: 12,
-        kind: 2,
-        first: 0,
-        mark: 1,
-    };
-    let t = h.tow;
-    let w = h.wnc;
-    wanted_ok(tow, 0, t) & wanted_ok(wnc, 0, w)
+    wanted_ok(rows::TOW, 0, h.tow) && wanted_ok(rows::WNC, 0, h.wnc)
 }
 
 // Body and sub-blocks. Where the row has sub-fields the body's values are all unset; where it has none no sub-block may begin.
-fn lists_ok(table: &[u8], row: Row, revision: u8, kinds: &[u8], bits: &[u64]) -> Accepted
+fn lists_ok(table: &[u8], row: Row, revision: u8, kinds: &[u8], bits: &[u64]) -> Option<usize>
     requires { row.start + row.bodies + row.subs ≤ field_count table.now }
-    ensures { ListsAccepting (block_of table.now row) revision kinds.now bits.now result }
+    ensures { result ≡ lists_counted (block_of table.now row) revision kinds.now bits.now }
 {
     let at = row.start;
     let n = row.bodies;
     let m = row.subs;
     if m == 0 {
-        let w = list_ok(table, at, n, revision, kinds, bits, 0);
-        return Accepted {
-            ok: w.ok & (w.next == kinds.len()),
-            subs: 0,
-        };
+        let end = list_ok(table, at, n, revision, kinds, bits, 0)?;
+        return (end == kinds.len()).then_some(0);
     }
-    let w = rest_ok(kinds, 0);
-    if !w.ok {
-        return Accepted { ok: false, subs: 0 };
-    }
-    subs_ok(table, at + n, m, revision, kinds, bits, w.next)
+    let p = rest_ok(kinds, 0)?;
+    subs_ok(table, at + n, m, revision, kinds, bits, p)
 }
 
-// R11: whether the draft may stand in a block of the row.
-pub fn accepts(table: &[u8], row: Row, h: Head, kinds: &[u8], bits: &[u64]) -> Accepted
+// R11: how many sub-blocks the draft has, where it may stand in a block of the row.
+pub fn accepts(table: &[u8], row: Row, h: Head, kinds: &[u8], bits: &[u64]) -> Option<usize>
     requires { row.start + row.bodies + row.subs ≤ field_count table.now }
-    ensures { Accepting (draft_ok (block_of table.now row) (draft_of h kinds.now bits.now)) (length (draft_of h kinds.now bits.now).subs) result }
+    ensures { result ≡ counted (draft_ok (block_of table.now row) (draft_of h kinds.now bits.now)) (draft_of h kinds.now bits.now).subs }
 {
     if 7 < h.revision {
-        return Accepted { ok: false, subs: 0 };
+        return None;
     }
     if !stamps_ok(h) {
-        return Accepted { ok: false, subs: 0 };
+        return None;
     }
     lists_ok(table, row, h.revision as u8, kinds, bits)
 }
@@ -190,9 +150,7 @@ fn last_end(table: &[u8], at: usize, count: usize, revision: u8, from: usize) ->
     requires { (at + count ≤ field_count table.now) × (from ≤ 65543) }
     ensures { (result ≡ last_end revision from (tabulate (field_at table.now) at count)) × (result ≤ 65543) }
 {
-    let mut i = count;
-    while 0 < i {
-        i -= 1;
+    for i in (0..count).rev() {
         let f = rows::field_at(table, at + i);
         if f.first <= revision {
             return f.offset + kinds::size(f.kind);

@@ -58,8 +58,17 @@ module _ (kinds bits : List ℕ) (p : ℕ) where
       pub subs_go : subs_in (drop p kinds) (drop p bits) ≡ subs_in (drop (p + 1) kinds) (drop (p + 1) bits)
       subs_go = subs_at ∙ rw (ne_eqb kind_here begins e)
 
-      pub takes_one : (x : ℕ) → x ≡ get_or bits p 0 → Taking kinds bits p (record { entry = record { kind = kind_here; bits = x }; next = p + 1 })
-      takes_one x g = record { is = rw (values_go, g); rest = rw values_go; subs = sym subs_go; within = omega arith; onward = omega arith }
+  pub takes_one : (k x : ℕ) → p < length kinds → k ≡ kind_here → (k ≡ begins → ⊥) → x ≡ get_or bits p 0
+      → Taking kinds bits p (record { entry = record { kind = k; bits = x }; next = p + 1 })
+  takes_one k x h e n g =
+      let m : kind_here ≡ begins → ⊥ = λ z. n (e ∙ z) in
+      record {
+        is = rw (values_go h m, g, e);
+        rest = rw (values_go h m);
+        subs = sym (subs_go h m);
+        within = omega arith;
+        onward = omega arith;
+      }
 
   -- nothing is taken where no value stands
   pub takes_none : values_in (drop p kinds) (drop p bits) ≡ [] → p ≤ length kinds

@@ -1,5 +1,4 @@
 pub mod Below
-pub mod Keys
 pub mod Types
 pub mod Marks
 pub mod Unset

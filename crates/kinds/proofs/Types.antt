@@ -5,16 +5,12 @@ use mathlib.Core.Path.{◌≡◌, refl, sym, ap, ◌∙◌}
 use Prim.Native.Nat.{ℕ, suc, ◌-◌, ◌<◌, ◌≤◌}
 use native.Mathlib.Omega.{arith}
 use lib.Dec.{leb}
-use lib.ListN.{get_or, get_or-eq_default}
+use lib.ListN.{get_or-eq_default}
 use borrow.Author.Tests.{leb-true, leb-false}
 use Rattle.kinds.specs.Types.{sizes, size_of}
 use Rattle.kinds.proofs.Below.{all_below, at}
 
-pub size_in : (kind : ℕ) → (kind ≡ 0 → ⊥) → get_or sizes (kind - 1) 0 ≡ size_of kind
-unfolding size_of
-size_in kind h = let e : kind ≡ suc (kind - 1) = omega arith in sym (ap size_of e)
-
-pub size_over : (kind : ℕ) → 10 < kind → 0 ≡ size_of kind
+size_over : (kind : ℕ) → 10 < kind → 0 ≡ size_of kind
 unfolding size_of
 size_over kind h =
     let e : kind ≡ suc (kind - 1) = omega arith in

@@ -2,7 +2,6 @@
 -- with.
 -- Assumes nothing.
 use Rattle.std.specs.Prelude.{Bool, true, false, cond, List, [], ◌∷◌, ◌≡◌, ℕ, ◌-◌, ◌/◌, ◌^◌, ◌<◌, eqb, get_or, Option, None, Some}
-use Rattle.kinds.specs.declared.UnsetAs.{UnsetAs}
 use Rattle.kinds.specs.Types.{u2, size_of, listed, is_unsigned, is_signed, is_float, half}
 
 -- V3: the numbers of the marks
@@ -91,10 +90,6 @@ is_do_not_use mark kind x = (mark_of mark).test (size_of kind) x
 -- W6: what an unset field of a type is written with
 unfoldable pub unset_of : ℕ → ℕ → Option ℕ
 unset_of mark kind = (mark_of mark).unset (size_of kind)
-
--- D9: the same by the code's answer
-abbrev pub unset_says : UnsetAs → Option ℕ
-unset_says u = cond u.can (Some u.bits) None
 
 -- what is written for a mark fits the type, and is told as Do-Not-Use; only a field without a mark cannot be unset
 abbrev pub ReadsUnset : ℕ → ℕ → Option ℕ → Type 0

@@ -3,46 +3,65 @@
 #![tactic(auto)]
 
 ghost use Rattle.std.specs.Prelude.{◌≡◌, ◌≤◌};
-ghost use Rattle.kinds.specs.Types.{size_of, half};
-ghost use Rattle.kinds.specs.Marks.{all_ones, minus, seed_type, mark_fits, is_do_not_use, unset_of, unset_says, UnsetIsTold};
+ghost use Rattle.kinds.specs.Types.{size_of, is_unsigned, is_signed, is_float, half};
+ghost use Rattle.kinds.specs.Marks.{all_ones, minus, seed_type, mark_fits, is_do_not_use, unset_of, UnsetIsTold};
 ghost use Rattle.kinds.specs.Grid.{GridHolds};
 ghost use Rattle.kinds.specs.Seed.{SeedHolds};
+
+// A type and a mark are bytes here, as a table has them (T11). A table may have any byte there, and the promises are over every number.
 
 // D7: entry k is the size of type k + 1. Table check, field reader and writer look sizes up here. They are bytes: a constant array is
 // stored anew wherever it is named, and ten bytes are two stores.
 const SIZES: [u8; 10] = [1, 2, 4, 8, 1, 2, 4, 8, 4, 8];
 
 // The size of a type; 0 where it is not listed.
+#[tactic(auto, unfolding(crate::specs::Types::size_of))]
 pub fn size(kind: u8) -> usize
     ensures { (result ≡ size_of kind) × (result ≤ 8) }
 {
-    if kind == 0 {
-        return 0;
+    match kind {
+        1..=10 => usize::from(SIZES[usize::from(kind - 1)]),
+        _ => 0,
     }
-    if kind <= 10 {
-        let k = (kind - 1) as usize;
-        let n = SIZES[k];
-        return n as usize;
-    }
-    0
+}
+
+// V1: the three kinds of types.
+fn is_unsigned(kind: u8) -> bool
+    ensures { result ≡ is_unsigned kind }
+{
+    matches!(kind, 1..=4)
+}
+
+fn is_signed(kind: u8) -> bool
+    ensures { result ≡ is_signed kind }
+{
+    matches!(kind, 5..=8)
+}
+
+fn is_float(kind: u8) -> bool
+    ensures { result ≡ is_float kind }
+{
+    matches!(kind, 9..=10)
 }
 
 // Whether a type may bear a mark.
+#[tactic(auto, unfolding(crate::specs::Marks::mark_fits))]
 pub fn mark_fits(kind: u8, mark: u8) -> bool
     ensures { result ≡ mark_fits kind mark }
 {
     match mark {
         0 => true,
-        1 => (1 <= kind) & (kind <= 4),
-        2 => (1 <= kind) & (kind <= 4),
-        3 => (9 <= kind) & (kind <= 10),
-        4 => (5 <= kind) & (kind <= 8),
+        1 => is_unsigned(kind),
+        2 => is_unsigned(kind),
+        3 => is_float(kind),
+        4 => is_signed(kind),
         5 => kind == 2,
         _ => false,
     }
 }
 
 // The bits that mark 1 names, of a type: all ones in its bytes.
+#[tactic(auto, unfolding(crate::specs::Types::size_of))]
 fn all_ones(kind: u8) -> u64
     ensures { result ≡ all_ones (size_of kind) }
 {
@@ -56,6 +75,7 @@ fn all_ones(kind: u8) -> u64
 }
 
 // The bits that mark 3 names: -2e10 in four bytes, or in eight.
+#[tactic(auto, unfolding(crate::specs::Types::size_of))]
 fn minus_2e10(kind: u8) -> u64
     ensures { result ≡ minus (size_of kind) }
 {
@@ -66,6 +86,7 @@ fn minus_2e10(kind: u8) -> u64
 }
 
 // The bits that mark 4 names: the least signed number in its bytes.
+#[tactic(auto, unfolding(crate::specs::Types::size_of))]
 fn least_bits(kind: u8) -> u64
     ensures { result ≡ half (size_of kind) }
 {
@@ -86,6 +107,7 @@ fn seed_type(x: u64) -> u64
 }
 
 // Whether the bits of a type are its mark's Do-Not-Use.
+#[tactic(auto, unfolding(crate::specs::Marks::is_do_not_use))]
 pub fn is_do_not_use(mark: u8, kind: u8, x: u64) -> bool
     ensures { result ≡ is_do_not_use mark kind x }
 {
@@ -99,33 +121,18 @@ pub fn is_do_not_use(mark: u8, kind: u8, x: u64) -> bool
     }
 }
 
-// What an unset field is written with, where it can be unset.
-#[derive(Clone, Copy)]
-pub struct UnsetAs {
-    pub can: bool,
-    pub bits: u64,
-}
-
-fn can_be(bits: u64) -> UnsetAs
-    ensures { unset_says result ≡ Some bits }
-{
-    UnsetAs { can: true, bits }
-}
-
-// W6: the bits of a field's mark; a field without one cannot be unset.
-pub fn unset_bits(mark: u8, kind: u8) -> UnsetAs
-    ensures { unset_says result ≡ unset_of mark kind }
+// W6: what an unset field is written with: the bits of its mark; a field without one cannot be unset.
+#[tactic(auto, unfolding(crate::specs::Marks::unset_of))]
+pub fn unset_bits(mark: u8, kind: u8) -> Option<u64>
+    ensures { result ≡ unset_of mark kind }
 {
     match mark {
-        1 => can_be(all_ones(kind)),
-        2 => can_be(0),
-        3 => can_be(minus_2e10(kind)),
-        4 => can_be(least_bits(kind)),
-        5 => can_be(0),
-        _ => UnsetAs {
-            can: false,
-            bits: 0,
-        },
+        1 => Some(all_ones(kind)),
+        2 => Some(0),
+        3 => Some(minus_2e10(kind)),
+        4 => Some(least_bits(kind)),
+        5 => Some(0),
+        _ => None,
     }
 }
 

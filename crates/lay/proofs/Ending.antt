@@ -1,7 +1,7 @@
 -- The list that has a place, and where it ends.
 -- Assumes nothing.
 use mathlib.Core.List.{List}
-use mathlib.Core.Path.{◌≡◌, refl, sym, ◌∙◌}
+use mathlib.Core.Path.{◌≡◌, refl, sym, subst, ◌∙◌}
 use Prim.Native.Nat.{ℕ, ◌+◌, ◌≤◌, ◌<◌}
 use native.Mathlib.Omega.{arith}
 use lib.ListN.{length, get_or}
@@ -28,5 +28,7 @@ module _ (kinds : List ℕ) (p : ℕ) where
     pub ends_begun : i < length kinds → get_or kinds i 0 ≡ begins → Ending kinds p i
     ends_begun h e bits = record { onward = inv.onward; within = inv.within; stops = values_stop kinds bits i h e; subs = inv.subs bits }
 
-    pub ends_all : length kinds ≤ i → Ending kinds p i
-    ends_all h bits = record { onward = inv.onward; within = inv.within; stops = values_end kinds bits i h; subs = inv.subs bits }
+    pub ends_all : length kinds ≤ i → Ending kinds p (length kinds)
+    ends_all h =
+        let e : i ≡ length kinds = let w = inv.within in omega arith in
+        subst (Ending kinds p) e (λ bits. record { onward = inv.onward; within = inv.within; stops = values_end kinds bits i h; subs = inv.subs bits })

@@ -12,13 +12,12 @@ use Rattle.table.specs.Rows.{ends}
 use Rattle.draft.specs.Draft.{last_end}
 use Rattle.lay.specs.Code.{in_order}
 use Rattle.lay.proofs.Laying.{order_rest, order_skip, last_put, last_skip, at_last}
-use Rattle.lay.proofs.Low.{none_some}
 
 module _ (revision : ℕ) where
   -- it holds them
   pub last_holds : (at : ℕ) (fs : List FieldRow) → in_order at fs ≡ true → (i : ℕ) (g : FieldRow) → pick fs i ≡ Some g → g.first ≤ revision → ends g ≤ last_end revision at fs
   unfolding pick
-  last_holds at [] e i g p h = none_some p
+  last_holds at [] e i g p h = cc
   last_holds at (f ∷ fs) e zero g p h =
       let q : f ≡ g = cc p in
       let c : f.first ≤ revision = subst (λ (x : FieldRow). x.first ≤ revision) (sym q) h in

@@ -13,8 +13,7 @@ use lib.IntN.{pos, negsuc}
 use borrow.Author.Tests.{ltb-true, leb-true, lt-ltb, le-ltb}
 use Rattle.wire.proofs.Tests.{lt?, eq?, both}
 use Rattle.kinds.specs.Types.{f4, f8, i1, i8, size_of, is_unsigned, is_signed, half}
-use Rattle.kinds.specs.declared.UnsetAs.{UnsetAs}
-use Rattle.kinds.specs.Marks.{is_do_not_use, unset_of, unset_says}
+use Rattle.kinds.specs.Marks.{is_do_not_use}
 use Rattle.rows.specs.declared.FieldRow.{FieldRow}
 use Rattle.value.specs.Bits.{with_sign}
 use Rattle.table.specs.Lists.{is_some}
@@ -34,14 +33,10 @@ little_over (suc k) n m =
     let d : (n + 256 ^ suc k * m) / 256 ≡ n / 256 + q = omega arith in
     ap₂ (λ (x : ℕ) (y : List ℕ). x ∷ y) r (ap (little_bytes k) d ∙ little_over k (n / 256) m)
 
--- none is not some
-pub none_some : {X : Type 0} {A : Type 0} {x : A} → ◌≡◌ {A = Option A} None (Some x) → X
-none_some e = let z : ◌≡◌ {A = ℕ} 0 1 = cc in let f : ⊥ = omega arith in absurd f
-
 -- where a test decides that there is something, it holds
 pub only_if : {A : Type 0} (b : Bool) (o : Option A) {x : A} → cond b o None ≡ Some x → (b ≡ true) × (o ≡ Some x)
 only_if true o e = (refl, e)
-only_if false o e = none_some e
+only_if false o e = cc
 
 same_unsigned : (size n y : ℕ) → unsigned_bits size n ≡ Some y → n ≡ y
 same_unsigned size n y e = cc (only_if (ltb n (256 ^ size)) (Some n) e).1
@@ -50,7 +45,7 @@ not_marked : (f : FieldRow) (o : Option ℕ) (y : ℕ) → unless_marked f o ≡
 not_marked f None y e = e
 not_marked f (Some x) y e = by (is_do_not_use f.mark f.kind x) e where
   by : (b : Bool) → cond b None (Some x) ≡ Some y → Some x ≡ Some y
-  by true g = none_some g
+  by true g = cc
   by false g = g
 
 -- a negative number in 64 bits, and in fewer: 256 ^ k * m more make 2 ^ 64
@@ -99,24 +94,14 @@ module _ (f : FieldRow) (x y : ℕ) (w : x < 2 ^ 64) where
       ap (little_bytes (size_of f.kind)) (same_unsigned 4 x y (only_if (eqb f.kind f4) _ (not_marked f _ y e)).1)
   low_bytes (suc (suc (suc (suc zero)))) n e =
       ap (little_bytes (size_of f.kind)) (same_unsigned 8 x y (only_if (eqb f.kind f8) _ (not_marked f _ y e)).1)
-  low_bytes (suc (suc (suc (suc (suc k))))) n e = none_some (not_marked f _ y e)
+  low_bytes (suc (suc (suc (suc (suc k))))) n e = cc
 
 -- what is there is there
 there : (o : Option ℕ) → is_some o ≡ true → o ≡ Some (unwrap_or o 0)
-there None e = let z : ◌≡◌ {A = ℕ} 0 1 = ap (λ (b : Bool). cond b 1 0) e in let f : ⊥ = omega arith in absurd f
+there None e = cc
 there (Some x) e = refl
 
-by_answer : (b : Bool) (x y : ℕ) → cond b (Some x) None ≡ Some y → x ≡ y
-by_answer true x y e = cc
-by_answer false x y e = none_some e
-
--- what `given` finds, of an entry that is unset and of one that is not
-module _ (f : FieldRow) (k x : ℕ) (a : is_some (bits_of f (wanted_of k x)) ≡ true) where
-  pub given_unset : k ≡ 0 → (u : UnsetAs) → unset_says u ≡ unset_of f.mark f.kind → little_bytes (size_of f.kind) u.bits ≡ field_out f (wanted_of k x)
-  unfolding wanted_of bits_of
-  given_unset e u g =
-      let o : unset_of f.mark f.kind ≡ Some (unwrap_or (unset_of f.mark f.kind) 0) = there (unset_of f.mark f.kind) (rw e at a) in
-      rw e (ap (little_bytes (size_of f.kind)) (by_answer u.can u.bits _ (g ∙ o)))
-
-  pub given_value : (k ≡ 0 → ⊥) → x < 2 ^ 64 → little_bytes (size_of f.kind) x ≡ field_out f (wanted_of k x)
-  given_value n w = low_bytes f x (unwrap_or (bits_of f (wanted_of k x)) 0) w k n (there (bits_of f (wanted_of k x)) a)
+-- what `given` finds, of an entry that is not unset
+pub given_value : (f : FieldRow) (k x : ℕ) → is_some (bits_of f (wanted_of k x)) ≡ true → (k ≡ 0 → ⊥) → x < 2 ^ 64
+    → little_bytes (size_of f.kind) x ≡ field_out f (wanted_of k x)
+given_value f k x a n w = low_bytes f x (unwrap_or (bits_of f (wanted_of k x)) 0) w k n (there (bits_of f (wanted_of k x)) a)

@@ -28,13 +28,13 @@ pub struct Laid {
 
 // Of an entry that is allowed: bits whose low bytes are the field's. Those of a value are as they were given: above the field's own bytes a
 // negative number has ones, and any other zeros.
+#[tactic(auto, unfolding(entry::specs::Wanted::wanted_of, entry::specs::Bits::bits_of))]
 pub fn given(f: FieldRow, e: Entry) -> u64
     requires { is_some (bits_of f (wanted_of e.kind e.bits)) ≡ true }
     ensures { little_bytes (size_of f.kind) result ≡ field_out f (wanted_of e.kind e.bits) }
 {
     if e.kind == 0 {
-        let u = kinds::unset_bits(f.mark, f.kind);
-        return u.bits;
+        return kinds::unset_bits(f.mark, f.kind).unwrap_or(0);
     }
     e.bits
 }
@@ -58,14 +58,12 @@ pub fn list_end(kinds: &[u8], p: usize) -> usize
     requires { p ≤ length kinds.now }
     ensures { Ending kinds.now p result }
 {
-    let mut i = p;
-    while i < kinds.len() {
+    for i in p..kinds.len() {
         if kinds[i] == 255 {
             return i;
         }
-        i += 1;
     }
-    i
+    kinds.len()
 }
 
 // The carried ones of these field rows, count of them from index `at`, with the values from p on; offsets count from `base`, and the
@@ -89,18 +87,15 @@ pub fn fields(
     ensures end_value { result.end ≡ last_end revision from (tabulate (field_at table.now) at count) }
     ensures out_after { out.new ≡ sets out.old (base + from) (laid revision from (tabulate (field_at table.now) at count) (values_from kinds.now bits.now p)) }
 {
-    let mut i: usize = 0;
     let mut next = p;
     let mut end = from;
-    while i < count {
+    for i in 0..count {
         let f = rows::field_at(table, at + i);
         let t = entry::take(kinds, bits, next);
-        let e = t.entry;
         if f.first <= revision {
-            end = field(out, base, end, f, e);
+            end = field(out, base, end, f, t.entry);
         }
         next = t.next;
-        i += 1;
     }
     Laid {
         next: list_end(kinds, next),

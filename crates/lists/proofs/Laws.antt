@@ -2,7 +2,7 @@
 -- Assumes nothing.
 use Prim.Native.Nat.{ℕ, suc, ◌+◌, ◌-◌, ◌≤◌, ◌<◌}
 use mathlib.Core.Path.{◌≡◌, refl, sym, ap, ap₂, ◌∙◌}
-use mathlib.Core.Bool.{Bool, true, false, ◌&&◌}
+use mathlib.Core.Bool.{Bool, true, false}
 use mathlib.Core.List.{List, [], ◌∷◌, ◌++◌, append_assoc, append-nil}
 use Rattle.std.proofs.Common.{Option, None, Some}
 use native.Mathlib.Numerals.{add-one}
@@ -12,11 +12,11 @@ use lib.ListN.{length, take, drop, get_or, set, length-drop, drop_of_length-le}
 use lib.Seq.{length-take-le, drop-drop, get_or-drop, take-suc-set}
 use borrow.Author.Tests.{ltb-true, ltb-false, le-leb, lt-leb}
 use Rattle.words.specs.Words.{up_to, decimal_in}
-use Rattle.words.specs.Values.{value_in, stamp_in, kind_says}
+use Rattle.words.specs.Values.{value_in, stamp_in}
 use Rattle.words.proofs.Valuing.{rest_whole, value_empty}
 use Rattle.draft.specs.declared.Head.{Head}
-use Rattle.lists.specs.Line.{TwoLists, into_first, words_of, value_before, lists_in, entry_of, head_by, head_in, both_in, line_in}
-use Rattle.lists.specs.Code.{word_at, behind_word, words_from, head_says, lists_say, line_says}
+use Rattle.lists.specs.Line.{TwoLists, into_first, words_of, value_before, lists_in, head_by, head_in, both_in, line_in}
+use Rattle.lists.specs.Code.{word_at, behind_word, words_from}
 
 -- ---- the first word of a text
 
@@ -163,14 +163,6 @@ module _ (s : List ℕ) where
   unfolding head_in
   head_words = rw (word_0, word_of 1 p1 behind_1, word_of 2 p2 behind_2, word_of 3 p3 behind_3)
 
-pub stamped : (n r k x l y : ℕ) (a b : Bool)
-    → head_says (a && b) (record { number = n; revision = r; tow = entry_of (k, x); wnc = entry_of (l, y) })
-    ≡ head_by (Some n) (Some r) (kind_says a k x) (kind_says b l y)
-stamped n r k x l y true true = refl
-stamped n r k x l y true false = refl
-stamped n r k x l y false true = refl
-stamped n r k x l y false false = refl
-
 pub same_head : {a b c d : Option ℕ} {k l m n : Option (ℕ × ℕ)} → a ≡ b → c ≡ d → k ≡ l → m ≡ n → head_by a c k m ≡ head_by b d l n
 same_head {a} {b} {c} {d} {k} {l} {m} {n} e f g h =
     ap₂ (λ (x y : Option ℕ). head_by x y k m) e f ∙ ap₂ (λ (x y : Option (ℕ × ℕ)). head_by b d x y) g h
@@ -225,11 +217,6 @@ lists_end s p ks xs h = rw (words_past s p h) (ap₂ (λ (a b : List ℕ). Some 
 
 -- ---- the line
 
-pub both : (a b : Bool) (h : Head) (ks xs : List ℕ) → line_says (a && b) h ks xs ≡ both_in (head_says a h) (lists_say b ks xs)
-both true true h ks xs = refl
-both true false h ks xs = refl
-both false b h ks xs = refl
-
 -- the four words of the head, each at the place behind the one before it, as the code reckons it
 module _ (s v w x y : List ℕ) (ev : v ≡ word_at s 0) (ew : w ≡ word_at s (length v + 1)) (ex : x ≡ word_at s (length v + 1 + length w + 1))
     (ey : y ≡ word_at s (length v + 1 + length w + 1 + length x + 1)) where
@@ -254,13 +241,12 @@ module _ (s v w x y : List ℕ) (ev : v ≡ word_at s 0) (ew : w ≡ word_at s (
   place_4 : length v + 1 + length w + 1 + length x + 1 + length y + 1 ≡ behind_word s (p3 s)
   place_4 = omega (arith, place_3, ap length at_3)
 
-  pub line_read : (a b : Bool) (h : Head) (ks xs : List ℕ)
-      → head_says a h ≡ head_by (decimal_in v) (decimal_in w) (stamp_in x) (stamp_in y)
-      → lists_say b ks xs ≡ lists_in (words_from s (length v + 1 + length w + 1 + length x + 1 + length y + 1))
-      → line_says (a && b) h ks xs ≡ line_in s
+  pub line_read : (o : Option Head) (l : Option TwoLists)
+      → o ≡ head_by (decimal_in v) (decimal_in w) (stamp_in x) (stamp_in y)
+      → l ≡ lists_in (words_from s (length v + 1 + length w + 1 + length x + 1 + length y + 1))
+      → both_in o l ≡ line_in s
   unfolding line_in
-  line_read a b h ks xs e f =
-      both a b h ks xs
-      ∙ ap₂ both_in
+  line_read o l e f =
+      ap₂ both_in
       (e ∙ same_head (ap decimal_in ev) (ap decimal_in at_1) (ap stamp_in at_2) (ap stamp_in at_3) ∙ sym (head_words s))
       (f ∙ ap (λ (p : ℕ). lists_in (words_from s p)) place_4 ∙ ap lists_in (sym (behind_4 s)))

@@ -1,12 +1,16 @@
 -- Runs of stores: one more store, one run behind or before another, and how long a number's bytes are.
 -- Assumes nothing.
-use mathlib.Core.List.{List, [], ◌∷◌, ◌++◌, append_assoc}
+use mathlib.Core.List.{List, [], ◌∷◌, ◌++◌, append_assoc, append-nil}
 use mathlib.Core.Path.{◌≡◌, refl, sym, ap, ◌∙◌}
 use Prim.Native.Nat.{ℕ, zero, suc, ◌+◌, ◌-◌, ◌/◌, ◌%◌, ◌<◌, ◌≤◌}
 use native.Mathlib.Nat.{add-zero}
 use native.Mathlib.Omega.{arith}
-use lib.ListN.{length, take, drop, set, replicate}
+use lib.ListN.{length, take, drop, set, length-drop}
+use borrow.Rule.Slice.PartMut.{put_mid}
 use lib.Seq.{sets, sets-eq, set_comm, length-take-le, drop_at, take-append_seam}
+use Rattle.std.proofs.lemmas.List.{take_all, take_more_set}
+use Rattle.std.proofs.lemmas.Slice.{put_mid-paste}
+use Rattle.std.proofs.lemmas.List.Edits.{paste_all}
 use Rattle.pen.specs.Bytes.{little_bytes}
 
 pub length_little : (k n : ℕ) → length (little_bytes k n) ≡ k
@@ -41,34 +45,26 @@ module _ {A : Type 0} where
       rw (sets-eq xs l i h, append_assoc, drop_at (take i l) (xs ++ drop (i + length xs) l) i (length-take-le i l (omega arith)))
       (take-append_seam xs (drop (i + length xs) l))
 
--- a loop that stores: what is left gives the whole
-pub stores_more : (whole out : List ℕ) (at j v : ℕ) (vs rest : List ℕ) → sets out (at + j) vs ≡ whole → vs ≡ v ∷ rest
-    → sets (set out (at + j) v) (at + (j + 1)) rest ≡ whole
-stores_more whole out at j v vs rest inv e =
-    let n : at + (j + 1) ≡ suc (at + j) = omega arith in
-    rw n (sym (ap (sets out (at + j)) e) ∙ inv)
+-- a part of a buffer has as many bytes as were asked for
+pub length_part : (s : List ℕ) (at n : ℕ) → at + n ≤ length s → length (take (at + n - at) (drop at s)) ≡ n
+length_part s at n h = let e = length-drop at s in length-take-le (at + n - at) (drop at s) (omega arith) ∙ omega arith
 
-pub stores_done : (whole out : List ℕ) (at j : ℕ) (vs : List ℕ) → sets out (at + j) vs ≡ whole → vs ≡ [] → out ≡ whole
-stores_done whole out at j vs inv e = sym (ap (sets out (at + j)) e) ∙ inv
+-- a part of a buffer that holds other bytes now: they were stored there
+pub mid_stored : (out : List ℕ) (at k : ℕ) (ys vs : List ℕ) → at + length vs ≤ length out → k ≡ length vs → ys ≡ vs → put_mid at k out ys ≡ sets out at vs
+mid_stored out at k ys vs h e f =
+    put_mid-paste at k out ys vs (length vs) f (sym e) refl ∙ paste_all out at vs (length vs) refl
+    ∙ sym (sets-eq vs out at h ∙ append_assoc (take at out) vs (drop (at + length vs) out))
 
-module _ (k j : ℕ) (h : j < k) where
-  left : k - j ≡ suc (k - (j + 1))
-  left = omega arith
-
-  pub little_next : (x : ℕ) → little_bytes (k - j) x ≡ x % 256 ∷ little_bytes (k - (j + 1)) (x / 256)
+-- the k bytes of x, one more of them stored in `part`, and of what is left of x the others
+module _ (k x : ℕ) (part : List ℕ) (j rest : ℕ) (inv : take j part ++ little_bytes (k - j) rest ≡ little_bytes k x) where
+  pub little_more : j < k → j < length part → take (j + 1) (set part j (rest % 256)) ++ little_bytes (k - (j + 1)) (rest / 256) ≡ little_bytes k x
   unfolding little_bytes
-  little_next x = rw left
+  little_more h l =
+      let e : k - j ≡ suc (k - (j + 1)) = omega arith in
+      rw (take_more_set part j (rest % 256) l, append_assoc) (rw e at inv)
 
-  pub zeros-next : replicate {A = ℕ} (k - j) 0 ≡ 0 ∷ replicate (k - (j + 1)) 0
-  zeros-next = rw left
-
-module _ (k j : ℕ) (h : k ≤ j) where
-  none_left : k - j ≡ 0
-  none_left = omega arith
-
-  pub little_end : (x : ℕ) → little_bytes (k - j) x ≡ []
+  pub little_all : k ≤ j → length part ≤ j → part ≡ little_bytes k x
   unfolding little_bytes
-  little_end x = rw none_left
-
-  pub zeros-end : replicate {A = ℕ} (k - j) 0 ≡ []
-  zeros-end = rw none_left
+  little_all h l =
+      let e : k - j ≡ 0 = omega arith in
+      sym (take_all _ part l) ∙ sym (append-nil (take j part)) ∙ rw e at inv

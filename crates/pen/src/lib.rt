@@ -12,12 +12,9 @@ pub fn little(out: &mut [u8], at: usize, size: usize, x: u64)
     ensures { out.new ≡ sets out.old at (little_bytes size x) }
 {
     let mut rest = x;
-    let mut j: usize = 0;
-    while j < size {
-        let to = at + j;
-        out[to] = (rest % 256) as u8;
-        rest = rest / 256;
-        j += 1;
+    for byte in out[at..at + size].iter_mut() {
+        *byte = (rest % 256) as u8;
+        rest /= 256;
     }
 }
 
@@ -26,12 +23,7 @@ pub fn zeros(out: &mut [u8], at: usize, n: usize)
     requires { at + n ≤ length out.old }
     ensures { out.new ≡ sets out.old at (replicate n 0) }
 {
-    let mut j: usize = 0;
-    while j < n {
-        let to = at + j;
-        out[to] = 0;
-        j += 1;
-    }
+    out[at..at + n].fill(0);
 }
 
 // Over a block that has the rest: ID and L, then the sync pair and the CRC of all from ID on.
@@ -44,5 +36,5 @@ pub fn seal(out: &mut [u8], id: u64, all: usize)
     let done: &[u8] = out;
     let crc = crc::crc_of(&done[4..all]);
     little(out, 0, 2, 0x4024);
-    little(out, 2, 2, crc as u64);
+    little(out, 2, 2, u64::from(crc));
 }

@@ -16,7 +16,7 @@ use desk::{AskReply, Crcs, Desk, PartCrc, RunReply};
 use lists::LineRead;
 use reader::{Check, Settings, State};
 use record::{Answer, Handed};
-use script::{Ask, Buffer, CeilingWord, LineCall, RunCall};
+use script::{Ask, Buffer, LineCall, RunCall};
 use tables::OpenAnswer;
 
 // What a line came to: nothing to print, a bad line, or what its call replied.
@@ -62,21 +62,21 @@ fn ran(state: State, reply: RunReply) -> Played
 }
 
 // What a run is to go by: an `open` without a number gives the default settings, whatever the state has.
-fn settings_by(word: CeilingWord) -> Settings
-    ensures { result ≡ settings_by word }
+fn settings_by(ceiling: Option<u64>) -> Settings
+    ensures { result ≡ settings_by ceiling }
 {
-    match word {
-        CeilingWord::Absent => reader::default_settings(),
-        CeilingWord::Given(n) => Settings {
+    match ceiling {
+        None => reader::default_settings(),
+        Some(n) => Settings {
             ceiling: n as usize,
         },
     }
 }
 
-fn open(s: State, word: CeilingWord, force: &mut [u8], waiting: &[u8]) -> OpenAnswer
-    ensures { outcome (said_opened result.answer) result.state force.new ≡ open_of s (settings_by word) force.old waiting.now }
+fn open(s: State, ceiling: Option<u64>, force: &mut [u8], waiting: &[u8]) -> OpenAnswer
+    ensures { outcome (said_opened result.answer) result.state force.new ≡ open_of s (settings_by ceiling) force.old waiting.now }
 {
-    tables::open(s, settings_by(word), force, waiting)
+    tables::open(s, settings_by(ceiling), force, waiting)
 }
 
 // A call that may write, on what it is lent of each buffer.
@@ -91,8 +91,8 @@ fn run_on(
     ensures { T (plain result.turn) }
 {
     match run {
-        RunCall::Open(word) => {
-            let r = open(s, word, force, waiting);
+        RunCall::Open(ceiling) => {
+            let r = open(s, ceiling, force, waiting);
             let answer = r.answer;
             ran(r.state, replies::opened(answer))
         }
@@ -234,7 +234,7 @@ fn put(
         Buffer::Hold => desk::written(hold, offset, bytes),
         Buffer::InForce => desk::written(force, offset, bytes),
         Buffer::Waiting => desk::written(waiting, offset, bytes),
-        _ => false,
+        Buffer::Out => false,
     }
 }
 
@@ -267,7 +267,7 @@ pub fn call(
 // line could not be read nothing is called.
 pub fn write_call(
     b: Desk,
-    line: LineRead,
+    line: Option<LineRead>,
     kinds: &[u8],
     bits: &[u64],
     force: &[u8],
@@ -275,10 +275,9 @@ pub fn write_call(
 ) -> Played
     ensures { T (plain result.turn) }
 {
-    if !line.good {
+    let Some(LineRead { head, .. }) = line else {
         return quiet(b, false);
-    }
-    let head = line.head;
+    };
     let f = desk::lent(b.in_force, force);
     let o = desk::lent(b.out, out);
     let answer = writes::write(b.state, &force[..f], head, kinds, bits, &mut out[..o]);

@@ -14,6 +14,20 @@ pub struct FieldRow {
     pub mark: u8,
 }
 
+// V8: TOW and WNc, which every block has at 8 and at 12, by the rows that they would have: a u4 and a u2, with mark 1.
+pub const TOW: FieldRow = FieldRow {
+    offset: 8,
+    kind: 3,
+    first: 0,
+    mark: 1,
+};
+pub const WNC: FieldRow = FieldRow {
+    offset: 12,
+    kind: 2,
+    first: 0,
+    mark: 1,
+};
+
 // T7, a block row as it stands: `bodies` and `subs` are its counts of body rows and of sub-field rows, `start` is the index of
 // its first field row, `firsts` the count of first-level rows among the sub-field rows (T17).
 #[derive(Clone, Copy)]

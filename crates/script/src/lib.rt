@@ -1,10 +1,7 @@
-// A script's lines: each is read as a call. Its first word says which, and the words behind it are read as that call asks. Words are
-// matched by their keys (`words::keys_hold`).
+// A script's lines: each is read as a call. Its first word says which, and the words behind it are read as that call asks.
 #![tactic(auto)]
 
-ghost use Rattle.std.specs.Prelude.{◌≤◌, ◌≡◌, length};
-
-use words::{Decimal, Decoded};
+ghost use Rattle.std.specs.Prelude.{◌≤◌, ◌≡◌, length, IfSome};
 
 #[derive(Clone, Copy)]
 pub enum Buffer {
@@ -12,7 +9,6 @@ pub enum Buffer {
     InForce,
     Waiting,
     Out,
-    Unknown,
 }
 
 // A number of the state, as `poke` names it.
@@ -27,20 +23,12 @@ pub enum StateNumber {
     Blocks,
     Skipped,
     Ceiling,
-    Unknown,
 }
 
-// The word behind `open`: a line may have none.
-#[derive(Clone, Copy)]
-pub enum CeilingWord {
-    Absent,
-    Given(u64),
-}
-
-// The calls after which the CRCs of the buffers are printed.
+// The calls after which the CRCs of the buffers are printed. A line may have a ceiling behind `open`, or none.
 #[derive(Clone, Copy)]
 pub enum RunCall {
-    Open(CeilingWord),
+    Open(Option<u64>),
     Feed,
     Finish,
     Stage,
@@ -83,27 +71,15 @@ pub struct Asked {
     pub behind: usize,
 }
 
-// A word of a line: its key, its value as a number, and where the text behind its space begins. `leads` says that it is a number with
-// more behind it, `ends` that it is one and the line ends with it.
+// A word of a line, and where the text behind its space begins. `leads` is its value where it is a number with more behind it, `ends`
+// where it is one and the line ends with it.
 #[derive(Clone, Copy)]
-struct Word {
-    key: u64,
-    number: u64,
+struct Word<'a> {
+    text: &'a [u8],
     next: usize,
     is_last: bool,
-    leads: bool,
-    ends: bool,
-}
-
-// Whether a word is a number, and which.
-#[derive(Clone, Copy)]
-struct Number(bool, u64);
-
-fn as_number(d: Decimal) -> Number {
-    match d {
-        Decimal::Value(n) => Number(true, n),
-        Decimal::NoNumber => Number(false, 0),
-    }
+    leads: Option<u64>,
+    ends: Option<u64>,
 }
 
 // Behind the space at the end of a word, or the end of the line.
@@ -114,146 +90,128 @@ fn behind(end: usize, length: usize) -> usize
     if end < length { end + 1 } else { length }
 }
 
-fn word_at(line: &[u8], from: usize) -> Word
+fn word_at(line: &[u8], from: usize) -> Word<'_>
     requires { from ≤ length line.now }
     ensures { (from ≤ result.next) × (result.next ≤ length line.now) }
 {
-    let text = &line[from..];
-    let e = words::word_end(text);
-    let word = &text[..e];
-    let parsed = as_number(words::number(word));
-    let is_last = e == text.len();
+    let rest = &line[from..];
+    let e = words::word_end(rest);
+    let text = &rest[..e];
+    let number = words::number(text);
+    let is_last = e == rest.len();
     Word {
-        key: words::key(word),
-        number: parsed.1,
+        text,
         next: behind(from + e, line.len()),
         is_last,
-        leads: parsed.0 & !is_last,
-        ends: parsed.0 & is_last,
+        leads: if is_last { None } else { number },
+        ends: if is_last { number } else { None },
     }
 }
 
-fn buffer_of(key: u64) -> Buffer {
-    match key {
-        0x686f6c64 => Buffer::Hold, // hold
-        0x666f726365 => Buffer::InForce, // force
-        0x77616974696e67 => Buffer::Waiting, // waiting
-        0x6f7574 => Buffer::Out, // out
-        _ => Buffer::Unknown,
-    }
-}
-
-fn number_named(key: u64) -> StateNumber {
-    match key {
-        0x7068617365 => StateNumber::Phase, // phase
-        0x666f726365 => StateNumber::InForce, // force
-        0x7761697473 => StateNumber::Waiting, // waits
-        0x68656c64 => StateNumber::Held, // held
-        0x7374616e6473 => StateNumber::Standing, // stands
-        0x74616b656e => StateNumber::Taken, // taken
-        0x626c6f636b73 => StateNumber::Blocks, // blocks
-        0x736b6970706564 => StateNumber::Skipped, // skipped
-        0x6365696c696e67 => StateNumber::Ceiling, // ceiling
-        _ => StateNumber::Unknown,
-    }
-}
-
-fn is_known(b: Buffer) -> bool {
-    match b {
-        Buffer::Unknown => false,
-        _ => true,
+fn buffer_of(word: &[u8]) -> Option<Buffer> {
+    match word {
+        b"hold" => Some(Buffer::Hold),
+        b"force" => Some(Buffer::InForce),
+        b"waiting" => Some(Buffer::Waiting),
+        b"out" => Some(Buffer::Out),
+        _ => None,
     }
 }
 
 // Bytes are put into the reader's buffers, and not into the one that Write writes.
-fn can_put(b: Buffer) -> bool {
-    match b {
-        Buffer::Out => false,
-        Buffer::Unknown => false,
-        _ => true,
+fn buffer_to_put(word: &[u8]) -> Option<Buffer> {
+    match buffer_of(word)? {
+        Buffer::Out => None,
+        buffer => Some(buffer),
+    }
+}
+
+fn number_named(word: &[u8]) -> Option<StateNumber> {
+    match word {
+        b"phase" => Some(StateNumber::Phase),
+        b"force" => Some(StateNumber::InForce),
+        b"waits" => Some(StateNumber::Waiting),
+        b"held" => Some(StateNumber::Held),
+        b"stands" => Some(StateNumber::Standing),
+        b"taken" => Some(StateNumber::Taken),
+        b"blocks" => Some(StateNumber::Blocks),
+        b"skipped" => Some(StateNumber::Skipped),
+        b"ceiling" => Some(StateNumber::Ceiling),
+        _ => None,
     }
 }
 
 // A phase is 0, 1 or 2.
-fn can_poke(part: StateNumber, v: u64) -> bool {
-    match part {
-        StateNumber::Unknown => false,
-        StateNumber::Phase => v <= 2,
-        _ => true,
+fn poke_of(word: &[u8], v: u64) -> Option<LineCall> {
+    match number_named(word)? {
+        StateNumber::Phase if 2 < v => None,
+        part => Some(LineCall::Poke(part, v)),
     }
 }
 
-// A call as far as it is read without its bytes: behind how many words they begin, 0 where it is given none.
+// `open` alone on its line, or with a number behind it.
+fn open_of(first: Word, second: Word) -> Option<RunCall> {
+    if first.is_last {
+        return Some(RunCall::Open(None));
+    }
+    Some(RunCall::Open(Some(second.ends?)))
+}
+
+// A call that is lent nothing to write, and where the bytes that it is given begin: `body FIELD HEX`, `sub SUBBLOCK FIELD HEX`,
+// `subbytes SUBBLOCK HEX`, `sub2 SUBBLOCK NESTED FIELD HEX`, `range SUBBLOCK HEX`, `range2 SUBBLOCK NESTED HEX`.
+fn ask_of(first: Word, second: Word, third: Word, fourth: Word) -> Option<(Ask, Option<usize>)>
+    requires { (first.next ≤ second.next) × (second.next ≤ third.next) × (third.next ≤ fourth.next) }
+    ensures { IfSome result (λ a. IfSome a.1 (λ from. from ≤ fourth.entry.next)) }
+{
+    let n = second.leads;
+    let m = third.leads;
+    match first.text {
+        b"bytes" if first.is_last => Some((Ask::Bytes, None)),
+        b"tow" if !first.is_last => Some((Ask::Tow, Some(first.next))),
+        b"wnc" if !first.is_last => Some((Ask::Wnc, Some(first.next))),
+        b"body" => Some((Ask::Body(n?), Some(second.next))),
+        b"subbytes" => Some((Ask::SubBytes(n?), Some(second.next))),
+        b"sub" => Some((Ask::Sub(n?, m?), Some(third.next))),
+        b"sub2" => Some((Ask::Sub2(n?, m?, fourth.leads?), Some(fourth.next))),
+        b"range" => Some((Ask::Range(n?), Some(second.next))),
+        b"range2" => Some((Ask::Range2(n?, m?), Some(third.next))),
+        _ => None,
+    }
+}
+
+// A call as far as it is read without its bytes, and where they begin; none where it is given none.
 #[derive(Clone, Copy)]
 struct Head {
     call: LineCall,
-    words: u8,
+    bytes: Option<usize>,
 }
 
-fn whether(holds: bool, call: LineCall, words: u8) -> Head {
-    if holds {
-        return Head { call, words };
-    }
-    Head {
-        call: LineCall::Bad,
-        words: 0,
-    }
-}
-
-// `open` alone on its line, or with the number n behind it.
-fn opened_by(alone: bool, n: u64) -> RunCall {
-    if alone {
-        return RunCall::Open(CeilingWord::Absent);
-    }
-    RunCall::Open(CeilingWord::Given(n))
-}
-
-// A call by its first word, with the three words behind it as that call asks: `open [CEILING]`, `body FIELD HEX`,
-// `sub SUBBLOCK FIELD HEX`, `subbytes SUBBLOCK HEX`, `sub2 SUBBLOCK NESTED FIELD HEX`, `range SUBBLOCK HEX`,
-// `range2 SUBBLOCK NESTED HEX`, `poke NAME VALUE`, `put hold|force|waiting OFFSET HEX`, `size hold|force|waiting|out N`.
-fn begun(first: Word, second: Word, third: Word, fourth: Word) -> Head {
-    let key = first.key;
-    let alone = first.is_last;
-    let part = number_named(second.key);
-    let buffer = buffer_of(second.key);
-    let n = second.number;
-    let m = third.number;
-    let both = second.leads & third.leads;
-    let sub2 = LineCall::Ask(Ask::Sub2(n, m, fourth.number));
-    match key {
-        0x6f70656e => whether(alone | second.ends, LineCall::Run(opened_by(alone, n)), 0), // open
-        0x66696e697368 => whether(alone, LineCall::Run(RunCall::Finish), 0), // finish
-        0x7769746864726177 => whether(alone, LineCall::Run(RunCall::Withdraw), 0), // withdraw
-        0x6279746573 => whether(alone, LineCall::Ask(Ask::Bytes), 0), // bytes
-        0x66656564 => whether(!alone, LineCall::Run(RunCall::Feed), 1), // feed
-        0x7374616765 => whether(!alone, LineCall::Run(RunCall::Stage), 1), // stage
-        0x746f77 => whether(!alone, LineCall::Ask(Ask::Tow), 1), // tow
-        0x776e63 => whether(!alone, LineCall::Ask(Ask::Wnc), 1), // wnc
-        0x626f6479 => whether(second.leads, LineCall::Ask(Ask::Body(n)), 2), // body
-        0x7375626279746573 => whether(second.leads, LineCall::Ask(Ask::SubBytes(n)), 2), // subbytes
-        0x737562 => whether(both, LineCall::Ask(Ask::Sub(n, m)), 3), // sub
-        0x73756232 => whether(both & fourth.leads, sub2, 4), // sub2
-        0x72616e6765 => whether(second.leads, LineCall::Ask(Ask::Range(n)), 2), // range
-        0x72616e676532 => whether(both, LineCall::Ask(Ask::Range2(n, m)), 3), // range2
-        0x7772697465 => whether(!alone, LineCall::Write, 0), // write
-        0x706f6b65 => whether(third.ends & can_poke(part, m), LineCall::Poke(part, m), 0), // poke
-        0x707574 => whether(third.leads & can_put(buffer), LineCall::Put(buffer, m), 3), // put
-        0x73697a65 => whether(third.ends & is_known(buffer), LineCall::Size(buffer, m), 0), // size
-        _ => whether(false, LineCall::Bad, 0),
-    }
-}
-
-// Where the bytes begin: behind the first word, the second, the third or the fourth.
-fn start(words: u8, first: usize, second: usize, third: usize, fourth: usize) -> usize
-    requires { (first ≤ second) × (second ≤ third) × (third ≤ fourth) }
-    ensures { result ≤ fourth }
+// A call by its first word, with the three words behind it as that call asks: `open [CEILING]`, `poke NAME VALUE`,
+// `put hold|force|waiting OFFSET HEX`, `size hold|force|waiting|out N`.
+fn begun(first: Word, second: Word, third: Word, fourth: Word) -> Option<Head>
+    requires { (first.next ≤ second.next) × (second.next ≤ third.next) × (third.next ≤ fourth.next) }
+    ensures { IfSome result (λ h. IfSome h.bytes (λ from. from ≤ fourth.entry.next)) }
 {
-    match words {
-        1 => first,
-        2 => second,
-        3 => third,
-        _ => fourth,
-    }
+    let alone = first.is_last;
+    let (call, bytes) = match first.text {
+        b"open" => (LineCall::Run(open_of(first, second)?), None),
+        b"finish" if alone => (LineCall::Run(RunCall::Finish), None),
+        b"withdraw" if alone => (LineCall::Run(RunCall::Withdraw), None),
+        b"feed" if !alone => (LineCall::Run(RunCall::Feed), Some(first.next)),
+        b"stage" if !alone => (LineCall::Run(RunCall::Stage), Some(first.next)),
+        b"write" if !alone => (LineCall::Write, None),
+        b"poke" => (poke_of(second.text, third.ends?)?, None),
+        b"put" => (
+            LineCall::Put(buffer_to_put(second.text)?, third.leads?),
+            Some(third.next),
+        ),
+        b"size" => (LineCall::Size(buffer_of(second.text)?, third.ends?), None),
+        _ => {
+            let (ask, bytes) = ask_of(first, second, third, fourth)?;
+            (LineCall::Ask(ask), bytes)
+        }
+    };
+    Some(Head { call, bytes })
 }
 
 // A call that is given no bytes.
@@ -267,41 +225,31 @@ fn bare(call: LineCall, behind: usize) -> Asked
     }
 }
 
-// A call whose last word is read as bytes.
-fn with_bytes(call: LineCall, read: Decoded, behind: usize) -> Asked
-    requires { read.count ≤ 135000 }
-    ensures { (result.count ≤ 135000) × (result.behind ≡ behind) }
-{
-    if read.is_hex {
-        return Asked {
-            call,
-            count: read.count,
-            behind,
-        };
-    }
-    bare(LineCall::Bad, behind)
-}
-
 // A line without its line feed; the bytes that the call is given go to the start of `given`.
 pub fn read(line: &[u8], given: &mut [u8; 135000]) -> Asked
     requires { length line.now ≤ 270000 }
     ensures { (result.count ≤ 135000) × (result.behind ≤ length line.now) }
 {
-    if line.len() == 0 {
-        return bare(LineCall::Pass, 0);
-    }
-    if line[0] == b'#' {
+    if matches!(line, [] | [b'#', ..]) {
         return bare(LineCall::Pass, 0);
     }
     let first = word_at(line, 0);
     let second = word_at(line, first.next);
     let third = word_at(line, second.next);
     let fourth = word_at(line, third.next);
-    let head = begun(first, second, third, fourth);
-    let call = head.call;
-    if head.words == 0 {
-        return bare(call, first.next);
+    let behind = first.next;
+    let Some(head) = begun(first, second, third, fourth) else {
+        return bare(LineCall::Bad, behind);
+    };
+    let Some(from) = head.bytes else {
+        return bare(head.call, behind);
+    };
+    match words::bytes(&line[from..], given) {
+        Some(count) => Asked {
+            call: head.call,
+            count,
+            behind,
+        },
+        None => bare(LineCall::Bad, behind),
     }
-    let from = start(head.words, first.next, second.next, third.next, fourth.next);
-    with_bytes(call, words::bytes(&line[from..], given), first.next)
 }

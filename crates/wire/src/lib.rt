@@ -10,7 +10,17 @@ ghost use Rattle.wire.specs.Parts.{offset_by};
 pub fn pair(low: u8, high: u8) -> u16
     ensures { result ≡ low + 256 * high }
 {
-    (low as u16) + 256 * (high as u16)
+    u16::from_le_bytes([low, high])
+}
+
+// The N bytes at `at`.
+fn bytes<const N: usize>(s: &[u8], at: usize) -> [u8; N]
+    requires { at + N ≤ length s.now }
+    ensures { result ≡ take N (drop at s.now) }
+{
+    let mut there = [0; N];
+    there.copy_from_slice(&s[at..at + N]);
+    there
 }
 
 // The two bytes at `at`.
@@ -18,7 +28,7 @@ pub fn u2(s: &[u8], at: usize) -> u16
     requires { at + 2 ≤ length s.now }
     ensures { result ≡ little_at 2 s.now at }
 {
-    pair(s[at], s[at + 1])
+    u16::from_le_bytes(bytes(s, at))
 }
 
 // The four bytes at `at`.
@@ -26,7 +36,7 @@ pub fn u4(s: &[u8], at: usize) -> u32
     requires { at + 4 ≤ length s.now }
     ensures { result ≡ little_at 4 s.now at }
 {
-    (u2(s, at) as u32) + 65536 * (u2(s, at + 2) as u32)
+    u32::from_le_bytes(bytes(s, at))
 }
 
 // The eight bytes at `at`.
@@ -34,7 +44,7 @@ pub fn u8(s: &[u8], at: usize) -> u64
     requires { at + 8 ≤ length s.now }
     ensures { result ≡ little_at 8 s.now at }
 {
-    (u4(s, at) as u64) + 4294967296 * (u4(s, at + 4) as u64)
+    u64::from_le_bytes(bytes(s, at))
 }
 
 // So many bytes from `at` on, where they stand: every part that a call hands back is made here.

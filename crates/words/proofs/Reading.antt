@@ -1,59 +1,40 @@
 -- Reading a word from left to right: one law for each step of each loop, over plain lists.
 -- Assumes nothing.
-use mathlib.Core.Path.{◌≡◌, refl, sym, ap, ap₂, ◌∙◌}
-use mathlib.Core.Bool.{Bool, true, false, cond, not, ◌&&◌, ◌||◌, false≢true, and-eq-true_iff}
-use mathlib.Mathlib.Data.Bool.Basic.{or-eq-false-eq-eq-false-and-eq-false}
+use mathlib.Core.Path.{◌≡◌, refl, sym, ap, ◌∙◌}
+use mathlib.Core.Bool.{Bool, true, false, cond, not}
 use mathlib.Core.List.{List, [], ◌∷◌, ◌++◌, append_assoc, append-nil}
 use Rattle.std.proofs.Common.{Option, None, Some}
-use Prim.Native.Nat.{ℕ, suc, ◌+◌, ◌-◌, ◌*◌, ◌/◌, ◌^◌, ◌≤◌, ◌<◌}
-use native.Mathlib.Nat.{pow-succ', pow-le-pow_right}
+use Prim.Native.Nat.{ℕ, ◌+◌, ◌*◌, ◌^◌, ◌≤◌, ◌<◌}
+use native.Mathlib.Nat.{pow-succ'}
 use native.Mathlib.Numerals.{add-one}
 use native.Mathlib.Omega.{arith}
 use lib.ListN.{length, take, drop, get_or, set, drop_of_length-le}
-use lib.Dec.{eqb, leb, ltb}
+use lib.Dec.{eqb, ltb}
 use lib.Seq.{drop-cons, take-suc-set}
-use borrow.Author.Tests.{eqb-true, eqb-false, eq-eqb, ne_eqb, leb-true, le-leb, lt-leb, ltb-true, ltb-false, lt-ltb, le-ltb}
-use Rattle.words.specs.Words.{up_to, key_from, key_of, add_digit, number_then, decimal_in, hex_digit, in_front, bytes_say, bytes_from, bytes_in}
-
--- below a range or above it
-low : (l c : ℕ) (t : Bool) → ltb c l ≡ t → leb l c ≡ not t
-low l c true e = lt-leb l c (ltb-true c l e)
-low l c false e = le-leb l c (ltb-false c l e)
-
-out : (a b : Bool) → (a || b) ≡ true → (not a && not b) ≡ false
-out true b e = refl
-out false true e = refl
-out false false e = absurd (false≢true e)
-
-outside : (l c h : ℕ) → (ltb c l || ltb h c) ≡ true → (leb l c && leb c h) ≡ false
-outside l c h e = ap₂ ◌&&◌ (low l c (ltb c l) refl) (low c h (ltb h c) refl) ∙ out (ltb c l) (ltb h c) e
+use Rattle.std.specs.List.{position, position_or_len}
+use Rattle.std.proofs.Common.{unwrap_or}
+use Rattle.std.proofs.lemmas.List.Sums.{prefix_len-le-length}
+use Rattle.std.proofs.lemmas.Bool.Decides.{nat_tests}
+use Rattle.std.proofs.lemmas.List.Recursion.{is_position_or_len}
+use native.Mathlib.Numerals.{one-add}
+use borrow.Author.Tests.{eq-eqb, ne_eqb, le-ltb}
+use Rattle.words.specs.Words.{up_to, key_from, key_of, add_digit, number_then, decimal_in, hex_digit, in_front, bytes_from, bytes_in}
 
 at_cons : (s : List ℕ) (i : ℕ) → i < length s → drop i s ≡ get_or s i 0 ∷ drop (i + 1) s
 at_cons s i h = rw (add-one, drop-cons s i 0)
 
-module _ (b : ℕ) (s : List ℕ) (i : ℕ) where
-  pub up_here : i < length s → get_or s i 0 ≡ b → up_to b (drop i s) ≡ 0
-  unfolding up_to
-  up_here h e = ap (up_to b) (at_cons s i h) ∙ rw (eq-eqb (get_or s i 0) b e)
+found : (n m : ℕ) → n ≤ m → n ≡ unwrap_or (cond (ltb n m) (Some n) None) m
+found n m h = grind (arith, nat_tests)
 
-  pub up_more : i < length s → (get_or s i 0 ≡ b → ⊥) → up_to b (drop i s) ≡ suc (up_to b (drop (i + 1) s))
-  unfolding up_to
-  up_more h n = ap (up_to b) (at_cons s i h) ∙ rw (ne_eqb (get_or s i 0) b n)
-
-  pub up_end : length s ≤ i → up_to b (drop i s) ≡ 0
-  unfolding up_to
-  up_end h = rw (drop_of_length-le s h)
-
--- a word of less than eight bytes leaves room for one more
-pub key_room : (k i : ℕ) → i < 8 → k < 256 ^ i → k < 256 ^ 7
-key_room k i h l = let p : 256 ^ i ≤ 256 ^ 7 = pow-le-pow_right {n = 256} (omega arith) {i = i} {j = 7} (omega arith) in omega arith
+-- the first space of a text, or its end, as `position` gives it
+pub up_is : (w : List ℕ) → up_to 32 w ≡ unwrap_or (position (λ c. eqb c 32) w) (length w)
+unfolding up_to
+up_is w =
+    let f : ℕ = position_or_len (λ c. eqb c 32) w in
+    is_position_or_len (up_to 32) (λ c. eqb c 32) refl (λ c s. rw one-add) w ∙ found f (length w) (prefix_len-le-length (λ c. not (eqb c 32)) w)
 
 pub key_grows : (k c i : ℕ) → k < 256 ^ i → c < 256 → k * 256 + c < 256 ^ (i + 1)
 key_grows k c i l h = let p : 256 ^ (i + 1) ≡ 256 * 256 ^ i = rw add-one (pow-succ' 256 i) in omega arith
-
-pub key_long : (w : List ℕ) → 8 < length w → key_of w ≡ 0
-unfolding key_of
-key_long w h = rw (lt-ltb 8 (length w) h)
 
 pub key_short : (w : List ℕ) → length w ≤ 8 → key_of w ≡ key_from 0 w
 unfolding key_of
@@ -72,23 +53,6 @@ module _ (w : List ℕ) (i k : ℕ) where
   unfolding key_from
   key_end h = rw (drop_of_length-le w h)
 
-module _ (v c : ℕ) where
-  -- below `0` or above `9`
-  pub no_digit : (ltb c 48 || ltb 57 c) ≡ true → add_digit v c ≡ None
-  unfolding add_digit
-  no_digit e = ap (λ (t : Bool). cond (t && leb (v * 10 + (c - 48)) 18446744073709551615) (Some (v * 10 + (c - 48))) None) (outside 48 c 57 e)
-
-  pub a_digit : (ltb c 48 || ltb 57 c) ≡ false → (48 ≤ c) × (c ≤ 57)
-  a_digit e = let n = (or-eq-false-eq-eq-false-and-eq-false (ltb c 48) (ltb 57 c)).0 e in (ltb-false c 48 n.0, ltb-false 57 c n.1)
-
-  pub digit_over : 48 ≤ c → c ≤ 57 → 18446744073709551615 < v * 10 + (c - 48) → add_digit v c ≡ None
-  unfolding add_digit
-  digit_over h k l = rw (le-leb 48 c h, le-leb c 57 k, lt-leb (v * 10 + (c - 48)) 18446744073709551615 l)
-
-  pub digit_fits : 48 ≤ c → c ≤ 57 → v * 10 + (c - 48) ≤ 18446744073709551615 → add_digit v c ≡ Some (v * 10 + (c - 48))
-  unfolding add_digit
-  digit_fits h k l = rw (le-leb 48 c h, le-leb c 57 k, le-leb (v * 10 + (c - 48)) 18446744073709551615 l)
-
 pub then_none : (w : List ℕ) → number_then w None ≡ None
 unfolding number_then
 then_none [] = refl
@@ -105,46 +69,18 @@ number_empty [] h = refl
 number_empty (c ∷ w) h = let z : ⊥ = omega arith in absurd z
 
 module _ (w : List ℕ) (i v : ℕ) where
-  pub number_stop : i < length w → add_digit v (get_or w i 0) ≡ None → number_then (drop i w) (Some v) ≡ None
+  pub number_step : i < length w → number_then (drop i w) (Some v) ≡ number_then (drop (i + 1) w) (add_digit v (get_or w i 0))
   unfolding number_then
-  number_stop h e = ap (λ (l : List ℕ). number_then l (Some v)) (at_cons w i h) ∙ ap (number_then (drop (i + 1) w)) e ∙ then_none (drop (i + 1) w)
-
-  pub number_more : (n : ℕ) → i < length w → add_digit v (get_or w i 0) ≡ Some n → number_then (drop i w) (Some v) ≡ number_then (drop (i + 1) w) (Some n)
-  unfolding number_then
-  number_more n h e = ap (λ (l : List ℕ). number_then l (Some v)) (at_cons w i h) ∙ ap (number_then (drop (i + 1) w)) e
+  number_step h = ap (λ (l : List ℕ). number_then l (Some v)) (at_cons w i h)
 
   pub number_end : length w ≤ i → number_then (drop i w) (Some v) ≡ Some v
   unfolding number_then
   number_end h = rw (drop_of_length-le w h)
 
-pub within : (l c h : ℕ) → (leb l c && leb c h) ≡ true → (l ≤ c) × (c ≤ h)
-within l c h e = let b = (and-eq-true_iff (leb l c) (leb c h)).0 e in (leb-true l c b.0, leb-true c h b.1)
-
-module _ (c : ℕ) where
-  pub hex_figure : (leb 48 c && leb c 57) ≡ true → hex_digit c ≡ c - 48
-  unfolding hex_digit
-  hex_figure e = rw e
-
-  pub hex-capital : (leb 48 c && leb c 57) ≡ false → (leb 65 c && leb c 70) ≡ true → hex_digit c ≡ c - 55
-  unfolding hex_digit
-  hex-capital e f = rw (e, f)
-
-  pub hex_small : (leb 48 c && leb c 57) ≡ false → (leb 65 c && leb c 70) ≡ false → (leb 97 c && leb c 102) ≡ true → hex_digit c ≡ c - 87
-  unfolding hex_digit
-  hex_small e f g = rw (e, f, g)
-
-  pub hex_other : (leb 48 c && leb c 57) ≡ false → (leb 65 c && leb c 70) ≡ false → (leb 97 c && leb c 102) ≡ false → hex_digit c ≡ 16
-  unfolding hex_digit
-  hex_other e f g = rw (e, f, g)
-
 -- bytes found, and those of the rest behind them
 abbrev pub before : List ℕ → Option (List ℕ) → Option (List ℕ)
 before l None = None
 before l (Some m) = Some (l ++ m)
-
-pub before_empty : (o : Option (List ℕ)) → before [] o ≡ o
-before_empty None = refl
-before_empty (Some m) = refl
 
 pub before_more : (g : List ℕ) (n x : ℕ) (o : Option (List ℕ)) → n < length g → before (take (n + 1) (set g n x)) o ≡ before (take n g) (in_front x o)
 before_more g n x None h = refl
@@ -171,61 +107,47 @@ module _ (w : List ℕ) (i : ℕ) where
   unfolding bytes_from
   bytes_end h = rw (drop_of_length-le w h)
 
--- a pair is left out where one of the two is no digit
-none_of : {X : Type 0} (a b : Bool) (o : Option X) → (a || b) ≡ true → cond a None (cond b None o) ≡ None
-none_of true b o e = refl
-none_of false true o e = refl
-none_of false false o e = absurd (false≢true e)
+same_cond : {X : Type 0} (b : Bool) (o : X) → cond b o o ≡ o
+same_cond true o = refl
+same_cond false o = refl
 
--- the pair n of a word, read as the digits x and y
-module _ (w g : List ℕ) (n x y : ℕ) (ex : x ≡ hex_digit (get_or w (n + n) 0)) (ey : y ≡ hex_digit (get_or w (n + n + 1) 0)) (h : n + n + 1 < length w) where
-  abbrev rest : Option (List ℕ)
-  rest = bytes_from (drop (n + n + 2) w)
-
-  pair : bytes_from (drop (n + n) w) ≡ cond (ltb 15 x) None (cond (ltb 15 y) None (in_front (x * 16 + y) rest))
+-- the pair at p of a word
+module _ (w : List ℕ) (p : ℕ) (h : p + 1 < length w) where
+  pair : bytes_from (drop p w)
+      ≡ cond (ltb 15 (hex_digit (get_or w p 0))) None
+      (cond (ltb 15 (hex_digit (get_or w (p + 1) 0))) None (in_front (hex_digit (get_or w p 0) * 16 + hex_digit (get_or w (p + 1) 0)) (bytes_from (drop (p + 2) w))))
   unfolding bytes_from
-  pair =
-      ap bytes_from (two_cons w (n + n) h)
-      ∙ ap₂ (λ (p q : ℕ). cond (ltb 15 p) None (cond (ltb 15 q) None (in_front (p * 16 + q) rest))) (sym ex) (sym ey)
+  pair = ap bytes_from (two_cons w p h)
 
-  pub pair_bad : (ltb 15 x || ltb 15 y) ≡ true → None ≡ before (take n g) (bytes_from (drop (n + n) w))
-  pair_bad e = sym (ap (before (take n g)) (pair ∙ none_of (ltb 15 x) (ltb 15 y) (in_front (x * 16 + y) rest) e))
+  pub high_bad : hex_digit (get_or w p 0) ≡ 16 → bytes_from (drop p w) ≡ None
+  high_bad e = pair ∙ rw e
 
-  pub pair_more : n < length g → (ltb 15 x || ltb 15 y) ≡ false
-      → before (take (n + 1) (set g n (x * 16 + y))) (bytes_from (drop (n + 1 + (n + 1)) w)) ≡ before (take n g) (bytes_from (drop (n + n) w))
-  pair_more l e =
-      let d : n + 1 + (n + 1) ≡ n + n + 2 = omega arith in
-      let t = (or-eq-false-eq-eq-false-and-eq-false (ltb 15 x) (ltb 15 y)).0 e in
-      let c : cond (ltb 15 x) None (cond (ltb 15 y) None (in_front (x * 16 + y) rest)) ≡ in_front (x * 16 + y) rest = rw (t.0, t.1) in
-      ap (λ (k : ℕ). before (take (n + 1) (set g n (x * 16 + y))) (bytes_from (drop k w))) d
-      ∙ before_more g n (x * 16 + y) rest l
-      ∙ sym (ap (before (take n g)) (pair ∙ c))
+  pub low_bad : hex_digit (get_or w (p + 1) 0) ≡ 16 → bytes_from (drop p w) ≡ None
+  low_bad e = pair ∙ rw e (same_cond (ltb 15 (hex_digit (get_or w p 0))) None)
 
-pub digits : (x y : ℕ) → (ltb 15 x || ltb 15 y) ≡ false → (x ≤ 15) × (y ≤ 15)
-digits x y e = let t = (or-eq-false-eq-eq-false-and-eq-false (ltb 15 x) (ltb 15 y)).0 e in (ltb-false 15 x t.0, ltb-false 15 y t.1)
+  pair_good : (x y : ℕ) → x ≡ hex_digit (get_or w p 0) → y ≡ hex_digit (get_or w (p + 1) 0) → x < 16 → y < 16
+      → bytes_from (drop p w) ≡ in_front (x * 16 + y) (bytes_from (drop (p + 2) w))
+  pair_good x y ex ey hx hy = pair ∙ rw (← ex, ← ey, le-ltb 15 x (omega arith), le-ltb 15 y (omega arith))
 
--- behind the last pair, nothing is left or one digit
-module _ (w l : List ℕ) (n : ℕ) (m : n + n ≤ length w) (h : length w / 2 ≤ n) where
-  ends : (t : Bool) → eqb (n + n) (length w) ≡ t → bytes_say t l ≡ before l (bytes_from (drop (n + n) w))
-  ends true e = sym (ap (before l) (bytes_end w (n + n) (omega (arith, eqb-true (n + n) (length w) e))) ∙ before_last l)
-  ends false e = sym (ap (before l) (bytes_odd w (n + n) (omega (arith, eqb-false (n + n) (length w) e))))
-
-  pub pairs_end : bytes_say (eqb (n + n) (length w)) l ≡ before l (bytes_from (drop (n + n) w))
-  pairs_end = ends (eqb (n + n) (length w)) refl
+pub pair_more : (w g : List ℕ) (n x y : ℕ) → x ≡ hex_digit (get_or w (2 * n) 0) → y ≡ hex_digit (get_or w (2 * n + 1) 0) → x < 16 → y < 16
+    → n < length g → 2 * n + 1 < length w → before (take (n + 1) (set g n (x * 16 + y))) (bytes_from (drop (2 * (n + 1)) w)) ≡ before (take n g) (bytes_from (drop (2 * n) w))
+pair_more w g n x y ex ey hx hy l h =
+    let e : 2 * (n + 1) ≡ 2 * n + 2 = omega arith in
+    rw e (before_more g n (x * 16 + y) (bytes_from (drop (2 * n + 2) w)) l) ∙ ap (before (take n g)) (sym (pair_good w (2 * n) h x y ex ey hx hy))
 
 pub bytes_none : (w : List ℕ) → length w ≡ 0 → bytes_in w ≡ None
 unfolding bytes_in
 bytes_none [] h = refl
 bytes_none (c ∷ w) h = let z : ⊥ = omega arith in absurd z
 
-pub bytes_one : (w : List ℕ) → length w ≡ 1 → bytes_in w ≡ bytes_say (eqb (get_or w 0 0) 45) []
+pub bytes_dash : (w : List ℕ) → length w ≡ 1 → get_or w 0 0 ≡ 45 → bytes_in w ≡ Some []
 unfolding bytes_in
-bytes_one [] h = let z : ⊥ = omega arith in absurd z
-bytes_one (c ∷ []) h = refl
-bytes_one (c ∷ d ∷ w) h = let z : ⊥ = omega arith in absurd z
+bytes_dash [] h e = let z : ⊥ = omega arith in absurd z
+bytes_dash (c ∷ []) h e = rw e
+bytes_dash (c ∷ d ∷ w) h e = let z : ⊥ = omega arith in absurd z
 
-pub bytes_hex : (w : List ℕ) → 1 < length w → bytes_in w ≡ bytes_from w
-unfolding bytes_in
-bytes_hex [] h = let z : ⊥ = omega arith in absurd z
-bytes_hex (c ∷ []) h = let z : ⊥ = omega arith in absurd z
-bytes_hex (c ∷ d ∷ w) h = refl
+pub bytes_hex : (w : List ℕ) → 0 < length w → (length w ≡ 1 → get_or w 0 0 ≡ 45 → ⊥) → bytes_in w ≡ bytes_from w
+unfolding bytes_in bytes_from
+bytes_hex [] h n = let z : ⊥ = omega arith in absurd z
+bytes_hex (c ∷ []) h n = rw (ne_eqb c 45 (n refl))
+bytes_hex (c ∷ d ∷ w) h n = refl

@@ -1,35 +1,15 @@
 -- Words read as values: one law for each return, over plain words and numbers.
 -- Assumes nothing.
-use Prim.Native.Nat.{ℕ, ◌-◌, ◌%◌, ◌≤◌, ◌<◌}
-use mathlib.Core.Path.{◌≡◌, refl, ap}
-use mathlib.Core.Bool.{true, false}
+use Prim.Native.Nat.{ℕ, ◌-◌, ◌<◌}
+use mathlib.Core.Path.{◌≡◌, refl}
 use mathlib.Core.List.{List, [], ◌∷◌}
 use Rattle.std.proofs.Common.{None, Some}
 use native.Mathlib.Omega.{arith}
-use lib.Dec.{eqb}
 use lib.ListN.{length, take, drop, get_or, length-drop}
 use lib.Seq.{take_all}
-use borrow.Author.Tests.{eq-eqb, ne_eqb, le-leb, lt-leb, lt-ltb, le-ltb}
+use borrow.Author.Tests.{eq-eqb, ne_eqb}
 use Rattle.words.specs.Words.{decimal_in}
-use Rattle.words.specs.Values.{from_zero, below_zero, signed_number_in, of_kind, lone_is, letter_is, value_in, is_dash, stamp_in}
-
-module _ (n : ℕ) where
-  pub plus_near : n < 9223372036854775808 → Some n ≡ from_zero (Some n)
-  plus_near h = rw (lt-ltb n 9223372036854775808 h)
-
-  pub plus_far : 9223372036854775808 ≤ n → None ≡ from_zero (Some n)
-  plus_far h = rw (le-ltb n 9223372036854775808 h)
-
-  pub minus_zero : n ≡ 0 → Some 0 ≡ below_zero (Some n)
-  minus_zero e = rw e
-
-  pub minus_far : 9223372036854775808 < n → None ≡ below_zero (Some n)
-  minus_far h = rw (lt-leb n 9223372036854775808 h)
-
-  pub minus_near : (n ≡ 0 → ⊥) → n ≤ 9223372036854775808 → Some (18446744073709551615 - (n - 1)) ≡ below_zero (Some n)
-  minus_near z h =
-      let e : 18446744073709551615 - (n - 1) ≡ (18446744073709551616 - n) % 18446744073709551616 = omega arith in
-      rw (le-leb n 9223372036854775808 h) (ap Some e)
+use Rattle.words.specs.Values.{from_zero, below_zero, signed_number_in, of_kind, lone_is, letter_is, value_in, stamp_in}
 
 -- the rest of a word, as the kit cuts it out
 pub rest_whole : (w : List ℕ) (n : ℕ) → take (length w - n) (drop n w) ≡ drop n w
@@ -67,55 +47,14 @@ value_letter [] h = let z : ⊥ = omega arith in absurd z
 value_letter (c ∷ []) h = let z : ⊥ = omega arith in absurd z
 value_letter (c ∷ d ∷ w) h = refl
 
-pub no_dash : (w : List ℕ) → (length w ≡ 1 → ⊥) → false ≡ is_dash w
-no_dash [] h = refl
-no_dash (c ∷ []) h = absurd (h refl)
-no_dash (c ∷ d ∷ w) h = refl
+pub stamp_dash : (w : List ℕ) → length w ≡ 1 → get_or w 0 0 ≡ 45 → Some (0, 0) ≡ stamp_in w
+unfolding stamp_in
+stamp_dash [] h e = let z : ⊥ = omega arith in absurd z
+stamp_dash (c ∷ []) h e = rw e
+stamp_dash (c ∷ d ∷ w) h e = let z : ⊥ = omega arith in absurd z
 
-pub one_dash : (w : List ℕ) → length w ≡ 1 → eqb (get_or w 0 0) 45 ≡ is_dash w
-one_dash [] h = let z : ⊥ = omega arith in absurd z
-one_dash (c ∷ []) h = refl
-one_dash (c ∷ d ∷ w) h = let z : ⊥ = omega arith in absurd z
-
-module _ (c : ℕ) where
-  pub lone_dash : c ≡ 45 → Some (0, 0) ≡ lone_is c
-  unfolding lone_is
-  lone_dash e = rw e
-
-  pub lone_slash : c ≡ 47 → Some (255, 0) ≡ lone_is c
-  unfolding lone_is
-  lone_slash e = rw e
-
-  pub lone_other : (c ≡ 45 → ⊥) → (c ≡ 47 → ⊥) → None ≡ lone_is c
-  unfolding lone_is
-  lone_other a b = rw (ne_eqb c 45 a, ne_eqb c 47 b)
-
-module _ (c : ℕ) (w : List ℕ) where
-  pub letter_u : c ≡ 117 → of_kind 1 (decimal_in w) ≡ letter_is c w
-  unfolding letter_is
-  letter_u e = rw e
-
-  pub letter-i : c ≡ 105 → of_kind 2 (signed_number_in w) ≡ letter_is c w
-  unfolding letter_is
-  letter-i e = rw e
-
-  pub letter-f : c ≡ 102 → of_kind 3 (decimal_in w) ≡ letter_is c w
-  unfolding letter_is
-  letter-f e = rw e
-
-  pub letter-d : c ≡ 100 → of_kind 4 (decimal_in w) ≡ letter_is c w
-  unfolding letter_is
-  letter-d e = rw e
-
-  pub letter_other : (c ≡ 117 → ⊥) → (c ≡ 105 → ⊥) → (c ≡ 102 → ⊥) → (c ≡ 100 → ⊥) → None ≡ letter_is c w
-  unfolding letter_is
-  letter_other u i f d = rw (ne_eqb c 117 u, ne_eqb c 105 i, ne_eqb c 102 f, ne_eqb c 100 d)
-
-module _ (w : List ℕ) where
-  pub stamp_dash : is_dash w ≡ true → Some (0, 0) ≡ stamp_in w
-  unfolding stamp_in
-  stamp_dash e = rw e
-
-  pub stamp-number : is_dash w ≡ false → of_kind 1 (decimal_in w) ≡ stamp_in w
-  unfolding stamp_in
-  stamp-number e = rw e
+pub stamp_number : (w : List ℕ) → (length w ≡ 1 → get_or w 0 0 ≡ 45 → ⊥) → of_kind 1 (decimal_in w) ≡ stamp_in w
+unfolding stamp_in
+stamp_number [] n = refl
+stamp_number (c ∷ []) n = rw (ne_eqb c 45 (n refl))
+stamp_number (c ∷ d ∷ w) n = refl

@@ -1,7 +1,6 @@
 -- The words of a `write` (docs/REPLAY.md): values with their kinds and bits, as rules W2 and W3 have them, and TOW and WNc.
 -- Assumes nothing.
-use Rattle.std.specs.Prelude.{ℕ, ◌-◌, ◌%◌, ◌^◌, Bool, true, false, cond, List, [], ◌∷◌, eqb, leb, ltb, Option, None, Some}
-use Rattle.words.specs.declared.Valued.{Valued}
+use Rattle.std.specs.Prelude.{ℕ, ◌-◌, ◌%◌, ◌^◌, Bool, false, cond, List, [], ◌∷◌, eqb, leb, ltb, Option, None, Some}
 use Rattle.words.specs.Words.{decimal_in}
 
 -- a number without a minus: at most 2^63 - 1
@@ -19,14 +18,7 @@ unfoldable pub signed_number_in : List ℕ → Option ℕ
 signed_number_in [] = None
 signed_number_in (c ∷ w) = cond (eqb c 45) (below_zero (decimal_in w)) (from_zero (decimal_in (c ∷ w)))
 
-abbrev pub kind_says : Bool → ℕ → ℕ → Option (ℕ × ℕ)
-kind_says true k x = Some (k, x)
-kind_says false k x = None
-
--- D9: what the code's answer says, a kind and its bits
-abbrev pub valued_says : Valued → Option (ℕ × ℕ)
-valued_says v = kind_says v.is_value v.kind v.bits
-
+-- W2: a kind and its bits
 abbrev pub of_kind : ℕ → Option ℕ → Option (ℕ × ℕ)
 of_kind k None = None
 of_kind k (Some x) = Some (k, x)

@@ -1,8 +1,6 @@
 -- The words of a script's line (docs/REPLAY.md): where one ends, its key, decimal numbers, bytes in hex.
 -- Assumes nothing.
-use Rattle.std.specs.Prelude.{ℕ, suc, ◌+◌, ◌-◌, ◌*◌, Bool, true, false, cond, ◌&&◌, List, [], ◌∷◌, eqb, leb, ltb, length, Option, None, Some}
-use Rattle.words.specs.declared.Decimal.{Decimal}
-use Rattle.words.specs.declared.Decimal.TheVariants.{Value, NoNumber}
+use Rattle.std.specs.Prelude.{ℕ, suc, ◌+◌, ◌-◌, ◌*◌, cond, ◌&&◌, List, [], ◌∷◌, eqb, leb, ltb, length, Option, None, Some}
 
 -- how many bytes stand before the first b
 unfoldable pub up_to : ℕ → List ℕ → ℕ
@@ -17,10 +15,6 @@ key_from k (c ∷ w) = cond (eqb c 0) 0 (key_from (k * 256 + c) w)
 -- a word's key: no two words of one to eight bytes, none of them zero, have the same (`KeysApart`); 0 for all other words
 unfoldable pub key_of : List ℕ → ℕ
 key_of w = cond (ltb 8 (length w)) 0 (key_from 0 w)
-
-abbrev pub number_says : Decimal → Option ℕ
-number_says (Value n) = Some n
-number_says NoNumber = None
 
 -- v with the digit c behind it: c is `0` to `9`, and the number is at most 2^64 - 1
 unfoldable pub add_digit : ℕ → ℕ → Option ℕ
@@ -46,10 +40,6 @@ hex_digit c =
     cond (leb 48 c && leb c 57) (c - 48)
     (cond (leb 65 c && leb c 70) (c - 55) (cond (leb 97 c && leb c 102) (c - 87) 16))
 
-abbrev pub bytes_say : Bool → List ℕ → Option (List ℕ)
-bytes_say true l = Some l
-bytes_say false l = None
-
 abbrev pub in_front : ℕ → Option (List ℕ) → Option (List ℕ)
 in_front b None = None
 in_front b (Some l) = Some (b ∷ l)
@@ -63,5 +53,5 @@ bytes_from (c ∷ d ∷ w) = cond (ltb 15 (hex_digit c)) None (cond (ltb 15 (hex
 -- a word: `-` for none, else two digits or more
 unfoldable pub bytes_in : List ℕ → Option (List ℕ)
 bytes_in [] = None
-bytes_in (c ∷ []) = bytes_say (eqb c 45) []
+bytes_in (c ∷ []) = cond (eqb c 45) (Some []) None
 bytes_in (c ∷ d ∷ w) = bytes_from (c ∷ d ∷ w)

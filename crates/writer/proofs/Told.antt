@@ -3,6 +3,7 @@
 use mathlib.Core.Bool.{Bool, true, false, ◌&&◌}
 use mathlib.Core.List.{List, [], ◌∷◌}
 use Rattle.std.proofs.Common.{Option, None, Some}
+use Rattle.std.proofs.lemmas.Option.{cond_some}
 use mathlib.Core.Path.{◌≡◌, refl, sym, ap, subst, ◌∙◌}
 use Prim.Native.Nat.{ℕ, ◌+◌, ◌*◌, ◌/◌, ◌≤◌, ◌<◌}
 use native.Mathlib.Omega.{arith}
@@ -21,40 +22,47 @@ use Rattle.table.specs.Lookup.{has_number, find_row, row_says, Stands, StandsIfA
 use Rattle.table.proofs.Passed.{passed}
 use Rattle.copy.specs.Over.{over}
 use Rattle.wire.proofs.Tests.{both}
-use Rattle.draft.specs.declared.Accepted.{Accepted}
+use Rattle.entry.specs.Wanted.{Wanted}
 use Rattle.draft.specs.declared.Measured.{Measured}
 use Rattle.draft.specs.Draft.{Draft, draft_ok, sb_length_by, sb_length, block_end_by, block_length, room_for}
 use Rattle.draft.proofs.Admitted.{admitted}
-use Rattle.draft.specs.Code.{Accepting, Sizing}
+use Rattle.draft.specs.Code.{counted, Sizing}
 use Rattle.writer.specs.Block.{block_bytes}
 use Rattle.writer.specs.Write.{wrote, write_refused, WriteOutcome, write_outcome, written_by, writable_row, written_of}
 use Rattle.writer.specs.Code.{Writable}
 
 -- by its row
-module _ (top : ℕ) (b : BlockRow) (d : Draft) {a : Accepted} (accepting : Accepting (draft_ok b d) (length d.subs) a) where
-  pub told_11 : (buffer : List ℕ) → a.ok ≡ false → write_outcome (write_refused 11) buffer ≡ written_by top (Some b) d buffer
-  unfolding written_by
-  told_11 buffer e = rw (sym accepting.is ∙ e)
+not_accepted : (ok : Bool) (ss : List (List Wanted)) → None ≡ counted ok ss → ok ≡ false
+not_accepted true ss e = cc
+not_accepted false ss e = refl
 
-  module _ (yes : a.ok ≡ true) where
+module _ (top : ℕ) (b : BlockRow) (d : Draft) where
+  pub told_11 : (buffer : List ℕ) → None ≡ counted (draft_ok b d) d.subs → write_outcome (write_refused 11) buffer ≡ written_by top (Some b) d buffer
+  unfolding written_by
+  told_11 buffer e = rw (not_accepted (draft_ok b d) d.subs e)
+
+  module _ {n : ℕ} (accepting : Some n ≡ counted (draft_ok b d) d.subs) where
     accepted : draft_ok b d ≡ true
-    accepted = sym accepting.is ∙ yes
+    accepted = (cond_some (draft_ok b d) (length d.subs) n (sym accepting)).0
+
+    counted_is : n ≡ length d.subs
+    counted_is = sym (cond_some (draft_ok b d) (length d.subs) n (sym accepting)).1
 
     pub told_revision : d.revision ≤ 7
     told_revision = (admitted b d accepted).revision
 
-    pub told_few : a.subs ≤ 255
-    told_few = let n = accepting.count yes in let m = (admitted b d accepted).few in omega arith
+    pub told_few : n ≤ 255
+    told_few = let e = counted_is in let m = (admitted b d accepted).few in omega arith
 
-    module _ {z : Measured} (sizing : Sizing b d.revision a.subs z) (buffer : List ℕ) where
+    module _ {z : Measured} (sizing : Sizing b d.revision n z) (buffer : List ℕ) where
       abbrev roomy : Bool
       roomy = leb z.all (length buffer) && leb z.all top && leb z.sub 255
 
       all_is : z.all ≡ block_length b d
-      all_is = sizing.all ∙ ap (λ (n : ℕ). 4 * ((block_end_by b d.revision n + 3) / 4)) (accepting.count yes)
+      all_is = sizing.all ∙ ap (λ (k : ℕ). 4 * ((block_end_by b d.revision k + 3) / 4)) counted_is
 
       sub_is : z.sub ≡ sb_length b d
-      sub_is = sizing.sub ∙ ap (sb_length_by b d.revision) (accepting.count yes)
+      sub_is = sizing.sub ∙ ap (sb_length_by b d.revision) counted_is
 
       room_is : roomy ≡ room_for top b d (length buffer)
       unfolding room_for
@@ -65,14 +73,14 @@ module _ (top : ℕ) (b : BlockRow) (d : Draft) {a : Accepted} (accepting : Acce
       told_12 e = rw (accepted, sym room_is ∙ e)
 
       module _ (room : roomy ≡ true) where
-        pub told_writable : block_ok b ≡ true → b.firsts ≡ 0 → Writable b d a.subs z (length buffer)
+        pub told_writable : block_ok b ≡ true → b.firsts ≡ 0 → Writable b d n z (length buffer)
         told_writable rules one =
             let x = both (leb z.all (length buffer) && leb z.all top) _ room in
             record {
               rules = rules;
               one = one;
               ok = accepted;
-              count = accepting.count yes;
+              count = counted_is;
               sizes = sizing;
               fits = leb-true _ _ (both (leb z.all (length buffer)) _ x.0).0;
               small = leb-true _ _ x.1;

@@ -14,7 +14,7 @@ ghost use Rattle.writer.specs.Code.{stamps_out, lists_out, Ready, Writable};
 
 use draft::{Head, Measured};
 use refusal::Refusal;
-use rows::{FieldRow, Row};
+use rows::Row;
 use table::RowFound;
 
 // The length of the block that was written, or why none was.
@@ -29,22 +29,8 @@ fn put_stamps(out: &mut [u8], h: Head)
     requires { (14 ≤ length out.old) × (stamps_ok (draft_of h [] []) ≡ true) }
     ensures { out.new ≡ sets out.old 8 (stamps_out (draft_of h [] [])) }
 {
-    let tow = FieldRow {
-        offset: 8,
-        kind: 3,
-        first: 0,
-        mark: 1,
-    };
-    let wnc = FieldRow {
-        offset: 12,
-        kind: 2,
-        first: 0,
-        mark: 1,
-    };
-    let t = h.tow;
-    let w = h.wnc;
-    let first = lay::given(tow, t);
-    let second = lay::given(wnc, w);
+    let first = lay::given(rows::TOW, h.tow);
+    let second = lay::given(rows::WNC, h.wnc);
     pen::little(out, 8, 4, first);
     pen::little(out, 12, 2, second);
 }
@@ -113,11 +99,9 @@ fn put(
     requires { (row.start + row.bodies + row.subs ≤ field_count table.now) × (block_ok (block_of table.now row) ≡ true) × (row.firsts ≡ 0) × (h.number ≤ 65535) }
     ensures { write_outcome (written_says result) out.new ≡ written_by ceiling (Some (block_of table.now row)) (draft_of h kinds.now bits.now) out.old }
 {
-    let a = draft::accepts(table, row, h, kinds, bits);
-    if !a.ok {
+    let Some(subs) = draft::accepts(table, row, h, kinds, bits) else {
         return Written::Refused(Refusal::BadValues);
-    }
-    let subs = a.subs;
+    };
     let z = draft::sizes(table, row, h.revision as u8, subs);
     let all = z.all;
     if !((all <= out.len()) & (all <= ceiling) & (z.sub <= 255)) {

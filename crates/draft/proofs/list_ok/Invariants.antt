@@ -11,9 +11,6 @@ use Rattle.draft.proofs.list_ok.Given as goal
 
 abbrev pub invariant-loop-i : goal.invariant-loop-i
 invariant-loop-i l =
-    (l.i ≤ l.count) × (l.p ≤ l.next) × (l.next ≤ length l.kinds) × (subs_from l.kinds l.bits l.next ≡ subs_from l.kinds l.bits l.p)
+    (l.p ≤ l.next) × (l.next ≤ length l.kinds) × (subs_from l.kinds l.bits l.next ≡ subs_from l.kinds l.bits l.p)
     × (list_ok l.revision (tabulate (field_at l.table) l.at l.count) (values_from l.kinds l.bits l.p)
     ≡ list_ok l.revision (tabulate (field_at l.table) (l.at + l.i) (l.count - l.i)) (values_from l.kinds l.bits l.next))
-
-abbrev pub decreases-loop-i : goal.decreases-loop-i
-decreases-loop-i l = l.count - l.i

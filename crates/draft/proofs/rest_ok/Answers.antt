@@ -2,23 +2,20 @@
 -- Assumes nothing.
 use mathlib.Core.Path.{refl}
 use native.Mathlib.Omega.{arith}
-use Rattle.draft.proofs.Values.{rest_ends, rest_found, rest_goes}
+use Rattle.draft.proofs.Values.{rest_ends, rest_begins, rest_set, rest_goes}
 use Rattle.draft.proofs.rest_ok.Goals as goal
 
 pub loop-i-init : goal.loop-i-init
-loop-i-init c = (omega arith, omega arith, λ bits. record { unset = refl; subs = refl })
+loop-i-init c = λ bits. record { unset = refl; subs = refl }
 
-pub returns-then-kind-ne0 : goal.returns-then-kind-ne0
-returns-then-kind-ne0 c =
-    let l = c.loop-i in
-    rest_found _ _ l.i l.invariant.0 l.invariant.1 l.invariant.2 (omega arith) c.if-kind-ne0.true
+pub returns-in-255 : goal.returns-in-255
+returns-in-255 c = rest_begins _ _ _ (omega arith) (omega arith) c.loop-i.invariant (omega arith) c.in-255.is
+
+pub returns-in_default : goal.returns-in_default
+returns-in_default c = rest_set _ _ _ (omega arith) (omega arith) c.loop-i.invariant (omega arith) (omega arith) (omega arith)
 
 pub loop-i-preserved : goal.loop-i-preserved
-loop-i-preserved c =
-    let l = c.loop-i in
-    (omega arith, omega arith, rest_goes _ _ l.i l.invariant.0 l.invariant.1 l.invariant.2 (omega arith) c.if-kind-ne0.false)
+loop-i-preserved c = rest_goes _ _ _ (omega arith) (omega arith) c.loop-i.invariant (omega arith) c.in-0.is
 
 pub returns : goal.returns
-returns c =
-    let l = c.loop-i in
-    rest_ends _ _ l.i l.invariant.0 l.invariant.1 l.invariant.2 (omega arith)
+returns c = rest_ends _ _ _ (omega arith) (omega arith) c.loop-i.invariant (omega arith)

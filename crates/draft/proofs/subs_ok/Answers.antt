@@ -1,28 +1,28 @@
 -- `draft::subs_ok` meets its contract: what is left of the sub-blocks gives the whole.
 -- Assumes nothing.
+use mathlib.Core.Path.{◌∙◌}
 use native.Mathlib.Omega.{arith}
-use Rattle.draft.proofs.Walks.{begun, subs_done, subs_refused, goes_on, subs_more}
+use Rattle.draft.proofs.Walks.{begun, subs_done, subs_many, subs_wrong, subs_more}
 use Rattle.draft.proofs.subs_ok.Goals as goal
 
 pub loop-next-init : goal.loop-next-init
 loop-next-init c = let h = c.requires in begun _ _ _ _ h.1 h.2
 
-pub returns-then-w-n : goal.returns-then-w-n
-returns-then-w-n c =
+pub returns-in_err-next : goal.returns-in_err-next
+returns-in_err-next c =
     let l = c.loop-next in
-    subs_refused _ _ _ _ l.n l.next l.invariant (omega arith) _ c.list_ok-w.ensures.is c.if-w-n.true
+    c.from_residual.ensures ∙ subs_wrong _ _ _ _ l.n l.next l.invariant (omega arith) c.in_err-next.ensures.is
 
-pub loop-next-smaller : goal.loop-next-smaller
-loop-next-smaller c =
+pub returns-then-n-ge-MOST : goal.returns-then-n-ge-MOST
+returns-then-n-ge-MOST c =
     let l = c.loop-next in
-    let y = goes_on _ _ _ _ l.n l.next l.invariant (omega arith) _ c.list_ok-w.ensures.is c.if-w-n.false in
-    omega (arith, c.list_ok-w.ensures.left y)
+    subs_many _ _ _ _ l.n l.next l.invariant (omega arith) (omega arith)
 
 pub loop-next-preserved : goal.loop-next-preserved
 loop-next-preserved c =
     let l = c.loop-next in
-    let y = goes_on _ _ _ _ l.n l.next l.invariant (omega arith) _ c.list_ok-w.ensures.is c.if-w-n.false in
-    subs_more _ _ _ _ l.n l.next l.invariant (omega arith) _ c.list_ok-w.ensures.is c.if-w-n.false _ (c.list_ok-w.ensures.left y)
+    let w = c.in_ok-next.ensures in
+    subs_more _ _ _ _ l.n l.next l.invariant (omega arith) w.is (omega arith) w.left
 
 pub returns : goal.returns
 returns c =

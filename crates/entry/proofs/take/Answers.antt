@@ -1,27 +1,28 @@
 -- `entry::take` meets its contract: each return is one law of a place.
 -- Assumes nothing.
-use mathlib.Core.Path.{sym, ◌∙◌}
-use lib.ListN.{get_or-eq_default}
-use native.Mathlib.Omega.{arith}
+use Rattle.std.proofs.Common.{◌≡◌, ◌≤◌, ◌<◌, length, get_or, sym, ◌∙◌, arith}
+use Rattle.std.proofs.lemmas.Grind.{common_steps}
+use Rattle.std.proofs.lemmas.Option.{gets}
 use Rattle.entry.proofs.Places.{values_end, values_stop, takes_none, takes_one}
 use Rattle.entry.proofs.take.Goals as goal
-use Rattle.entry.proofs.take.Goals.{then-p-bits, else-p-bits}
 
-pub returns-then-kinds-p : goal.returns-then-kinds-p
-returns-then-kinds-p c =
+pub returns-in-Some : goal.returns-in-Some
+returns-in-Some c =
     let a = c.args in
-    takes_none a.kinds.now a.bits.now a.p (values_end a.kinds.now a.bits.now a.p (omega arith)) (omega arith)
+    let within : a.p < length a.kinds.now = grind (arith, common_steps) in
+    let kind : c.in-Some.field-0.now ≡ get_or a.kinds.now a.p 0 = grind (arith, common_steps) in
+    let bits : c.unwrap_or.result ≡ get_or a.bits.now a.p 0 = grind (arith, common_steps, gets) in
+    takes_one a.kinds.now a.bits.now a.p _ _ within kind c.if-kind.true bits
 
-pub returns-then-kind : goal.returns-then-kind
-returns-then-kind c =
+pub returns-in_default : goal.returns-in_default
+returns-in_default c =
     let a = c.args in
-    takes_none a.kinds.now a.bits.now a.p (values_stop a.kinds.now a.bits.now a.p (omega arith) c.if-kind.true) (omega arith)
+    let within : a.p < length a.kinds.now = grind (arith, common_steps) in
+    let kind : c.in-Some.field-0.now ≡ get_or a.kinds.now a.p 0 = grind (arith, common_steps) in
+    takes_none a.kinds.now a.bits.now a.p (values_stop a.kinds.now a.bits.now a.p within (sym kind ∙ c.if-kind.false)) (omega arith)
 
-pub returns : goal.returns
-returns c =
+pub returns-in_default-2 : goal.returns-in_default-2
+returns-in_default-2 c =
     let a = c.args in
-    takes_one a.kinds.now a.bits.now a.p (omega arith) c.if-kind.false c.if-p-bits.x
-    (elim c.if-p-bits.branch [
-      | then-p-bits w ↦ w.x-is
-      | else-p-bits w ↦ w.x-is ∙ sym (get_or-eq_default a.bits.now 0 (omega arith))
-    ])
+    let past : length a.kinds.now ≤ a.p = grind (arith, common_steps) in
+    takes_none a.kinds.now a.bits.now a.p (values_end a.kinds.now a.bits.now a.p past) (omega arith)

@@ -14,10 +14,7 @@ use Rattle.lay.proofs.fields.Given as goal
 
 abbrev pub invariant-loop-i : goal.invariant-loop-i
 invariant-loop-i l =
-    (l.i ≤ l.count) × (l.p ≤ l.next) × (l.next ≤ length l.kinds) × (subs_from l.kinds l.bits l.next ≡ subs_from l.kinds l.bits l.p)
+    (l.p ≤ l.next) × (l.next ≤ length l.kinds) × (subs_from l.kinds l.bits l.next ≡ subs_from l.kinds l.bits l.p)
     × Laying l.revision l.base l.end (tabulate (field_at l.table) (l.at + l.i) (l.count - l.i)) (values_from l.kinds l.bits l.next) l.out
     (sets l.initial.out (l.base + l.from) (laid l.revision l.from (tabulate (field_at l.table) l.at l.count) (values_from l.kinds l.bits l.p)))
     (last_end l.revision l.from (tabulate (field_at l.table) l.at l.count))
-
-abbrev pub decreases-loop-i : goal.decreases-loop-i
-decreases-loop-i l = l.count - l.i

@@ -1,13 +1,8 @@
 -- `lay::given` meets its contract: the low bytes of what was given are the field's.
 -- Assumes nothing.
 use native.Mathlib.Omega.{arith}
-use Rattle.lay.proofs.Low.{given_unset, given_value}
+use Rattle.lay.proofs.Low.{given_value}
 use Rattle.lay.proofs.given.Goals as goal
-
-pub returns-then-e-eq0 : goal.returns-then-e-eq0
-returns-then-e-eq0 c =
-    let a = c.args in
-    given_unset a.f a.e.kind a.e.bits c.requires c.if-e-eq0.true c.unset_bits-u.result c.unset_bits-u.ensures
 
 pub returns : goal.returns
 returns c =

@@ -1,12 +1,7 @@
 -- `lay::list_end` meets its contract. The invariant: no sub-block has begun since p.
 -- Assumes nothing.
-use Prim.Native.Nat.{◌-◌}
-use lib.ListN.{length}
 use Rattle.lay.proofs.Ending.{Passing}
 use Rattle.lay.proofs.list_end.Given as goal
 
 abbrev pub invariant-loop-i : goal.invariant-loop-i
 invariant-loop-i l = Passing l.kinds l.p l.i
-
-abbrev pub decreases-loop-i : goal.decreases-loop-i
-decreases-loop-i l = length l.kinds - l.i

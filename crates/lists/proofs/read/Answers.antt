@@ -1,32 +1,32 @@
 -- `lists::read` meets its contract: four words, and the lists behind them.
 -- Assumes nothing.
-use mathlib.Core.Path.{◌∙◌}
-use native.Mathlib.Omega.{arith}
-use lib.ListN.{take}
+use Rattle.std.proofs.Common.{None, ◌∙◌, refl}
 use Rattle.lists.proofs.Laws.{same_head, line_read}
 use Rattle.lists.proofs.read.Goals as goal
 
-pub returns : goal.returns
-returns c =
-    let l = c.lists-l in
-    let s = c.args.text.now in
-    let e = c.head_of-h.ensures ∙ same_head c.number.ensures c.number-2.ensures c.stamp.ensures c.stamp-2.ensures in record {
-      bits_after = line_read
-          s
-          c.word_at-number.result.now
-          c.word_at-revision.result.now
-          c.word_at-tow.result.now
-          c.word_at-wnc.result.now
-          c.word_at-number.ensures.0
-          c.word_at-revision.ensures.0
-          c.word_at-tow.ensures.0
-          c.word_at-wnc.ensures.0
-          c.head_of-h.result.good
-          l.result.good
-          c.head_of-h.result.head
-          (take l.result.count l.new.kinds)
-          (take l.result.count l.new.bits)
-          e
-          l.ensures.bits_after;
-      count_bound = omega (arith, l.ensures.count_in_bounds, c.lists-arg-1.given);
-    }
+pub returns-in_err-head-clause-bits_after : goal.returns-in_err-head-clause-bits_after
+returns-in_err-head-clause-bits_after c =
+    let a = c.word_at-number in
+    let b = c.word_at-revision in
+    let d = c.word_at-tow in
+    let w = c.word_at-wnc in
+    let e = c.in_err-head.ensures ∙ same_head c.number.ensures c.number-2.ensures c.stamp.ensures c.stamp-2.ensures in
+    rw c.from_residual.ensures (line_read c.args.text.now a.result.now b.result.now d.result.now w.result.now a.ensures.0 b.ensures.0 d.ensures.0 w.ensures.0 None _ e refl)
+
+pub returns-in_err-count-clause-bits_after : goal.returns-in_err-count-clause-bits_after
+returns-in_err-count-clause-bits_after c =
+    let a = c.word_at-number in
+    let b = c.word_at-revision in
+    let d = c.word_at-tow in
+    let w = c.word_at-wnc in
+    let e = c.in_ok-head.ensures ∙ same_head c.number.ensures c.number-2.ensures c.stamp.ensures c.stamp-2.ensures in
+    rw c.from_residual-in_err-count.ensures (line_read c.args.text.now a.result.now b.result.now d.result.now w.result.now a.ensures.0 b.ensures.0 d.ensures.0 w.ensures.0 _ None e c.in_err-count.ensures.bits_after)
+
+pub returns-clause-bits_after : goal.returns-clause-bits_after
+returns-clause-bits_after c =
+    let a = c.word_at-number in
+    let b = c.word_at-revision in
+    let d = c.word_at-tow in
+    let w = c.word_at-wnc in
+    let e = c.in_ok-head.ensures ∙ same_head c.number.ensures c.number-2.ensures c.stamp.ensures c.stamp-2.ensures in
+    line_read c.args.text.now a.result.now b.result.now d.result.now w.result.now a.ensures.0 b.ensures.0 d.ensures.0 w.ensures.0 _ _ e c.in_ok-count.ensures.bits_after

@@ -1,10 +1,7 @@
--- `wire::u4` meets its contract: twice 2 bytes, by `join`.
+-- `wire::u4` meets its contract: the library's number of four bytes is F1's.
 -- Assumes nothing.
-use mathlib.Core.Path.{sym, ap₂, ◌∙◌}
-use Prim.Native.Nat.{ℕ, ◌+◌, ◌*◌, ◌^◌}
-use Rattle.wire.proofs.Laws.{join}
+use Rattle.wire.proofs.Laws as little
 use Rattle.wire.proofs.u4.Goals as goal
 
 pub returns : goal.returns
-returns c =
-    ap₂ (λ (x y : ℕ). x + 256 ^ 2 * y) c.u2.ensures c.u2-2.ensures ∙ sym (join 2 2 _ _)
+returns c = rw (c.from_le_bytes.ensures, c.bytes.ensures) (little.u4 _ _)

@@ -1,42 +1,33 @@
 -- `words::hex_pairs` meets its contract. The invariant: the bytes so far, with what is left behind them, are the whole.
 -- Assumes nothing.
-use mathlib.Core.Path.{refl, ◌∙◌}
-use Prim.Native.Nat.{◌+◌, ◌*◌}
-use native.Mathlib.Omega.{arith}
-use lib.ListN.{take, length-set}
-use Rattle.words.specs.Words.{bytes_from}
-use Rattle.words.proofs.Reading.{before_empty, digits, pair_bad, pair_more, pairs_end}
+use Rattle.std.proofs.Common.{◌≡◌, sym, ap, ◌∙◌, ◌*◌, ◌/◌, length, take, arith}
+use Rattle.words.proofs.Reading.{before, before_last, bytes_odd, bytes_end, high_bad, low_bad, pair_more}
 use Rattle.words.proofs.hex_pairs.Goals as goal
 
-pub loop-count-init : goal.loop-count-init
-loop-count-init c = (omega arith, refl, before_empty (bytes_from c.args.word.now))
+pub returns-in_err-high-clause-given_after : goal.returns-in_err-high-clause-given_after
+returns-in_err-high-clause-given_after c =
+    let l = c.loop-i in
+    rw c.from_residual.ensures (sym (ap (before (take l.i l.given)) (high_bad c.args.word.now (2 * l.i) (omega arith) c.in_err-high.ensures)) ∙ l.invariant)
 
-pub returns-then-high-low : goal.returns-then-high-low
-returns-then-high-low c =
-    let w = c.args.word.now in
-    let l = c.loop-count in
-    let x = c.hex_digit-high in
-    let y = c.hex_digit-low in
-    record { given_after = pair_bad w l.given l.count x.result y.result x.ensures.0 y.ensures.0 (omega arith) c.if-high-low.true ∙ l.invariant.2; count_in_bounds = omega arith }
+pub returns-in_err-low-clause-given_after : goal.returns-in_err-low-clause-given_after
+returns-in_err-low-clause-given_after c =
+    let l = c.loop-i in
+    rw c.from_residual-in_err-low.ensures (sym (ap (before (take l.i l.given)) (low_bad c.args.word.now (2 * l.i) (omega arith) c.in_err-low.ensures)) ∙ l.invariant)
 
-pub overflow_mul-given : goal.overflow_mul-given
-overflow_mul-given c = let d = digits c.hex_digit-high.result c.hex_digit-low.result c.if-high-low.false in omega arith
+pub loop-i-preserved : goal.loop-i-preserved
+loop-i-preserved c =
+    let l = c.loop-i in
+    let x = c.in_ok-high.ensures in
+    let y = c.in_ok-low.ensures in
+    pair_more c.args.word.now l.given l.i c.in_ok-high.high c.in_ok-low.low x.0 y.0 x.1 y.1 (omega arith) (omega arith) ∙ l.invariant
 
-pub overflow_add-given : goal.overflow_add-given
-overflow_add-given c = let d = digits c.hex_digit-high.result c.hex_digit-low.result c.if-high-low.false in omega arith
+pub returns-then-word-eq0-clause-given_after : goal.returns-then-word-eq0-clause-given_after
+returns-then-word-eq0-clause-given_after c =
+    let l = c.loop-i in
+    let e : length c.args.word.now / 2 ≡ l.i = omega arith in
+    rw e (sym (before_last (take l.i l.given)) ∙ sym (ap (before (take l.i l.given)) (bytes_end c.args.word.now (2 * l.i) (omega arith))) ∙ l.invariant)
 
-pub loop-count-preserved : goal.loop-count-preserved
-loop-count-preserved c =
-    let w = c.args.word.now in
-    let l = c.loop-count in
-    let x = c.hex_digit-high in
-    let y = c.hex_digit-low in (
-      omega arith,
-      length-set l.given l.count (x.result * 16 + y.result) ∙ l.invariant.1,
-      pair_more w l.given l.count x.result y.result x.ensures.0 y.ensures.0 (omega arith) (omega arith) c.if-high-low.false ∙ l.invariant.2,
-    )
-
-pub returns : goal.returns
-returns c =
-    let l = c.loop-count in
-    record { given_after = pairs_end c.args.word.now (take l.count l.given) l.count (omega arith) (omega arith) ∙ l.invariant.2; count_in_bounds = omega arith }
+pub returns-clause-given_after : goal.returns-clause-given_after
+returns-clause-given_after c =
+    let l = c.loop-i in
+    sym (ap (before (take l.i l.given)) (bytes_odd c.args.word.now (2 * l.i) (omega arith))) ∙ l.invariant

@@ -1,37 +1,30 @@
 -- `words::number` meets its contract. The invariant: what is left, behind the digits so far, gives the whole.
 -- Assumes nothing.
-use mathlib.Core.Path.{◌≡◌, sym, ap, ◌∙◌}
-use native.Mathlib.Omega.{arith}
-use lib.ListN.{get_or}
-use Rattle.std.proofs.Common.{None, Some}
-use Rattle.words.specs.Words.{number_says, add_digit}
-use Rattle.words.proofs.Reading.{number_empty, number_some, number_stop, number_more, number_end}
+use Rattle.std.proofs.Common.{sym, ap, ◌∙◌, ◌+◌, drop, arith}
+use Rattle.words.specs.Words.{number_then}
+use Rattle.words.proofs.Reading.{number_empty, number_some, number_step, number_end, then_none}
 use Rattle.words.proofs.number.Goals as goal
 
-pub returns-then-word-eq0 : goal.returns-then-word-eq0
-returns-then-word-eq0 c =
-    sym (number_empty c.args.word.now (omega arith))
+pub returns-then-is_empty : goal.returns-then-is_empty
+returns-then-is_empty c = sym (number_empty c.args.word.now (grind arith))
 
-pub loop-i-init : goal.loop-i-init
-loop-i-init c =
-    (omega arith, sym (number_some c.args.word.now (omega arith)))
+pub loop-c-init : goal.loop-c-init
+loop-c-init c = sym (number_some c.args.word.now (grind arith))
 
-pub returns-in-NoNumber : goal.returns-in-NoNumber
-returns-in-NoNumber c =
-    let l = c.loop-i in
+pub returns-in_err-v : goal.returns-in_err-v
+returns-in_err-v c =
+    let l = c.loop-c in
     let w = c.args.word.now in
-    let e : add_digit l.v (get_or w l.i 0) ≡ None = sym c.add_digit-more.ensures ∙ ap number_says c.in-NoNumber.is in
-    sym (number_stop w l.i l.v (omega arith) e) ∙ l.invariant.1
+    let rest = drop (l.c-index + 1) w in
+    rw c.from_residual.ensures (sym (then_none rest) ∙ ap (number_then rest) c.in_err-v.ensures ∙ sym (number_step w l.c-index l.v (omega arith)) ∙ l.invariant)
 
-pub loop-i-preserved : goal.loop-i-preserved
-loop-i-preserved c =
-    let l = c.loop-i in
+pub loop-c-preserved : goal.loop-c-preserved
+loop-c-preserved c =
+    let l = c.loop-c in
     let w = c.args.word.now in
-    let n = c.in-Value.n in
-    let e : add_digit l.v (get_or w l.i 0) ≡ Some n = sym c.add_digit-more.ensures ∙ ap number_says c.in-Value.is in
-    (omega arith, sym (number_more w l.i l.v n (omega arith) e) ∙ l.invariant.1)
+    ap (number_then (drop (l.c-index + 1) w)) c.in_ok-v.ensures ∙ sym (number_step w l.c-index l.v (omega arith)) ∙ l.invariant
 
 pub returns : goal.returns
 returns c =
-    let l = c.loop-i in
-    sym (number_end c.args.word.now l.i l.v (omega arith)) ∙ l.invariant.1
+    let l = c.loop-c in
+    sym (number_end c.args.word.now l.c-index l.v (omega arith)) ∙ l.invariant

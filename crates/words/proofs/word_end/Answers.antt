@@ -1,25 +1,14 @@
--- `words::word_end` meets its contract. The invariant: what is left gives the whole.
+-- `words::word_end` meets its contract: `up_to` finds what `position` finds.
 -- Assumes nothing.
-use mathlib.Core.Path.{sym}
-use native.Mathlib.Omega.{arith}
-use Rattle.words.proofs.Reading.{up_here, up_more, up_end}
-use lib.Seq.{length-take-le}
+use Rattle.std.proofs.Common.{◌≡◌, ℕ, Option, length, unwrap_or, position, eqb, sym, ap, ◌∙◌, rules, tests}
+use Rattle.std.proofs.lemmas.Iterator.Search.{position_from_yields_List}
+use Rattle.std.proofs.lemmas.Iterator.{YieldsList-from_slice}
+use Rattle.words.proofs.Reading.{up_is}
 use Rattle.words.proofs.word_end.Goals as goal
 
-pub returns-then-text-i-eq32 : goal.returns-then-text-i-eq32
-returns-then-text-i-eq32 c =
-    let s = c.args.text.now in
-    let l = c.loop-i in
-    record { value = omega (arith, up_here 32 s l.i (omega arith) c.if-text-i-eq32.true); prefix_len = (omega arith, sym (length-take-le l.i s (omega arith))) }
-
-pub loop-i-preserved : goal.loop-i-preserved
-loop-i-preserved c =
-    let s = c.args.text.now in
-    let l = c.loop-i in
-    (omega arith, omega (arith, up_more 32 s l.i (omega arith) c.if-text-i-eq32.false))
-
-pub returns : goal.returns
-returns c =
-    let s = c.args.text.now in
-    let l = c.loop-i in
-    record { value = omega (arith, up_end 32 s l.i (omega arith)); prefix_len = (omega arith, sym (length-take-le l.i s (omega arith))) }
+pub returns-clause-value : goal.returns-clause-value
+returns-clause-value c =
+    let w = c.args.text.now in
+    let e : c.position.result ≡ position (λ b. eqb b 32) w =
+    position_from_yields_List _ _ _ _ c.position.ensures.ran (YieldsList-from_slice w c.iter.ensures.rest) (λ x b q k. search (rules, tests)) in
+    c.unwrap_or.ensures ∙ ap (λ (o : Option ℕ). unwrap_or o (length w)) e ∙ sym (up_is w)

@@ -1,29 +1,28 @@
 -- `writer::put` meets its contract: each return is one law of `written_by`.
 -- Assumes nothing.
 use native.Mathlib.Omega.{arith}
-use borrow.Author.Tests.{not-true, not-false}
 use Rattle.writer.proofs.Told.{told_11, told_revision, told_few, told_12, told_writable, told_length, one_seen}
 use Rattle.writer.proofs.put.Goals as goal
 
-pub returns-then-not-a : goal.returns-then-not-a
-returns-then-not-a c = told_11 _ _ _ c.accepts-a.ensures _ (not-true _ c.if-not-a.true)
+pub returns-in_default : goal.returns-in_default
+returns-in_default c = told_11 _ _ _ _ c.in_default.ensures
 
 pub overflow_cast-h : goal.overflow_cast-h
-overflow_cast-h c = omega (arith, told_revision 0 _ _ c.accepts-a.ensures (not-false _ c.if-not-a.false))
+overflow_cast-h c = omega (arith, told_revision 0 _ _ c.in-Some.ensures)
 
 pub sizes-z-requires : goal.sizes-z-requires
-sizes-z-requires c = (c.requires.0, told_few 0 _ _ c.accepts-a.ensures (not-false _ c.if-not-a.false))
+sizes-z-requires c = (c.requires.0, told_few 0 _ _ c.in-Some.ensures)
 
 pub returns-then-not-all-out : goal.returns-then-not-all-out
-returns-then-not-all-out c = told_12 _ _ _ c.accepts-a.ensures (not-false _ c.if-not-a.false) c.sizes-z.ensures _ c.if-not-all-out.true
+returns-then-not-all-out c = told_12 _ _ _ c.in-Some.ensures c.sizes-z.ensures _ c.if-not-all-out.true
 
-pub put_block-requires : goal.put_block-requires
-put_block-requires c =
+pub put_block-requires-clause-writable : goal.put_block-requires-clause-writable
+put_block-requires-clause-writable c =
     let a = c.args in
-    let p = c.requires in record { subs_bound = (p.0, p.3); writable = told_writable a.ceiling _ _ c.accepts-a.ensures (not-false _ c.if-not-a.false) c.sizes-z.ensures a.out.now c.if-not-all-out.false p.1 (one_seen a.table.now a.row p.2) }
+    let p = c.requires in
+    told_writable a.ceiling _ _ c.in-Some.ensures c.sizes-z.ensures a.out.now c.if-not-all-out.false p.1 (one_seen a.table.now a.row p.2)
 
 pub returns : goal.returns
 returns c =
     let a = c.args in
-    told_length _ _ _ c.accepts-a.ensures (not-false _ c.if-not-a.false) c.sizes-z.ensures a.out.now c.if-not-all-out.false
-    c.put_block.ensures
+    told_length _ _ _ c.in-Some.ensures c.sizes-z.ensures a.out.now c.if-not-all-out.false c.put_block.ensures
