@@ -15,14 +15,6 @@ ghost use Rattle.writer.specs.Code.{stamps_out, lists_out, Ready, Writable};
 use draft::{Head, Measured};
 use refusal::Refusal;
 use rows::Row;
-use table::RowFound;
-
-// The length of the block that was written, or why none was.
-#[derive(Clone, Copy)]
-pub enum Written {
-    Length(usize),
-    Refused(Refusal),
-}
 
 // V8: TOW and WNc.
 fn put_stamps(out: &mut [u8], h: Head)
@@ -86,7 +78,7 @@ fn put_block(
     pen::seal(out, h.number + 8192 * h.revision, all);
 }
 
-// A draft by its row, of one level: R11, R12, then the bytes.
+// A draft by its row, of one level: R11, R12, then the bytes. How long the block is.
 fn put(
     ceiling: usize,
     table: &[u8],
@@ -95,23 +87,23 @@ fn put(
     kinds: &[u8],
     bits: &[u64],
     out: &mut [u8],
-) -> Written
+) -> Result<usize, Refusal>
     requires { (row.start + row.bodies + row.subs ≤ field_count table.now) × (block_ok (block_of table.now row) ≡ true) × (row.firsts ≡ 0) × (h.number ≤ 65535) }
     ensures { write_outcome (written_says result) out.new ≡ written_by ceiling (Some (block_of table.now row)) (draft_of h kinds.now bits.now) out.old }
 {
     let Some(subs) = draft::accepts(table, row, h, kinds, bits) else {
-        return Written::Refused(Refusal::BadValues);
+        return Err(Refusal::BadValues);
     };
     let z = draft::sizes(table, row, h.revision as u8, subs);
     let all = z.all;
     if !((all <= out.len()) & (all <= ceiling) & (z.sub <= 255)) {
-        return Written::Refused(Refusal::NoRoom);
+        return Err(Refusal::NoRoom);
     }
     put_block(table, row, h, kinds, bits, subs, z, out);
-    Written::Length(all)
+    Ok(all)
 }
 
-// The block of a draft, of no more bytes than the ceiling, at the start of the buffer.
+// The block of a draft, of no more bytes than the ceiling, at the start of the buffer: how long it is, or why there is none.
 pub fn write(
     ceiling: usize,
     table: &[u8],
@@ -119,22 +111,19 @@ pub fn write(
     kinds: &[u8],
     bits: &[u64],
     out: &mut [u8],
-) -> Written
+) -> Result<usize, Refusal>
     requires { table_ok table.now ≡ true }
     ensures { write_outcome (written_says result) out.new ≡ written_of ceiling (decode table.now) (draft_of h kinds.now bits.now) out.old }
 {
-    if 65535 < h.number {
-        return Written::Refused(Refusal::NoRow);
+    let Ok(number) = u16::try_from(h.number) else {
+        return Err(Refusal::NoRow);
+    };
+    let Some(row) = table::find(table, number) else {
+        return Err(Refusal::NoRow);
+    };
+    // W1: only rows of one level are written by
+    if row.firsts != 0 {
+        return Err(Refusal::NoRow);
     }
-    let number = h.number as u16;
-    match table::find(table, number) {
-        RowFound::At(row) => {
-            // W1: only rows of one level are written by
-            if row.firsts != 0 {
-                return Written::Refused(Refusal::NoRow);
-            }
-            put(ceiling, table, row, h, kinds, bits, out)
-        }
-        RowFound::Nothing => Written::Refused(Refusal::NoRow),
-    }
+    put(ceiling, table, row, h, kinds, bits, out)
 }
