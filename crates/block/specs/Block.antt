@@ -5,11 +5,11 @@ use Rattle.frame.specs.Frame.{id_at, number_of, revision_of, whole_frame}
 use Rattle.refusal.specs.declared.Refusal.{Refusal}
 use Rattle.refusal.specs.Numbers.{number_for}
 use Rattle.rows.specs.declared.FieldRow.{FieldRow}
-use Rattle.rows.specs.declared.Row.{Row}
 use Rattle.table.specs.Lists.{every, pick}
 use Rattle.table.specs.Rows.{BlockRow, Table, ends, one_level, first_rows, second_rows, nested_row}
-use Rattle.rows.specs.Places.{field_count}
-use Rattle.table.specs.Decode.{block_of, decode}
+use Rattle.table.specs.declared.Shape.{Shape}
+use Rattle.table.specs.Decode.{decode}
+use Rattle.table.specs.Shape.{shape_says}
 use Rattle.table.specs.Rules.{block_ok}
 use Rattle.table.specs.Lookup.{carried, find_row}
 use Rattle.walk.specs.declared.Span.{Span}
@@ -109,37 +109,35 @@ unfoldable pub seen_sub : Table → List ℕ → ℕ → Seen
 seen_sub tab b k = seen_sub_row b k (seen tab b)
 
 -- D9: the row or the number that the code's answer means
-abbrev pub matched_says : List ℕ → Result Row Refusal → Seen
-matched_says t (Ok r) = row (block_of t r)
-matched_says t (Err x) = refused_by (number_for x)
+abbrev pub matched_says : Result Shape Refusal → Seen
+matched_says (Ok s) = row (shape_says s)
+matched_says (Err x) = refused_by (number_for x)
 
-abbrev pub sub_matched_says : List ℕ → Result (Row × Nest) Refusal → Seen
-sub_matched_says t (Ok m) = row (block_of t m.0)
-sub_matched_says t (Err x) = refused_by (number_for x)
+abbrev pub sub_matched_says : Result (Shape × Nest) Refusal → Seen
+sub_matched_says (Ok m) = row (shape_says m.0)
+sub_matched_says (Err x) = refused_by (number_for x)
 
--- what a caller may use of a row that was found: its field rows are there and keep the rules, N and SBLength are there, and the block
+-- what a caller may use of a row that was found: its field rows keep the rules, N and SBLength are there, and the block
 -- passed
-pub record Fine (t b : List ℕ) (r : Row) : Type 0 where
-  pub inside : r.start + r.bodies + r.subs ≤ field_count t
-  pub rules : block_ok (block_of t r) ≡ true
+pub record Fine (b : List ℕ) (s : Shape) : Type 0 where
+  pub rules : block_ok (shape_says s) ≡ true
   pub long : 16 ≤ length b
-  pub body : body_fits b (block_of t r) ≡ true
-  pub subs : subs_fit b (block_of t r) ≡ true
+  pub body : body_fits b (shape_says s) ≡ true
+  pub subs : subs_fit b (shape_says s) ≡ true
 
-pub record Matching (t b : List ℕ) (l : Result Row Refusal) : Type 0 where
-  pub is : matched_says t l ≡ seen (decode t) b
-  pub fine : IfOk l (Fine t b)
+pub record Matching (t b : List ℕ) (l : Result Shape Refusal) : Type 0 where
+  pub is : matched_says l ≡ seen (decode t) b
+  pub fine : IfOk l (Fine b)
 
 -- of a sub-block that is there: where it stands, in the block, with those nested in it, and the carried fields of each level lie in theirs
-pub record SubFine (t b : List ℕ) (k : ℕ) (r : Row) (n : Nest) : Type 0 where
-  pub inside : r.start + r.bodies + r.subs ≤ field_count t
-  pub rules : block_ok (block_of t r) ≡ true
+pub record SubFine (b : List ℕ) (k : ℕ) (s : Shape) (n : Nest) : Type 0 where
+  pub rules : block_ok (shape_says s) ≡ true
   pub long : 16 ≤ length b
-  pub stands : n ≡ nest_of (block_of t r) b k
+  pub stands : n ≡ nest_of (shape_says s) b k
   pub within : nest_end n ≤ length b
-  pub fields : every (ends_by (revision_in b) n.first.size) (first_rows (block_of t r)) ≡ true
-  pub nested : 0 < n.count → every (ends_by (revision_in b) n.size) (second_rows (block_of t r)) ≡ true
+  pub fields : every (ends_by (revision_in b) n.first.size) (first_rows (shape_says s)) ≡ true
+  pub nested : 0 < n.count → every (ends_by (revision_in b) n.size) (second_rows (shape_says s)) ≡ true
 
-pub record SubMatching (t b : List ℕ) (k : ℕ) (l : Result (Row × Nest) Refusal) : Type 0 where
-  pub is : sub_matched_says t l ≡ seen_sub (decode t) b k
-  pub fine : IfOk l (λ m. SubFine t b k m.0 m.1)
+pub record SubMatching (t b : List ℕ) (k : ℕ) (l : Result (Shape × Nest) Refusal) : Type 0 where
+  pub is : sub_matched_says l ≡ seen_sub (decode t) b k
+  pub fine : IfOk l (λ m. SubFine b k m.0 m.1)

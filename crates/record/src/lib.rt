@@ -4,12 +4,14 @@
 ghost use Rattle.std.specs.Prelude.{◌≡◌, true, ◌+◌, ◌≤◌, length};
 ghost use Rattle.std.specs.Result.{result_unwrap_or};
 ghost use Rattle.wire.specs.Parts.{offset_by};
+ghost use Rattle.table.specs.Lists.{every, pick};
 ghost use Rattle.table.specs.Rows.{ends};
+ghost use Rattle.table.specs.Shape.{fields_of};
 ghost use Rattle.table.specs.Decode.{decode};
 ghost use Rattle.table.specs.Rules.{table_ok};
 ghost use Rattle.record.specs.Answer.{Answers, handed_says};
 ghost use Rattle.block.specs.Block.{ends_by};
-ghost use Rattle.record.specs.Calls.{field_said, body_field, sub_slice, sub_field, sub_block, nowhere, sub_place, sub_block_refusal, tow_row, wnc_row, stamp};
+ghost use Rattle.record.specs.Calls.{field_said, field_or9, body_field, sub_slice, sub_field, sub_block, nowhere, sub_place, sub_block_refusal, tow_row, wnc_row, stamp};
 
 use refusal::Refusal;
 use rows::FieldRow;
@@ -30,17 +32,24 @@ pub fn field_said(s: &[u8], f: FieldRow, revision: u8) -> Answer
     Ok(value::read(s, f))
 }
 
+// Field i of these rows, in these bytes, in which each ends that the revision carries.
+pub fn field_in(fields: &[[u8; 4]], i: usize, s: &[u8], revision: u8) -> Answer
+    requires { every (ends_by revision (length s.now)) (fields_of fields.now) ≡ true }
+    ensures { Answers result (field_or9 revision s.now (pick (fields_of fields.now) i)) }
+{
+    match fields.get(i) {
+        Some(field) => field_said(s, rows::field(*field), revision),
+        None => Err(Refusal::NoSuchField),
+    }
+}
+
 // Body field i of a block.
 pub fn body_field(table: &[u8], block: &[u8], i: usize) -> Answer
     requires { table_ok table.now ≡ true }
     ensures { Answers result (body_field (decode table.now) block.now i) }
 {
     let row = block::row_of(table, block)?;
-    if row.bodies <= i {
-        return Err(Refusal::NoSuchField);
-    }
-    let f = rows::field_at(table, row.start + i);
-    field_said(block, f, block::revision(block))
+    field_in(row.body, i, block, block::revision(block))
 }
 
 // The part of a block that stands there.
@@ -58,11 +67,8 @@ pub fn sub_field(table: &[u8], block: &[u8], k: usize, j: usize) -> Answer
     ensures { Answers result (sub_field (decode table.now) block.now k j) }
 {
     let (row, nest) = block::sub_row_of(table, block, k)?;
-    if table::first_count(row) <= j {
-        return Err(Refusal::NoSuchField);
-    }
-    let f = rows::field_at(table, row.start + row.bodies + j);
-    field_said(part(block, nest.first), f, block::revision(block))
+    let span = part(block, nest.first);
+    field_in(table::first_rows(row), j, span, block::revision(block))
 }
 
 // Where sub-block k of a block stands, or why there is none.

@@ -28,6 +28,10 @@ field_at t i =
 abbrev pub field_row : ℕ → ℕ → ℕ → ℕ → FieldRow
 field_row offset kind first mark = record { offset = offset; kind = kind; first = first; mark = mark }
 
+-- T11: the four bytes of a field row
+abbrev pub field_of : List ℕ → FieldRow
+field_of b = field_row (get_or b 0 0) (get_or b 1 0) (get_or b 2 0) (get_or b 3 0)
+
 -- T7: the block row at p
 unfoldable pub row_from : List ℕ → ℕ → Row
 row_from t p =

@@ -3,7 +3,7 @@
 #![tactic(auto)]
 
 ghost use Rattle.std.specs.Prelude.{◌≡◌, ◌+◌, ◌*◌, ◌≤◌, ◌<◌, length};
-ghost use Rattle.rows.specs.Places.{version_of, block_count, blocks_at, field_count, field_at, row_at};
+ghost use Rattle.rows.specs.Places.{version_of, block_count, blocks_at, field_count, field_of, row_at};
 
 // T11: `kind` is the type, `first` the first revision.
 #[derive(Clone, Copy)]
@@ -83,17 +83,16 @@ pub fn field_count(t: &[u8], at: usize) -> usize
     at / 4
 }
 
-// The field row of index i.
-pub fn field_at(t: &[u8], i: usize) -> FieldRow
-    requires { i < field_count t.now }
-    ensures { (result ≡ field_at t.now i) × (result.offset < 65536) }
+// T11: a field row, from its four bytes.
+pub fn field(bytes: [u8; 4]) -> FieldRow
+    ensures { (result ≡ field_of bytes) × (result.offset < 256) }
 {
-    let p = 4 * i;
+    let [offset, kind, first, mark] = bytes;
     FieldRow {
-        offset: wide(t[p]),
-        kind: t[p + 1],
-        first: t[p + 2],
-        mark: t[p + 3],
+        offset: wide(offset),
+        kind,
+        first,
+        mark,
     }
 }
 

@@ -18,6 +18,8 @@ use Rattle.table.specs.Decode.{to_blocks, to_fields, crc_field, covered, rows_of
 use Rattle.table.specs.Rules.{size_ok, count_ok, to_blocks_ok, to_fields_ok, crc_ok, closing_ok, file_ok, form_ok, rising_ok, meaning_ok, table_ok}
 use Rattle.table.specs.Code.{row_pass}
 use Rattle.table.specs.Answer.{check_version, check_refused, check_of}
+use Rattle.table.specs.declared.Shape.{Shape}
+use Rattle.table.specs.Shape.{shape_says}
 use Rattle.table.specs.Lookup.{has_number, find_row, Finding}
 use Rattle.table.specs.Theorems.{OneRow}
 use Rattle.table.proofs.Lists.{first_map}
@@ -73,8 +75,10 @@ module _ (t : List ℕ) (n : ℕ) where
   unfolding find_row decode block_of
   find_is = first_map (block_of t) (has_number n) (rows_of t)
 
-  pub found_at : table_ok t ≡ true → {r : Row} {i : ℕ} → first_that (numbered n) (rows_of t) ≡ Some r → r ≡ row_at t i → i < block_count t → Finding t n (Some r)
-  found_at ok e g h = record { is = sym (find_is ∙ ap (option_map (block_of t)) e); stands = stands t ok _ h g }
+  pub found_at : table_ok t ≡ true → {r : Row} {i : ℕ} {s : Shape} → first_that (numbered n) (rows_of t) ≡ Some r → r ≡ row_at t i → i < block_count t
+      → shape_says s ≡ block_of t r → Finding t n (Some s)
+  found_at ok e g h m =
+      record { is = ap Some m ∙ sym (find_is ∙ ap (option_map (block_of t)) e); stands = stands t ok _ h (m ∙ ap (block_of t) g) }
 
   pub found_nothing : first_that (numbered n) (rows_of t) ≡ None → Finding t n None
   found_nothing e = record { is = sym (find_is ∙ ap (option_map (block_of t)) e); stands = tt }

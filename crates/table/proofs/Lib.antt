@@ -6,3 +6,5 @@ pub mod Loops
 pub mod Laws
 pub mod Told
 pub mod Levels
+pub mod Chunks
+pub mod FieldRows

@@ -1,115 +1,126 @@
 -- The loops: what is left of the rows gives the whole. Each way through a turn is one law.
 -- Assumes nothing.
 use mathlib.Core.Bool.{Bool, true, false, ◌&&◌, cond, and-false}
-use mathlib.Core.List.{List}
+use mathlib.Core.List.{List, [], ◌∷◌}
 use Rattle.std.proofs.Common.{Option, None, Some}
 use mathlib.Core.Path.{◌≡◌, refl, sym, ap, ◌∙◌}
-use Prim.Native.Nat.{ℕ, zero, suc, ◌+◌, ◌-◌, ◌<◌, ◌≤◌}
+use Prim.Native.Nat.{ℕ, ◌+◌, ◌-◌, ◌<◌, ◌≤◌}
 use lib.Dec.{leb, eqb}
-use lib.ListN.{take, drop}
+use lib.ListN.{take, drop, get_or, length}
 use native.Mathlib.Omega.{arith}
 use borrow.Author.Tests.{leb-true, eqb-true, eq-eqb, ne_eqb, le-leb, lt-leb}
 use Rattle.rows.specs.declared.FieldRow.{FieldRow}
 use Rattle.rows.specs.declared.Row.{Row}
 use Rattle.table.specs.Lists.{tabulate, every, first_that}
 use Rattle.table.specs.Rows.{ends}
-use Rattle.rows.specs.Places.{field_at, row_at}
+use Rattle.rows.specs.Places.{row_at}
 use Rattle.table.specs.Decode.{block_of}
 use Rattle.table.specs.Rules.{is_count, is_pair, is_nested, is_triple, early, nest_ok}
 use Rattle.table.specs.Code.{field_step, field_pass, one_pass, two_pass, block_pass, row_step, row_pass}
+use Rattle.rows.specs.Places.{field_of}
+use Rattle.table.specs.Shape.{fields_of, shape_says}
+use Rattle.table.specs.declared.Shape.{Shape}
+use Rattle.std.proofs.Math.ListN.{drop_of_length-le}
+use Rattle.std.proofs.lemmas.List.{take-map, drop-map, length-map}
+use Rattle.table.proofs.FieldRows.{none_left, one_left, fields_pick}
 use Rattle.table.proofs.Bools.{last_four}
-use Rattle.table.proofs.Lists.{tab_none, tab-more, length_tab, pick_in, take_tab, drop_tab}
+use Rattle.table.proofs.Lists.{tab_none, tab-more}
 use Rattle.wire.proofs.Tests.{both}
 
 -- field rows
-module _ (t : List ℕ) (at k low rev top : ℕ) (whole : Bool) (inv : whole ≡ field_pass low rev top (tabulate (field_at t) at k)) where
-  pub fields_done : k ≡ 0 → true ≡ whole
+module _ (rows : List (List ℕ)) (k low rev top : ℕ) (whole : Bool) (inv : whole ≡ field_pass low rev top (fields_of (drop k rows))) where
+  pub fields_done : length rows ≤ k → true ≡ whole
   unfolding field_pass
-  fields_done e = rw (inv, tab_none (field_at t) at k e)
+  fields_done h = sym (inv ∙ ap (field_pass low rev top) (none_left rows k h))
 
-  by : 0 < k → whole ≡ (field_step low rev top (field_at t at) && field_pass (ends (field_at t at)) (field_at t at).first top (tabulate (field_at t) (at + 1) (k - 1)))
-  unfolding field_pass
-  by h = inv ∙ ap (field_pass low rev top) (tab-more (field_at t) at k h)
+  module _ (f : FieldRow) (d : List ℕ) (g : f ≡ field_of (get_or rows k d)) (h : k < length rows) where
+    by : whole ≡ (field_step low rev top f && field_pass (ends f) f.first top (fields_of (drop (k + 1) rows)))
+    unfolding field_pass
+    by = inv ∙ ap (field_pass low rev top) (one_left rows k d h) ∙ rw g
 
-  module _ (f : FieldRow) (g : f ≡ field_at t at) (h : 0 < k) where
     pub fields_stop : field_step low rev top f ≡ false → false ≡ whole
-    fields_stop e = sym (by h ∙ rw (← g, e))
+    fields_stop e = sym (by ∙ rw e)
 
-    pub fields_go : field_step low rev top f ≡ true → (n i j : ℕ) → n ≡ ends f → i ≡ at + 1 → j ≡ k - 1
-        → whole ≡ field_pass n f.first top (tabulate (field_at t) i j)
-    fields_go e n i j u v w = by h ∙ rw (← g, e, u, v, w)
+    pub fields_go : field_step low rev top f ≡ true → (n : ℕ) → n ≡ ends f → whole ≡ field_pass n f.first top (fields_of (drop (k + 1) rows))
+    fields_go e n u = by ∙ rw (e, u)
 
 -- N and SBLength
-module _ (t : List ℕ) (at : ℕ) where
-  pub pair_two : {k : ℕ} {n s : FieldRow} {x y : Bool} → k ≡ 2 → n ≡ field_at t at → s ≡ field_at t (at + 1) → x ≡ is_count 14 n → y ≡ is_count 15 s
-      → (x && y) ≡ is_pair (tabulate (field_at t) at k)
-  unfolding is_pair tabulate
-  pair_two e u v a b = rw (e, a, b, u, v)
+pub pair_two : (rows : List (List ℕ)) {n s : FieldRow} {x y : Bool} (d : List ℕ) → 2 ≤ length rows → length rows < 3
+    → n ≡ field_of (get_or rows 0 d) → s ≡ field_of (get_or rows 1 d) → x ≡ is_count 14 n → y ≡ is_count 15 s → (x && y) ≡ is_pair (fields_of rows)
+unfolding is_pair
+pair_two [] d l h u v a b = absurd (omega arith)
+pair_two (r ∷ []) d l h u v a b = absurd (omega arith)
+pair_two (r ∷ q ∷ []) d l h u v a b = rw (a, b, u, v)
+pair_two (r ∷ q ∷ p ∷ rows) d l h u v a b = absurd (omega arith)
 
-  pub pair_other : (k : ℕ) → (k ≡ 2 → ⊥) → false ≡ is_pair (tabulate (field_at t) at k)
-  unfolding is_pair tabulate
-  pair_other zero e = refl
-  pair_other (suc zero) e = refl
-  pair_other (suc (suc zero)) e = absurd (e refl)
-  pair_other (suc (suc (suc k))) e = refl
+pub pair_few : (rows : List (List ℕ)) → length rows < 2 → false ≡ is_pair (fields_of rows)
+unfolding is_pair
+pair_few [] h = refl
+pair_few (r ∷ []) h = refl
+pair_few (r ∷ q ∷ rows) h = absurd (omega arith)
+
+pub pair_many : (rows : List (List ℕ)) → 3 ≤ length rows → false ≡ is_pair (fields_of rows)
+unfolding is_pair
+pair_many [] h = refl
+pair_many (r ∷ []) h = refl
+pair_many (r ∷ q ∷ []) h = absurd (omega arith)
+pair_many (r ∷ q ∷ p ∷ rows) h = refl
 
 -- N1, SB1Length and SB2Length
-module _ (t : List ℕ) (at : ℕ) where
-  pub triple_few : (k : ℕ) → k < 3 → false ≡ is_triple (tabulate (field_at t) at k)
-  unfolding is_triple tabulate
-  triple_few zero h = refl
-  triple_few (suc zero) h = refl
-  triple_few (suc (suc zero)) h = refl
-  triple_few (suc (suc (suc k))) h = absurd (omega arith)
+pub triple_few : (rows : List (List ℕ)) → length rows < 3 → false ≡ is_triple (fields_of rows)
+unfolding is_triple
+triple_few [] h = refl
+triple_few (r ∷ []) h = refl
+triple_few (r ∷ q ∷ []) h = refl
+triple_few (r ∷ q ∷ p ∷ rows) h = absurd (omega arith)
 
-  pub triple_some : (k : ℕ) → 3 ≤ k → {n s u : FieldRow} {x y z : Bool} → n ≡ field_at t at → s ≡ field_at t (at + 1) → u ≡ field_at t (at + 2)
-      → x ≡ is_count 14 n → y ≡ is_count 15 s → z ≡ is_count 16 u → (x && y && z) ≡ is_triple (tabulate (field_at t) at k)
-  unfolding is_triple tabulate
-  triple_some zero h e f g a b c = absurd (omega arith)
-  triple_some (suc zero) h e f g a b c = absurd (omega arith)
-  triple_some (suc (suc zero)) h e f g a b c = absurd (omega arith)
-  triple_some (suc (suc (suc k))) h e f g a b c = let n : at + 1 + 1 ≡ at + 2 = omega arith in rw (n, a, b, c, e, f, g)
+pub triple_some : (rows : List (List ℕ)) {n s u : FieldRow} {x y z : Bool} (d : List ℕ) → 3 ≤ length rows
+    → n ≡ field_of (get_or rows 0 d) → s ≡ field_of (get_or rows 1 d) → u ≡ field_of (get_or rows 2 d)
+    → x ≡ is_count 14 n → y ≡ is_count 15 s → z ≡ is_count 16 u → (x && y && z) ≡ is_triple (fields_of rows)
+unfolding is_triple
+triple_some [] d h e f g a b c = absurd (omega arith)
+triple_some (r ∷ []) d h e f g a b c = absurd (omega arith)
+triple_some (r ∷ q ∷ []) d h e f g a b c = absurd (omega arith)
+triple_some (r ∷ q ∷ p ∷ rows) d h e f g a b c = rw (a, b, c, e, f, g)
 
 -- the sub-fields of a block row
-module _ (t : List ℕ) (r : Row) where
-  pub one_none : r.subs ≡ 0 → true ≡ one_pass (block_of t r)
-  unfolding one_pass block_of field_pass
-  one_none e =
-      sym (rw (length_tab (field_at t) (r.start + r.bodies) r.subs, tab_none (field_at t) (r.start + r.bodies) r.subs e, e))
+module _ (s : Shape) where
+  pub one_none : length s.subs.now ≡ 0 → true ≡ one_pass (shape_says s)
+  unfolding one_pass field_pass
+  one_none e = let n : s.subs.now ≡ [] = drop_of_length-le s.subs.now {i = 0} (omega arith) in sym (rw n)
 
-  pub one_some : (r.subs ≡ 0 → ⊥) → {y z : Bool} → y ≡ field_pass 0 0 r.highest (tabulate (field_at t) (r.start + r.bodies) r.subs)
-      → z ≡ is_pair (tabulate (field_at t) r.start r.bodies) → (y && z) ≡ one_pass (block_of t r)
-  unfolding one_pass block_of
-  one_some e b d = sym (rw (length_tab (field_at t) (r.start + r.bodies) r.subs, ne_eqb r.subs 0 e, ← b, ← d))
+  pub one_some : (length s.subs.now ≡ 0 → ⊥) → {y z : Bool} → y ≡ field_pass 0 0 s.highest (fields_of s.subs.now)
+      → z ≡ is_pair (fields_of s.body.now) → (y && z) ≡ one_pass (shape_says s)
+  unfolding one_pass
+  one_some e b d = sym (rw (length-map, ne_eqb (length s.subs.now) 0 e, ← b, ← d))
 
-  pub two_few : r.subs < r.firsts → false ≡ two_pass (block_of t r)
-  unfolding two_pass nest_ok block_of
+  pub two_few : length s.subs.now < s.firsts → false ≡ two_pass (shape_says s)
+  unfolding two_pass nest_ok
   two_few h =
-      let first = field_pass 0 0 r.highest (take r.firsts (tabulate (field_at t) (r.start + r.bodies) r.subs)) in
-      let second = field_pass 0 0 r.highest (drop r.firsts (tabulate (field_at t) (r.start + r.bodies) r.subs)) in
-      sym (rw (length_tab (field_at t) (r.start + r.bodies) r.subs, lt-leb r.firsts r.subs h) (and-false (first && second)))
+      let first = field_pass 0 0 s.highest (take s.firsts (fields_of s.subs.now)) in
+      let second = field_pass 0 0 s.highest (drop s.firsts (fields_of s.subs.now)) in
+      sym (rw (length-map, lt-leb s.firsts (length s.subs.now) h) (and-false (first && second)))
 
-  pub two_says : 0 < r.firsts → r.firsts ≤ r.subs → {x y n m e : Bool}
-      → x ≡ field_pass 0 0 r.highest (tabulate (field_at t) (r.start + r.bodies) r.firsts)
-      → y ≡ field_pass 0 0 r.highest (tabulate (field_at t) (r.start + r.bodies + r.firsts) (r.subs - r.firsts))
-      → n ≡ is_nested (Some (field_at t (r.start + r.bodies + (r.firsts - 1)))) → m ≡ is_triple (tabulate (field_at t) r.start r.bodies)
-      → e ≡ every early (tabulate (field_at t) r.start r.bodies) → (x && y && n && m && e) ≡ two_pass (block_of t r)
-  unfolding two_pass nest_ok block_of
-  two_says l h {x} {y} {n} {m} {e} p q a b c =
-      let at = r.start + r.bodies in
-      let i : r.firsts - 1 < r.subs = omega arith in
-      sym (rw (length_tab (field_at t) at r.subs, le-leb r.firsts r.subs h, take_tab (field_at t) at r.subs r.firsts h, drop_tab (field_at t) at r.subs r.firsts h, pick_in (field_at t) at r.subs (r.firsts - 1) i, ← p, ← q, ← a, ← b, ← c)
+  pub two_says : 0 < s.firsts → s.firsts ≤ length s.subs.now → {x y n m e : Bool} (d : List ℕ)
+      → x ≡ field_pass 0 0 s.highest (fields_of (take s.firsts s.subs.now))
+      → y ≡ field_pass 0 0 s.highest (fields_of (drop s.firsts s.subs.now))
+      → n ≡ is_nested (Some (field_of (get_or s.subs.now (s.firsts - 1) d))) → m ≡ is_triple (fields_of s.body.now)
+      → e ≡ every early (fields_of s.body.now) → (x && y && n && m && e) ≡ two_pass (shape_says s)
+  unfolding two_pass nest_ok
+  two_says l h {x} {y} {n} {m} {e} d p q a b c =
+      let i : s.firsts - 1 < length s.subs.now = omega arith in
+      sym (rw (length-map, le-leb s.firsts (length s.subs.now) h, fields_pick s.subs.now (s.firsts - 1) d i, take-map field_of s.firsts s.subs.now, drop-map field_of s.firsts s.subs.now, ← p, ← q, ← a, ← b, ← c)
       (sym (last_four x y n m e)))
 
 -- the field rows of a block row
-module _ (t : List ℕ) (r : Row) {x y : Bool} (body : x ≡ field_pass 14 0 r.highest (tabulate (field_at t) r.start r.bodies)) where
-  pub block_one : r.firsts ≡ 0 → y ≡ one_pass (block_of t r) → (x && y) ≡ block_pass (block_of t r)
-  unfolding block_pass block_of
-  block_one e b = sym (rw (eq-eqb r.firsts 0 e, ← b, ← body))
+module _ (s : Shape) {x y : Bool} (body : x ≡ field_pass 14 0 s.highest (fields_of s.body.now)) where
+  pub block_one : s.firsts ≡ 0 → y ≡ one_pass (shape_says s) → (x && y) ≡ block_pass (shape_says s)
+  unfolding block_pass
+  block_one e b = sym (rw (eq-eqb s.firsts 0 e, ← b, ← body))
 
-  pub block_two : (r.firsts ≡ 0 → ⊥) → y ≡ two_pass (block_of t r) → (x && y) ≡ block_pass (block_of t r)
-  unfolding block_pass block_of
-  block_two e b = sym (rw (ne_eqb r.firsts 0 e, ← b, ← body))
+  pub block_two : (s.firsts ≡ 0 → ⊥) → y ≡ two_pass (shape_says s) → (x && y) ≡ block_pass (shape_says s)
+  unfolding block_pass
+  block_two e b = sym (rw (ne_eqb s.firsts 0 e, ← b, ← body))
 
 -- what a block row that passes its step says
 pub step_says : (least used fields : ℕ) (r : Row) → row_step least used fields r ≡ true

@@ -17,6 +17,8 @@ use Rattle.rows.specs.Places.{block_count, field_count, row_at}
 use Rattle.table.specs.Decode.{to_blocks, to_fields, crc_field, covered, rows_of, block_of, decode}
 use Rattle.table.specs.Rules.{size_ok, parts_ok, count_ok, to_blocks_ok, to_fields_ok, crc_ok, closing_ok, file_ok, index_ok, used_fields, used_ok, form_ok}
 use Rattle.table.specs.Rules.{number_ok, rising_ok, highest_ok, block_ok, meaning_ok, table_ok}
+use Rattle.table.specs.declared.Shape.{Shape}
+use Rattle.table.specs.Shape.{shape_says}
 use Rattle.table.specs.Lookup.{Stands}
 use Rattle.table.proofs.Lists.{every_at_lem, every_map}
 use Rattle.wire.proofs.Tests.{both, both_true}
@@ -126,5 +128,8 @@ module _ (t : List ℕ) (ok : table_ok t ≡ true) (i : ℕ) (h : i < block_coun
       sym (every_map (block_of t) block_ok (tabulate (row_at t) 0 (block_count t))) ∙ b in
       rw zero-add at (every_at_lem (row_at t) (λ (r : Row). block_ok (block_of t r)) 0 (block_count t) i e h)
 
-  pub stands : {r : Row} → r ≡ row_at t i → Stands t r
-  stands {r} g = record { index = i; within = h; is = g; inside = rw g (omega (arith, inside_at)); rules = rw g rules_at }
+  pub stands_in : {r : Row} → r ≡ row_at t i → r.start + r.bodies + r.subs ≤ field_count t
+  stands_in {r} g = rw g (omega (arith, inside_at))
+
+  pub stands : {s : Shape} → shape_says s ≡ block_of t (row_at t i) → Stands t s
+  stands {s} g = record { index = i; within = h; is = g; inside = omega (arith, inside_at); rules = rw g rules_at }

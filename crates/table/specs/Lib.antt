@@ -6,3 +6,4 @@ pub mod Answer
 pub mod Lookup
 pub mod Code
 pub mod Theorems
+pub mod Shape

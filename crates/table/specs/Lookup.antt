@@ -2,12 +2,13 @@
 -- Assumes nothing.
 use Rattle.std.specs.Prelude.{Bool, true, List, ◌≡◌, ℕ, ◌+◌, ◌≤◌, ◌<◌, leb, eqb, Option, option_map, IfSome}
 use Rattle.rows.specs.declared.FieldRow.{FieldRow}
-use Rattle.rows.specs.declared.Row.{Row}
 use Rattle.table.specs.Lists.{first_that}
 use Rattle.table.specs.Rows.{BlockRow, Table}
 use Rattle.rows.specs.Places.{block_count, field_count, row_at}
 use Rattle.table.specs.Decode.{block_of, decode}
 use Rattle.table.specs.Rules.{block_ok}
+use Rattle.table.specs.declared.Shape.{Shape}
+use Rattle.table.specs.Shape.{shape_says}
 
 abbrev pub has_number : ℕ → BlockRow → Bool
 has_number n b = eqb b.number n
@@ -20,16 +21,16 @@ find_row tab n = first_that (has_number n) tab.rows
 abbrev pub carried : ℕ → FieldRow → Bool
 carried revision f = leb f.first revision
 
--- r is a block row of the table; what a caller may use of it: its field rows are there, and they keep the rules
-pub record Stands (t : List ℕ) (r : Row) : Type 0 where
+-- s is a block row of the table; what a caller may use of it: its field rows are there, and they keep the rules
+pub record Stands (t : List ℕ) (s : Shape) : Type 0 where
   pub index : ℕ
   pub within : index < block_count t
-  pub is : r ≡ row_at t index
-  pub inside : r.start + r.bodies + r.subs ≤ field_count t
-  pub rules : block_ok (block_of t r) ≡ true
+  pub is : shape_says s ≡ block_of t (row_at t index)
+  pub inside : (row_at t index).start + (row_at t index).bodies + (row_at t index).subs ≤ field_count t
+  pub rules : block_ok (shape_says s) ≡ true
 
 -- the answer means the decoded table's row of that number, and is a row of the table where there is one
-pub record Finding (t : List ℕ) (n : ℕ) (f : Option Row) : Type 0 where
+pub record Finding (t : List ℕ) (n : ℕ) (f : Option Shape) : Type 0 where
   -- D9: what the code's answer means
-  pub is : option_map (block_of t) f ≡ find_row (decode t) n
+  pub is : option_map shape_says f ≡ find_row (decode t) n
   pub stands : IfSome f (Stands t)

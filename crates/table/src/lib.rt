@@ -1,11 +1,14 @@
 // The block table: its check (rules T1 to T20), and the row of a block's number.
 #![tactic(auto)]
 
-ghost use Rattle.std.specs.Prelude.{◌≡◌, true};
-ghost use Rattle.table.specs.Decode.{first_count};
+ghost use Rattle.std.specs.Prelude.{◌≡◌, true, min, ◌+◌, ◌≤◌, length};
+ghost use Rattle.table.specs.Decode.{block_of};
+ghost use Rattle.table.specs.Rows.{first_rows, second_rows};
 ghost use Rattle.table.specs.Rules.{table_ok};
 ghost use Rattle.table.specs.Answer.{check_says, check_of};
 ghost use Rattle.table.specs.Lookup.{Finding};
+ghost use Rattle.rows.specs.Places.{field_count};
+ghost use Rattle.table.specs.Shape.{fields_of, shape_says};
 ghost use Rattle.table.specs.Theorems.{OneRow};
 
 use rows::Row;
@@ -25,28 +28,76 @@ pub fn check(t: &[u8]) -> Option<u16>
 }
 
 // The row of a block's number, in a table that passes.
-pub fn find(t: &[u8], number: u16) -> Option<Row>
+pub fn find(t: &[u8], number: u16) -> Option<Shape<'_>>
     requires { table_ok t.now ≡ true }
     ensures { Finding t.now number result }
 {
     let count = rows::block_count(t);
     let at = rows::blocks_at(t);
-    let mut i: usize = 0;
-    while i < count {
+    for i in 0..count {
         let r = rows::row_at(t, at, i);
         if r.number == number {
-            return Some(r);
+            return Some(shaped(t, r));
         }
-        i += 1;
     }
     None
 }
 
-// How many field rows the first level of a block row has, or the only one.
-pub fn first_count(r: Row) -> usize
-    ensures { result ≡ first_count r }
+// A block row by what it says: beside its numbers its field rows as they stand in the table, four bytes each, those of the body and those of
+// sub-blocks, of which the first `firsts` are the first level's.
+#[derive(Clone, Copy)]
+pub struct Shape<'a> {
+    pub number: u16,
+    pub highest: u8,
+    pub body: &'a [[u8; 4]],
+    pub subs: &'a [[u8; 4]],
+    pub firsts: usize,
+}
+
+fn shaped(t: &[u8], r: Row) -> Shape<'_>
+    requires { r.start + r.bodies + r.subs ≤ field_count t.now }
+    ensures { shape_says result ≡ block_of t.now r }
 {
-    if r.firsts == 0 { r.subs } else { r.firsts }
+    let (rows, _) = t.as_chunks::<4>();
+    let at = r.start + r.bodies;
+    Shape {
+        number: r.number,
+        highest: r.highest,
+        body: &rows[r.start..at],
+        subs: &rows[at..at + r.subs],
+        firsts: r.firsts,
+    }
+}
+
+// Where the second level's field rows begin among those of sub-blocks.
+fn split(s: Shape) -> usize
+    ensures { result ≡ min s.entry.firsts (length s.entry.subs.now) }
+{
+    if s.firsts < s.subs.len() {
+        s.firsts
+    } else {
+        s.subs.len()
+    }
+}
+
+// The field rows of the first level, or of the only one.
+pub fn first_rows(s: Shape<'_>) -> &[[u8; 4]]
+    ensures { fields_of result.now ≡ first_rows (shape_says s.entry) }
+{
+    if s.firsts == 0 {
+        return s.subs;
+    }
+    &s.subs[..split(s)]
+}
+
+// The field rows of the second level.
+pub fn second_rows(s: Shape<'_>) -> &[[u8; 4]]
+    ensures { fields_of result.now ≡ second_rows (shape_says s.entry) }
+{
+    if s.firsts == 0 {
+        return &s.subs[..0];
+    }
+    &s.subs[split(s)..]
 }
 
 // A number has one row.

@@ -1,36 +1,28 @@
 -- A table's check, in the reader's words.
 -- Assumes nothing.
-use mathlib.Core.Path.{◌≡◌, refl, sym, ap, ◌∙◌}
-use mathlib.Core.Bool.{Bool, true, false, cond}
-use mathlib.Core.List.{List}
-use Prim.Native.Nat.{ℕ}
+use Rattle.std.proofs.Common.{◌≡◌, refl, ap, ◌∙◌, ℕ, Bool, true, false, cond, List, Option, Some, None}
+use Rattle.std.specs.Option.{ok_or}
+use Rattle.refusal.specs.declared.Refusal.TheVariants.{BadTable}
 use Rattle.table.specs.Rules.{table_ok}
 use Rattle.table.specs.Decode.{decode}
-use Rattle.table.specs.Answer.{CheckSaid, check_says, check_of}
-use Rattle.table.specs.Answer.{check_refused, check_version}
-use Rattle.table.specs.declared.Checked.{Checked}
-use Rattle.table.specs.declared.Checked.TheVariants.{Version, Broken}
+use Rattle.table.specs.Answer.{CheckSaid, check_refused, check_version, check_says, check_of}
 use Rattle.reader.specs.Said.{Said, refused, version}
+use Rattle.tables.specs.Said.{said_version}
 use Rattle.tables.specs.Code.{version_or4}
 
 -- what the check told, in the reader's words
-says : CheckSaid → Said
+abbrev says : CheckSaid → Said
 says (check_version v) = version v
 says (check_refused n) = refused n
 
-check_by : (b : Bool) (v : ℕ) → cond b (version v) (refused 4) ≡ says (cond b (check_version v) (check_refused 4))
-unfolding says
+check_by : (b : Bool) (v : ℕ) → says (cond b (check_version v) (check_refused 4)) ≡ cond b (version v) (refused 4)
 check_by true v = refl
 check_by false v = refl
 
-check-is : (t : List ℕ) → version_or4 t ≡ says (check_of t)
+checked_by : (o : Option ℕ) → said_version (ok_or o BadTable) ≡ says (check_says o)
+checked_by (Some v) = refl
+checked_by None = refl
+
+pub checked : (t : List ℕ) (o : Option ℕ) → check_says o ≡ check_of t → said_version (ok_or o BadTable) ≡ version_or4 t
 unfolding check_of
-check-is t = check_by (table_ok t) (decode t).version
-
-pub check_version_lem : (t : List ℕ) {c : Checked} {v : ℕ} → check_says c ≡ check_of t → c ≡ Version v → version_or4 t ≡ version v
-unfolding says
-check_version_lem t e f = check-is t ∙ ap says (sym e ∙ ap check_says f)
-
-pub check_broken : (t : List ℕ) {c : Checked} → check_says c ≡ check_of t → c ≡ Broken → version_or4 t ≡ refused 4
-unfolding says
-check_broken t e f = check-is t ∙ ap says (sym e ∙ ap check_says f)
+checked t o e = checked_by o ∙ ap says e ∙ check_by (table_ok t) (decode t).version

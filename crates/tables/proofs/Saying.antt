@@ -21,10 +21,10 @@ use Rattle.reader.specs.declared.Settings.{Settings}
 use Rattle.reader.specs.declared.State.{State}
 
 -- the last refusal, or the version
-said_by : (b : Bool) (t : List ℕ) (s : State) (l : List ℕ) (d : Outcome) → table_ok t ≡ b → d.said ≡ version (decode t).version
+table_said : (b : Bool) (t : List ℕ) (s : State) (l : List ℕ) (d : Outcome) → table_ok t ≡ b → d.said ≡ version (decode t).version
     → (unless (need b 4 None) s l d).said ≡ cond b (version (decode t).version) (refused 4)
-said_by true t s l d e f = f
-said_by false t s l d e f = refl
+table_said true t s l d e f = f
+table_said false t s l d e f = refl
 
 module _ (s : State) (x : Settings) (force wait : List ℕ) where
   pub open_one : (sound s && long_store force && long_store wait) ≡ false → (open_of s x force wait).said ≡ refused 1
@@ -54,7 +54,7 @@ module _ (s : State) (x : Settings) (force wait : List ℕ) where
             ∙ ap (λ (b : Bool). need b 2 (need (ceiling_ok x.ceiling) 13 (need (ltb 0 s.waiting || ltb 0 s.in_force) 5 (table_refusal (next_table s force wait))))) two
             ∙ ap (λ (b : Bool). need b 13 (need (ltb 0 s.waiting || ltb 0 s.in_force) 5 (table_refusal (next_table s force wait)))) good
             ∙ ap (λ (b : Bool). need b 5 (table_refusal (next_table s force wait))) e)
-            ∙ said_by (table_ok (next_table s force wait)) (next_table s force wait) s force (opening s x force wait) refl refl
+            ∙ table_said (table_ok (next_table s force wait)) (next_table s force wait) s force (opening s x force wait) refl refl
 
         pub open_waiting : 0 < s.waiting → (open_of s x force wait).said ≡ version_or4 (take s.waiting wait)
         open_waiting l =
@@ -78,4 +78,4 @@ module _ (s : State) (wait t : List ℕ) where
   unfolding stage_of stage_refusal
   stage-table e =
       ap (λ (b : Bool). (unless (need b 1 (table_refusal t)) s wait (staging s wait t)).said) e
-      ∙ said_by (table_ok t) t s wait (staging s wait t) refl refl
+      ∙ table_said (table_ok t) t s wait (staging s wait t) refl refl

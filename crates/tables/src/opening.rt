@@ -1,28 +1,29 @@
 // Open (rule C5): its refusals in R20's order, each tested once, or a version; and the run that it opens.
 ghost use Rattle.std.specs.Prelude.{◌≡◌};
-ghost use Rattle.tables.specs.Said.{said_opened};
+ghost use Rattle.tables.specs.Said.{said_version};
 ghost use Rattle.tables.specs.Calls.{fresh_run, open_of};
 ghost use Rattle.tables.specs.Code.{version_or4};
 
-use crate::Opened;
 use reader::{Phase, Run, Settings, State};
 use refusal::Refusal;
-use table::Checked;
 
 // 1, 2, 13, 5, 4, or the version of the table to be opened.
-pub fn of_open(s: State, settings: Settings, in_force: &[u8], waiting: &[u8]) -> Opened
-    ensures { said_opened result ≡ (open_of s settings in_force.now waiting.now).said }
+pub fn of_open(
+    s: State,
+    settings: Settings,
+    in_force: &[u8],
+    waiting: &[u8],
+) -> Result<u16, Refusal>
+    ensures { said_version result ≡ (open_of s settings in_force.now waiting.now).said }
 {
     if !(reader::is_sound(s) & (8192 <= in_force.len()) & (8192 <= waiting.len())) {
-        return Opened::Refused(Refusal::BadBuffer);
+        return Err(Refusal::BadBuffer);
     }
-    let run = s.run;
-    let phase = run.phase;
-    if !reader::is_closed(phase) {
-        return Opened::Refused(Refusal::OutOfTurn);
+    if !reader::is_closed(s.run.phase) {
+        return Err(Refusal::OutOfTurn);
     }
     if !frame::ceiling_ok(settings.ceiling) {
-        return Opened::Refused(Refusal::BadCeiling);
+        return Err(Refusal::BadCeiling);
     }
     let w = s.waiting;
     let n = s.in_force;
@@ -32,18 +33,14 @@ pub fn of_open(s: State, settings: Settings, in_force: &[u8], waiting: &[u8]) ->
     if 0 < n {
         return version_or_four(&in_force[..n]);
     }
-    Opened::Refused(Refusal::NoTable)
+    Err(Refusal::NoTable)
 }
 
 // 4, or the version.
-fn version_or_four(t: &[u8]) -> Opened
-    ensures { said_opened result ≡ version_or4 t.now }
+pub fn version_or_four(t: &[u8]) -> Result<u16, Refusal>
+    ensures { said_version result ≡ version_or4 t.now }
 {
-    let c = table::check(t);
-    match c {
-        Checked::Version(v) => Opened::Version(v),
-        Checked::Broken => Opened::Refused(Refusal::BadTable),
-    }
+    table::check(t).ok_or(Refusal::BadTable)
 }
 
 // A run that has just opened with these settings, with a table of n bytes in force and none waiting.

@@ -1,15 +1,10 @@
 -- `block::all_end` meets its contract: what is left of the rows gives the whole.
 -- Assumes nothing.
-use mathlib.Core.Path.{◌≡◌}
-use Prim.Native.Nat.{◌≤◌, ◌+◌, ◌-◌}
-use Rattle.table.specs.Lists.{tabulate, every}
-use Rattle.rows.specs.Places.{field_at}
+use Rattle.std.proofs.Common.{◌≡◌, drop}
+use Rattle.table.specs.Lists.{every}
+use Rattle.table.specs.Shape.{fields_of}
 use Rattle.block.specs.Block.{ends_by}
 use Rattle.block.proofs.all_end.Given as goal
 
-abbrev pub invariant-loop-i : goal.invariant-loop-i
-invariant-loop-i l =
-    (l.i ≤ l.count) × (every (ends_by l.revision l.n) (tabulate (field_at l.t) l.at l.count) ≡ every (ends_by l.revision l.n) (tabulate (field_at l.t) (l.at + l.i) (l.count - l.i)))
-
-abbrev pub decreases-loop-i : goal.decreases-loop-i
-decreases-loop-i l = l.count - l.i
+abbrev pub invariant-loop-field : goal.invariant-loop-field
+invariant-loop-field l = every (ends_by l.revision l.n) (fields_of l.fields) ≡ every (ends_by l.revision l.n) (fields_of (drop l.field-index l.fields))

@@ -4,4 +4,4 @@ use Rattle.block.proofs.Blocks.{fits_by}
 use Rattle.block.proofs.body_fits.Goals as goal
 
 pub returns : goal.returns
-returns c = fits_by _ _ _ c.revision-rev.ensures c.all_end-all.ensures
+returns c = fits_by _ c.args.row c.revision-rev.ensures c.all_end-all.ensures

@@ -22,7 +22,7 @@ returns-in_err-row c =
 pub fitted-requires : goal.fitted-requires
 fitted-requires c =
     let s = MatchOption-at_some _ (Stands c.args.t.now) _ c.in_ok-row.ensures.ok_part c.find.ensures.stands in
-    (sym c.is_frame.ensures ∙ c.if-not-is_frame.false, s.inside, s.rules)
+    (sym c.is_frame.ensures ∙ c.if-not-is_frame.false, s.rules)
 
 pub returns : goal.returns
 returns c = look_at _ _ _ (sym c.is_frame.ensures ∙ c.if-not-is_frame.false) _ _ c.find.ensures c.number.ensures c.in_ok-row.ensures.ok_part c.fitted.ensures

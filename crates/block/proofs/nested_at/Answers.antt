@@ -1,20 +1,15 @@
 -- `block::nested_at` meets its contract: the first level's last row.
 -- Assumes nothing.
-use mathlib.Core.Path.{sym, ap, ◌∙◌}
-use native.Mathlib.Omega.{arith}
+use Rattle.std.proofs.Common.{ap, ◌∙◌, arith}
 use Rattle.rows.specs.declared.FieldRow.{FieldRow}
-use Rattle.table.proofs.Levels.{few}
-use Rattle.block.proofs.Blocks.{nested_by}
+use Rattle.block.proofs.Blocks.{nested_some, nested_none}
 use Rattle.block.proofs.nested_at.Goals as goal
 
-pub overflow_add-at-2 : goal.overflow_add-at-2
-overflow_add-at-2 c = omega (arith, few _ c.args.row c.requires.1)
+pub returns-in-Some : goal.returns-in-Some
+returns-in-Some c =
+    let h = c.in-Some.ensures.lookup in
+    let f = c.field.ensures in
+    (ap (λ (r : FieldRow). r.offset) f.0 ∙ nested_some c.args.row _ c.saturating_sub.ensures _ h.1 h.3.0, f.1)
 
-pub field_at-f-requires : goal.field_at-f-requires
-field_at-f-requires c = omega (arith, few _ c.args.row c.requires.1)
-
-pub returns : goal.returns
-returns c = (
-  ap (λ (f : FieldRow). f.offset) c.field_at-f.ensures.0 ∙ sym (nested_by _ c.args.row c.requires.1 c.requires.2),
-  c.field_at-f.ensures.1,
-)
+pub returns-in-None : goal.returns-in-None
+returns-in-None c = (nested_none c.args.row _ c.saturating_sub.ensures c.in-None.ensures.lookup.3, omega arith)

@@ -3,8 +3,8 @@
 use Rattle.block.proofs.Blocks.{subs_none, subs_some}
 use Rattle.block.proofs.subs_fit.Goals as goal
 
-pub returns-then-m-eq0 : goal.returns-then-m-eq0
-returns-then-m-eq0 c = subs_none _ _ _ c.if-m-eq0.true
+pub returns-then-row-eq0 : goal.returns-then-row-eq0
+returns-then-row-eq0 c = subs_none _ c.args.row c.if-row-eq0.true
 
 pub returns : goal.returns
-returns c = subs_some _ _ _ c.if-m-eq0.false c.wide-count.ensures.0 c.sub_span-end.ensures c.revision.ensures c.all_end-all.ensures
+returns c = subs_some _ c.args.row c.if-row-eq0.false c.wide-count.ensures.0 c.sub_span-end.ensures c.revision.ensures c.all_end-all.ensures

@@ -5,32 +5,26 @@ use native.Mathlib.Omega.{arith}
 use Rattle.table.specs.Decode.{rows_of}
 use Rattle.table.proofs.Laws.{found_at, found_nothing}
 use Rattle.table.proofs.Loops.{find_done, find_stop, find_go}
-use Rattle.table.proofs.Passed.{File, passed}
+use Rattle.table.proofs.Passed.{passed, stands_in}
 use Rattle.table.proofs.find.Goals as goal
-use Rattle.table.proofs.find.Lts
-use Rattle.table.proofs.find.Reads
-use Rattle.table.proofs.find.Tie as tie
-
-abbrev AfterSharedSliceKnown : Type 0
-AfterSharedSliceKnown = Lts.After-shared_slice_known tie.the-claims Reads.Pre Reads.Post goal.the-invariant-loop-i goal.the-decreases-loop-i
-
-fits : (c : AfterSharedSliceKnown) → File c.args.t.now
-fits c = (passed _ c.requires).file
 
 pub block_count-count-requires : goal.block_count-count-requires
-block_count-count-requires c = omega (arith, fits c.before)
+block_count-count-requires c = omega (arith, (passed _ c.requires).file)
 
 pub blocks_at-at-requires : goal.blocks_at-at-requires
-blocks_at-at-requires c = omega (arith, fits c.before.before)
+blocks_at-at-requires c = omega (arith, (passed _ c.requires).file)
 
 pub loop-i-init : goal.loop-i-init
 unfolding rows_of
-loop-i-init c = (omega arith, omega (arith, fits c.before.before.before), rw (sub-zero, c.block_count-count.ensures.0))
+loop-i-init c = (omega arith, omega (arith, (passed _ c.requires).file), rw (sub-zero, c.block_count-count.ensures.0))
+
+pub shaped-requires : goal.shaped-requires
+shaped-requires c = stands_in _ c.requires c.loop-i.i (omega arith) c.row_at-r.ensures.0
 
 pub returns-then-r-number : goal.returns-then-r-number
 returns-then-r-number c =
     found_at _ _ c.requires
-    (find_stop _ _ _ _ _ c.loop-i.invariant.2 _ c.row_at-r.ensures.0 (omega arith) c.if-r-number.true) c.row_at-r.ensures.0 (omega arith)
+    (find_stop _ _ _ _ _ c.loop-i.invariant.2 _ c.row_at-r.ensures.0 (omega arith) c.if-r-number.true) c.row_at-r.ensures.0 (omega arith) c.shaped.ensures
 
 pub loop-i-preserved : goal.loop-i-preserved
 loop-i-preserved c =

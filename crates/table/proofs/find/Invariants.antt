@@ -12,6 +12,3 @@ use Rattle.table.proofs.find.Given as goal
 abbrev pub invariant-loop-i : goal.invariant-loop-i
 invariant-loop-i l =
     (l.i ≤ l.count) × (l.at + 8 * l.count ≤ length l.t) × (first_that (numbered l.number) (rows_of l.t) ≡ first_that (numbered l.number) (tabulate (row_at l.t) l.i (l.count - l.i)))
-
-abbrev pub decreases-loop-i : goal.decreases-loop-i
-decreases-loop-i l = l.count - l.i

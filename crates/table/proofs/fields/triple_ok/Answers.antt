@@ -1,13 +1,13 @@
--- `table::fields::triple_ok` meets its contract: three rows or more, and the first three.
+-- `table::fields::triple_ok` meets its contract: three rows or more, or none that fit.
 -- Assumes nothing.
-use native.Mathlib.Omega.{arith}
+use Rattle.std.proofs.Common.{[]}
 use Rattle.table.proofs.Loops.{triple_few, triple_some}
 use Rattle.table.proofs.fields.triple_ok.Goals as goal
 
-pub returns-then-count-lt3 : goal.returns-then-count-lt3
-returns-then-count-lt3 c = triple_few _ _ _ c.if-count-lt3.true
+pub returns-in_default : goal.returns-in_default
+returns-in_default c = triple_few c.args.rows.now c.in_default.len_below
 
-pub returns : goal.returns
-returns c =
-    triple_some _ _ _ (omega arith) c.field_at.ensures.0 c.field_at-2.ensures.0 c.field_at-3.ensures.0
-    c.is_count-n.ensures c.is_count-first.ensures c.is_count-second.ensures
+pub returns-in-len3-up : goal.returns-in-len3-up
+returns-in-len3-up c =
+    triple_some c.args.rows.now [] c.in-len3-up.len_at_least c.field.ensures.0 c.field-in-len3-up.ensures.0 c.field-in-len3-up-2.ensures.0
+    c.is_count.ensures c.is_count-in-len3-up.ensures c.is_count-in-len3-up-2.ensures
