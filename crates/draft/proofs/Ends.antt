@@ -1,62 +1,62 @@
 -- Where the last field ends, looked for from the last row on; and what SBLength and the end are by it.
 -- Assumes nothing.
 use mathlib.Core.Bool.{true, false, cond}
-use mathlib.Core.List.{List}
-use mathlib.Core.Path.{◌≡◌, sym, ap, ◌∙◌}
-use Prim.Native.Nat.{ℕ, zero, suc, ◌+◌, ◌*◌, ◌/◌, ◌≤◌, ◌<◌}
-use native.Mathlib.Nat.{add-zero, zero-mul, mul-le-mul}
+use mathlib.Core.List.{List, [], ◌∷◌, ◌++◌}
+use mathlib.Core.Path.{◌≡◌, refl, sym, ◌∙◌}
+use Prim.Native.Nat.{ℕ, suc, ◌+◌, ◌*◌, ◌/◌, ◌≤◌, ◌<◌}
+use native.Mathlib.Nat.{zero-mul, mul-le-mul}
 use native.Mathlib.Omega.{arith}
-use lib.ListN.{length}
+use lib.ListN.{length, take, get_or}
+use Rattle.std.proofs.Math.Seq.{take-suc}
+use Rattle.std.proofs.lemmas.List.{map-append}
 use borrow.Author.Tests.{ne_eqb}
 use Rattle.rows.specs.declared.FieldRow.{FieldRow}
-use Rattle.rows.specs.declared.Row.{Row}
-use Rattle.rows.specs.Places.{field_at}
-use Rattle.table.specs.Lists.{tabulate}
+use Rattle.rows.specs.Places.{field_of}
+use Rattle.table.specs.declared.Shape.{Shape}
 use Rattle.table.specs.Rows.{BlockRow, ends}
-use Rattle.table.specs.Decode.{block_of}
+use Rattle.table.specs.Shape.{fields_of, shape_says}
 use Rattle.table.specs.Lookup.{carried}
-use Rattle.table.proofs.Lists.{tab_none}
 use Rattle.draft.specs.Draft.{Draft, last_end, sb_length_by, sb_length, block_end_by, block_end, round_up}
 use Rattle.draft.specs.Code.{Sizing}
 
 -- of one row more: its end where it is carried, else that of the rows before it
-end_more : (f : ℕ → FieldRow) (revision at from k : ℕ)
-    → last_end revision from (tabulate f at (suc k)) ≡ cond (carried revision (f (at + k))) (ends (f (at + k))) (last_end revision from (tabulate f at k))
-unfolding last_end tabulate
-end_more f revision at from zero = rw (add-zero at)
-end_more f revision at from (suc k) =
-    let e : at + 1 + k ≡ at + suc k = omega arith in
-    end_more f revision (at + 1) (cond (carried revision (f at)) (ends (f at)) from) k ∙ rw e
+last_more : (revision from : ℕ) (fs : List FieldRow) (f : FieldRow) → last_end revision from (fs ++ f ∷ []) ≡ cond (carried revision f) (ends f) (last_end revision from fs)
+unfolding last_end
+last_more revision from [] f = refl
+last_more revision from (g ∷ gs) f = last_more revision (cond (carried revision g) (ends g) from) gs f
 
 -- the rows from k on are not carried, so those before them give the whole
-module _ (f : ℕ → FieldRow) (revision at from k whole : ℕ) (inv : whole ≡ last_end revision from (tabulate f at k)) where
+module _ (rows : List (List ℕ)) (revision from k whole : ℕ) (inv : whole ≡ last_end revision from (fields_of (take k rows))) where
   pub ends_none : k ≡ 0 → from ≡ whole
   unfolding last_end
-  ends_none e = sym (inv ∙ ap (last_end revision from) (tab_none f at k e))
+  ends_none e = sym (inv ∙ rw e)
 
-  module _ (j : ℕ) (i : k ≡ suc j) (g : FieldRow) (e : g ≡ f (at + j)) where
-    last_is : whole ≡ cond (carried revision g) (ends g) (last_end revision from (tabulate f at j))
-    last_is = rw e (inv ∙ ap (λ (n : ℕ). last_end revision from (tabulate f at n)) i ∙ end_more f revision at from j)
+  module _ (j : ℕ) (i : k ≡ suc j) (d : List ℕ) (h : j < length rows) (g : FieldRow) (e : g ≡ field_of (get_or rows j d)) where
+    last_is : whole ≡ cond (carried revision g) (ends g) (last_end revision from (fields_of (take j rows)))
+    last_is =
+        inv
+        ∙ rw (i, take-suc rows j d h, map-append, e)
+        (last_more revision from (fields_of (take j rows)) (field_of (get_or rows j d)))
 
     pub ends_at : carried revision g ≡ true → ends g ≡ whole
     ends_at c = sym (last_is ∙ rw c)
 
-    pub ends_before : carried revision g ≡ false → whole ≡ last_end revision from (tabulate f at j)
+    pub ends_before : carried revision g ≡ false → whole ≡ last_end revision from (fields_of (take j rows))
     ends_before c = last_is ∙ rw c
 
--- SBLength and L, by a row of a table
-module _ (t : List ℕ) (row : Row) (revision n : ℕ) where
-  pub length_none : n ≡ 0 → 0 ≡ sb_length_by (block_of t row) revision n
+-- SBLength and L, by a block row
+module _ (row : Shape) (revision n : ℕ) where
+  pub length_none : n ≡ 0 → 0 ≡ sb_length_by (shape_says row) revision n
   unfolding sb_length_by
   length_none e = rw e
 
-  pub length_some : (n ≡ 0 → ⊥) → last_end revision 0 (tabulate (field_at t) (row.start + row.bodies) row.subs) ≡ sb_length_by (block_of t row) revision n
-  unfolding sb_length_by block_of
+  pub length_some : (n ≡ 0 → ⊥) → last_end revision 0 (fields_of row.subs.now) ≡ sb_length_by (shape_says row) revision n
+  unfolding sb_length_by
   length_some e = rw (ne_eqb n 0 e)
 
-  pub sizes_are : {s m : ℕ} → s ≡ sb_length_by (block_of t row) revision n → m ≡ last_end revision 14 (tabulate (field_at t) row.start row.bodies)
-      → Sizing (block_of t row) revision n (record { sub = s; end = m + n * s; all = 4 * ((m + n * s + 3) / 4) })
-  unfolding block_end_by block_of
+  pub sizes_are : {s m : ℕ} → s ≡ sb_length_by (shape_says row) revision n → m ≡ last_end revision 14 (fields_of row.body.now)
+      → Sizing (shape_says row) revision n (record { sub = s; end = m + n * s; all = 4 * ((m + n * s + 3) / 4) })
+  unfolding block_end_by
   sizes_are e d = record { sub = e; end = rw (e, d); all = rw (e, d) }
 
 pub subs_bound : (n s : ℕ) → n ≤ 255 → s ≤ 65543 → n * s ≤ 255 * 65543

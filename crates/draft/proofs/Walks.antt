@@ -5,15 +5,17 @@ use mathlib.Core.List.{List, ◌∷◌}
 use mathlib.Core.Path.{◌≡◌, refl, sym, ap, ◌∙◌}
 use Rattle.std.proofs.Common.{Option, None, Some}
 use Rattle.std.proofs.lemmas.Option.{IfSome_then}
-use Prim.Native.Nat.{ℕ, ◌+◌, ◌-◌, ◌≤◌, ◌<◌}
+use Prim.Native.Nat.{ℕ, ◌+◌, ◌≤◌, ◌<◌}
 use native.Mathlib.Nat.{zero-add}
 use native.Mathlib.Omega.{arith}
 use lib.Dec.{leb, eqb}
-use lib.ListN.{length, get_or}
+use lib.ListN.{length, get_or, drop}
 use borrow.Author.Tests.{le-leb, lt-leb, eq-eqb, ne_eqb}
 use Rattle.rows.specs.declared.FieldRow.{FieldRow}
-use Rattle.table.specs.Lists.{tabulate, every}
-use Rattle.table.proofs.Lists.{tab_none, tab-more}
+use Rattle.rows.specs.Places.{field_of}
+use Rattle.table.specs.Lists.{every}
+use Rattle.table.specs.Shape.{fields_of}
+use Rattle.table.proofs.FieldRows.{none_left, one_left}
 use Rattle.wire.proofs.Tests.{eq?}
 use Rattle.entry.specs.declared.Taken.{Taken}
 use Rattle.entry.specs.Wanted.{Wanted, is_unset, begins, wanted_of}
@@ -23,25 +25,25 @@ use Rattle.entry.proofs.Places.{subs_end, values_go, subs_begin}
 use Rattle.draft.specs.Code.{values_from, subs_from, Stops, ListLeft, Resting, Listing, counted, subs_allowed}
 
 -- one list, at `next`
-module _ (f : ℕ → FieldRow) (revision at k : ℕ) (kinds bits : List ℕ) (next : ℕ) (whole : Bool)
-    (inv : whole ≡ list_ok revision (tabulate f at k) (values_from kinds bits next)) where
-  pub list_done : k ≡ 0 → every is_unset (values_from kinds bits next) ≡ whole
+module _ (rows : List (List ℕ)) (revision k : ℕ) (kinds bits : List ℕ) (next : ℕ) (whole : Bool)
+    (inv : whole ≡ list_ok revision (fields_of (drop k rows)) (values_from kinds bits next)) where
+  pub list_done : length rows ≤ k → every is_unset (values_from kinds bits next) ≡ whole
   unfolding list_ok
-  list_done e = sym (inv ∙ ap (λ (fs : List FieldRow). list_ok revision fs (values_from kinds bits next)) (tab_none f at k e))
+  list_done h = sym (inv ∙ ap (λ (fs : List FieldRow). list_ok revision fs (values_from kinds bits next)) (none_left rows k h))
 
-  module _ (g : FieldRow) (u : g ≡ f at) (h : 0 < k) (t : Taken) (w : Taking kinds bits next t) where
-    by : whole ≡ (wanted_ok revision g (wanted_of t.entry.kind t.entry.bits) && list_ok revision (tabulate f (at + 1) (k - 1)) (values_from kinds bits t.next))
+  module _ (g : FieldRow) (d : List ℕ) (u : g ≡ field_of (get_or rows k d)) (h : k < length rows) (t : Taken) (w : Taking kinds bits next t) where
+    by : whole ≡ (wanted_ok revision g (wanted_of t.entry.kind t.entry.bits) && list_ok revision (fields_of (drop (k + 1) rows)) (values_from kinds bits t.next))
     unfolding list_ok
     by =
-        inv ∙ ap (λ (fs : List FieldRow). list_ok revision fs (values_from kinds bits next)) (tab-more f at k h)
+        inv ∙ ap (λ (fs : List FieldRow). list_ok revision fs (values_from kinds bits next)) (one_left rows k d h)
         ∙ rw (u, w.is, w.rest)
 
     pub list_stop : wanted_ok revision g (wanted_of t.entry.kind t.entry.bits) ≡ false → false ≡ whole
     list_stop e = sym (by ∙ rw e)
 
-    pub list_go : wanted_ok revision g (wanted_of t.entry.kind t.entry.bits) ≡ true → (j l : ℕ) → j ≡ at + 1 → l ≡ k - 1
-        → whole ≡ list_ok revision (tabulate f j l) (values_from kinds bits t.next)
-    list_go e j l v m = by ∙ rw (e, v, m)
+    pub list_go : wanted_ok revision g (wanted_of t.entry.kind t.entry.bits) ≡ true
+        → whole ≡ list_ok revision (fields_of (drop (k + 1) rows)) (values_from kinds bits t.next)
+    list_go e = by ∙ rw e
 
 module _ (revision : ℕ) (fs : List FieldRow) (kinds bits : List ℕ) (p : ℕ) where
   pub lists_not : false ≡ list_ok revision fs (values_from kinds bits p) → Listing revision fs kinds bits p None

@@ -2,16 +2,15 @@
 #![tactic(auto)]
 
 ghost use Rattle.std.specs.Prelude.{◌≡◌, [], ◌+◌, ◌≤◌, length};
-ghost use Rattle.rows.specs.Places.{field_count, field_at};
-ghost use Rattle.table.specs.Lists.{tabulate};
-ghost use Rattle.table.specs.Decode.{block_of};
+ghost use Rattle.table.specs.Shape.{fields_of, shape_says};
 ghost use Rattle.entry.specs.Wanted.{wanted_of};
 ghost use Rattle.entry.specs.Bits.{wanted_ok, list_ok};
 ghost use Rattle.draft.specs.Draft.{draft_of, stamps_ok, draft_ok, last_end, sb_length_by};
 ghost use Rattle.draft.specs.Code.{Stops, Resting, Listing, subs_from, subs_allowed, lists_counted, counted, Sizing};
 
 use entry::Entry;
-use rows::{FieldRow, Row};
+use rows::FieldRow;
+use table::Shape;
 
 // N is one byte, so a block has at most so many sub-blocks.
 const MOST: usize = 255;
@@ -58,24 +57,21 @@ pub fn wanted_ok(f: FieldRow, revision: u8, e: Entry) -> bool
     e.kind == 0
 }
 
-// The list from p on, for these field rows, count of them from index `at`: where it ends.
+// The list from p on, for these field rows: where it ends.
 pub fn list_ok(
-    table: &[u8],
-    at: usize,
-    count: usize,
+    fields: &[[u8; 4]],
     revision: u8,
     kinds: &[u8],
     bits: &[u64],
     p: usize,
 ) -> Option<usize>
-    requires { (at + count ≤ field_count table.now) × (p ≤ length kinds.now) }
-    ensures { Listing revision (tabulate (field_at table.now) at count) kinds.now bits.now p result }
+    requires { p ≤ length kinds.now }
+    ensures { Listing revision (fields_of fields.now) kinds.now bits.now p result }
 {
     let mut next = p;
-    for i in 0..count {
-        let f = rows::field_at(table, at + i);
+    for field in fields {
         let t = entry::take(kinds, bits, next);
-        if !wanted_ok(f, revision, t.entry) {
+        if !wanted_ok(rows::field(*field), revision, t.entry) {
             return None;
         }
         next = t.next;
@@ -84,22 +80,14 @@ pub fn list_ok(
 }
 
 // The sub-blocks' lists from p on, where the first one begins or all has ended: how many there are.
-fn subs_ok(
-    table: &[u8],
-    at: usize,
-    count: usize,
-    revision: u8,
-    kinds: &[u8],
-    bits: &[u64],
-    p: usize,
-) -> Option<usize>
-    requires { (at + count ≤ field_count table.now) × (p ≤ length kinds.now) × Stops kinds.now bits.now p }
-    ensures { result ≡ counted (subs_allowed (list_ok revision (tabulate (field_at table.now) at count)) (subs_from kinds.now bits.now p)) (subs_from kinds.now bits.now p) }
+fn subs_ok(fields: &[[u8; 4]], revision: u8, kinds: &[u8], bits: &[u64], p: usize) -> Option<usize>
+    requires { (p ≤ length kinds.now) × Stops kinds.now bits.now p }
+    ensures { result ≡ counted (subs_allowed (list_ok revision (fields_of fields.now)) (subs_from kinds.now bits.now p)) (subs_from kinds.now bits.now p) }
 {
     let mut n: usize = 0;
     let mut next = p;
     while next < kinds.len() {
-        next = list_ok(table, at, count, revision, kinds, bits, next + 1)?;
+        next = list_ok(fields, revision, kinds, bits, next + 1)?;
         if MOST <= n {
             return None;
         }
@@ -116,25 +104,20 @@ fn stamps_ok(h: Head) -> bool
 }
 
 // Body and sub-blocks. Where the row has sub-fields the body's values are all unset; where it has none no sub-block may begin.
-fn lists_ok(table: &[u8], row: Row, revision: u8, kinds: &[u8], bits: &[u64]) -> Option<usize>
-    requires { row.start + row.bodies + row.subs ≤ field_count table.now }
-    ensures { result ≡ lists_counted (block_of table.now row) revision kinds.now bits.now }
+fn lists_ok(row: Shape, revision: u8, kinds: &[u8], bits: &[u64]) -> Option<usize>
+    ensures { result ≡ lists_counted (shape_says row.entry) revision kinds.now bits.now }
 {
-    let at = row.start;
-    let n = row.bodies;
-    let m = row.subs;
-    if m == 0 {
-        let end = list_ok(table, at, n, revision, kinds, bits, 0)?;
+    if row.subs.len() == 0 {
+        let end = list_ok(row.body, revision, kinds, bits, 0)?;
         return (end == kinds.len()).then_some(0);
     }
     let p = rest_ok(kinds, 0)?;
-    subs_ok(table, at + n, m, revision, kinds, bits, p)
+    subs_ok(row.subs, revision, kinds, bits, p)
 }
 
 // R11: how many sub-blocks the draft has, where it may stand in a block of the row.
-pub fn accepts(table: &[u8], row: Row, h: Head, kinds: &[u8], bits: &[u64]) -> Option<usize>
-    requires { row.start + row.bodies + row.subs ≤ field_count table.now }
-    ensures { result ≡ counted (draft_ok (block_of table.now row) (draft_of h kinds.now bits.now)) (draft_of h kinds.now bits.now).subs }
+pub fn accepts(row: Shape, h: Head, kinds: &[u8], bits: &[u64]) -> Option<usize>
+    ensures { result ≡ counted (draft_ok (shape_says row.entry) (draft_of h kinds.now bits.now)) (draft_of h kinds.now bits.now).subs }
 {
     if 7 < h.revision {
         return None;
@@ -142,16 +125,16 @@ pub fn accepts(table: &[u8], row: Row, h: Head, kinds: &[u8], bits: &[u64]) -> O
     if !stamps_ok(h) {
         return None;
     }
-    lists_ok(table, row, h.revision as u8, kinds, bits)
+    lists_ok(row, h.revision as u8, kinds, bits)
 }
 
 // Where the last carried one of these field rows ends. It is looked for from the last row on: in most blocks that one is carried.
-fn last_end(table: &[u8], at: usize, count: usize, revision: u8, from: usize) -> usize
-    requires { (at + count ≤ field_count table.now) × (from ≤ 65543) }
-    ensures { (result ≡ last_end revision from (tabulate (field_at table.now) at count)) × (result ≤ 65543) }
+fn last_end(fields: &[[u8; 4]], revision: u8, from: usize) -> usize
+    requires { from ≤ 65543 }
+    ensures { (result ≡ last_end revision from (fields_of fields.now)) × (result ≤ 65543) }
 {
-    for i in (0..count).rev() {
-        let f = rows::field_at(table, at + i);
+    for i in (0..fields.len()).rev() {
+        let f = rows::field(fields[i]);
         if f.first <= revision {
             return f.offset + kinds::size(f.kind);
         }
@@ -160,24 +143,22 @@ fn last_end(table: &[u8], at: usize, count: usize, revision: u8, from: usize) ->
 }
 
 // SBLength of so many sub-blocks.
-fn sub_length(table: &[u8], row: Row, revision: u8, subs: usize) -> usize
-    requires { row.start + row.bodies + row.subs ≤ field_count table.now }
-    ensures { (result ≡ sb_length_by (block_of table.now row) revision subs) × (result ≤ 65543) }
+fn sub_length(row: Shape, revision: u8, subs: usize) -> usize
+    ensures { (result ≡ sb_length_by (shape_says row.entry) revision subs) × (result ≤ 65543) }
 {
     if subs == 0 {
         return 0;
     }
-    let at = row.start + row.bodies;
-    last_end(table, at, row.subs, revision, 0)
+    last_end(row.subs, revision, 0)
 }
 
 // SBLength and L, of so many sub-blocks.
-pub fn sizes(table: &[u8], row: Row, revision: u8, subs: usize) -> Measured
-    requires { (row.start + row.bodies + row.subs ≤ field_count table.now) × (subs ≤ 255) }
-    ensures { Sizing (block_of table.now row) revision subs result }
+pub fn sizes(row: Shape, revision: u8, subs: usize) -> Measured
+    requires { subs ≤ 255 }
+    ensures { Sizing (shape_says row.entry) revision subs result }
 {
-    let sub = sub_length(table, row, revision, subs);
-    let body = last_end(table, row.start, row.bodies, revision, 14);
+    let sub = sub_length(row, revision, subs);
+    let body = last_end(row.body, revision, 14);
     let end = body + subs * sub;
     Measured {
         sub,

@@ -13,10 +13,11 @@ use lib.Seq.{sets, length-sets}
 use borrow.Author.Tests.{leb-true, le-leb, lt-leb}
 use Rattle.kinds.specs.Types.{size_of}
 use Rattle.rows.specs.declared.FieldRow.{FieldRow}
-use Rattle.rows.specs.Places.{field_at}
-use Rattle.table.specs.Lists.{tabulate, every, is_some}
+use Rattle.table.specs.Lists.{every, is_some}
+use Rattle.rows.specs.Places.{field_of}
 use Rattle.table.specs.Rows.{ends}
-use Rattle.table.proofs.Lists.{tab-more, tab_none}
+use Rattle.table.specs.Shape.{fields_of}
+use Rattle.table.proofs.FieldRows.{one_left}
 use Rattle.wire.proofs.Tests.{both, both_true, lt?}
 use Rattle.pen.specs.Bytes.{little_bytes}
 use Rattle.pen.proofs.Stores.{length_little, sets_append}
@@ -204,12 +205,6 @@ unfolding every
 every_one p xs {x} {rest} e a = both (p x) (every p rest) (sym (ap (every p) e) ∙ a)
 
 -- the next row of those that are left
-pub rows_left : (t : List ℕ) (at count i : ℕ) {x : FieldRow} → x ≡ field_at t (at + i) → i < count
-    → tabulate (field_at t) (at + i) (count - i) ≡ x ∷ tabulate (field_at t) (at + (i + 1)) (count - (i + 1))
-rows_left t at count i e h =
-    let m : at + i + 1 ≡ at + (i + 1) = omega arith in
-    let n : count - i - 1 ≡ count - (i + 1) = omega arith in
-    tab-more (field_at t) (at + i) (count - i) (omega arith) ∙ rw (e, m, n)
-
-pub no_rows_left : (t : List ℕ) (at count i : ℕ) → count ≤ i → tabulate (field_at t) (at + i) (count - i) ≡ []
-no_rows_left t at count i h = tab_none (field_at t) (at + i) (count - i) (omega arith)
+pub rows_left : (rows : List (List ℕ)) (k : ℕ) {x : FieldRow} → x ≡ field_of (get_or rows k []) → k < length rows
+    → fields_of (drop k rows) ≡ x ∷ fields_of (drop (k + 1) rows)
+rows_left rows k e h = one_left rows k [] h ∙ rw e

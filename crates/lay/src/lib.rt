@@ -4,9 +4,9 @@
 ghost use Rattle.std.specs.Prelude.{◌≡◌, true, ◌+◌, ◌-◌, ◌*◌, ◌≤◌, length};
 ghost use mathlib.Core.List.{◌++◌, flat_map};
 ghost use Rattle.std.proofs.lemmas.List.Edits.{sets};
-ghost use Rattle.rows.specs.Places.{field_count, field_at};
 ghost use Rattle.kinds.specs.Types.{size_of};
-ghost use Rattle.table.specs.Lists.{tabulate, every, is_some};
+ghost use Rattle.table.specs.Lists.{every, is_some};
+ghost use Rattle.table.specs.Shape.{fields_of};
 ghost use Rattle.table.specs.Rows.{ends};
 ghost use Rattle.pen.specs.Bytes.{little_bytes};
 ghost use Rattle.entry.specs.Wanted.{wanted_of};
@@ -66,12 +66,10 @@ pub fn list_end(kinds: &[u8], p: usize) -> usize
     kinds.len()
 }
 
-// The carried ones of these field rows, count of them from index `at`, with the values from p on; offsets count from `base`, and the
-// first byte written is the one at `from`.
+// The carried ones of these field rows, with the values from p on; offsets count from `base`, and the first byte written is the one at
+// `from`.
 pub fn fields(
-    table: &[u8],
-    at: usize,
-    count: usize,
+    rows: &[[u8; 4]],
     revision: u8,
     kinds: &[u8],
     bits: &[u64],
@@ -80,22 +78,22 @@ pub fn fields(
     base: usize,
     from: usize,
 ) -> Laid
-    requires count_bound { (at + count ≤ field_count table.now) × (p ≤ length kinds.now) }
-    requires count_value { (in_order from (tabulate (field_at table.now) at count) ≡ true) × (list_ok revision (tabulate (field_at table.now) at count) (values_from kinds.now bits.now p) ≡ true) }
-    requires count_in_bounds { base + last_end revision from (tabulate (field_at table.now) at count) ≤ length out.old }
+    requires p_bound { p ≤ length kinds.now }
+    requires fields_value { (in_order from (fields_of rows.now) ≡ true) × (list_ok revision (fields_of rows.now) (values_from kinds.now bits.now p) ≡ true) }
+    requires fields_in_bounds { base + last_end revision from (fields_of rows.now) ≤ length out.old }
     ensures list_left { ListLeft kinds.now bits.now p result.next }
-    ensures end_value { result.end ≡ last_end revision from (tabulate (field_at table.now) at count) }
-    ensures out_after { out.new ≡ sets out.old (base + from) (laid revision from (tabulate (field_at table.now) at count) (values_from kinds.now bits.now p)) }
+    ensures end_value { result.end ≡ last_end revision from (fields_of rows.now) }
+    ensures out_after { out.new ≡ sets out.old (base + from) (laid revision from (fields_of rows.now) (values_from kinds.now bits.now p)) }
 {
     let mut next = p;
     let mut end = from;
-    for i in 0..count {
-        let f = rows::field_at(table, at + i);
+    for row in rows {
+        let f = rows::field(*row);
         let t = entry::take(kinds, bits, next);
+        next = t.next;
         if f.first <= revision {
             end = field(out, base, end, f, t.entry);
         }
-        next = t.next;
     }
     Laid {
         next: list_end(kinds, next),
@@ -105,9 +103,7 @@ pub fn fields(
 
 // The sub-blocks from p on, the first at `base`.
 pub fn subs(
-    table: &[u8],
-    at: usize,
-    count: usize,
+    rows: &[[u8; 4]],
     revision: u8,
     kinds: &[u8],
     bits: &[u64],
@@ -115,26 +111,15 @@ pub fn subs(
     out: &mut [u8],
     base: usize,
 )
-    requires count_bound { (at + count ≤ field_count table.now) × (p ≤ length kinds.now) × Stops kinds.now bits.now p }
-    requires count_value { (in_order 0 (tabulate (field_at table.now) at count) ≡ true) × (every (list_ok revision (tabulate (field_at table.now) at count)) (subs_from kinds.now bits.now p) ≡ true) }
-    requires count_in_bounds { base + length (subs_from kinds.now bits.now p) * last_end revision 0 (tabulate (field_at table.now) at count) ≤ length out.old }
-    ensures { out.new ≡ sets out.old base (flat_map (laid revision 0 (tabulate (field_at table.now) at count)) (subs_from kinds.now bits.now p)) }
+    requires p_bound { (p ≤ length kinds.now) × Stops kinds.now bits.now p }
+    requires fields_value { (in_order 0 (fields_of rows.now) ≡ true) × (every (list_ok revision (fields_of rows.now)) (subs_from kinds.now bits.now p) ≡ true) }
+    requires fields_in_bounds { base + length (subs_from kinds.now bits.now p) * last_end revision 0 (fields_of rows.now) ≤ length out.old }
+    ensures { out.new ≡ sets out.old base (flat_map (laid revision 0 (fields_of rows.now)) (subs_from kinds.now bits.now p)) }
 {
     let mut next = p;
     let mut to = base;
     while next < kinds.len() {
-        let l = fields(
-            table,
-            at,
-            count,
-            revision,
-            kinds,
-            bits,
-            next + 1,
-            out,
-            to,
-            0,
-        );
+        let l = fields(rows, revision, kinds, bits, next + 1, out, to, 0);
         next = l.next;
         to += l.end;
     }

@@ -25,4 +25,4 @@ overflow_mul-result c =
     omega (arith, c.last_end-body.ensures.1, subs_bound c.args.subs c.sub_length-sub.result (omega arith) s.1)
 
 pub returns : goal.returns
-returns c = sizes_are _ _ _ _ c.sub_length-sub.ensures.0 c.last_end-body.ensures.0
+returns c = sizes_are c.args.row _ _ c.sub_length-sub.ensures.0 c.last_end-body.ensures.0

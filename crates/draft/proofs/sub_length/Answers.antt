@@ -6,7 +6,7 @@ use Rattle.draft.proofs.Ends.{length_none, length_some}
 use Rattle.draft.proofs.sub_length.Goals as goal
 
 pub returns-then-subs-eq0 : goal.returns-then-subs-eq0
-returns-then-subs-eq0 c = (length_none _ _ _ _ c.if-subs-eq0.true, omega arith)
+returns-then-subs-eq0 c = (length_none c.args.row _ _ c.if-subs-eq0.true, omega arith)
 
 pub returns : goal.returns
-returns c = (c.last_end.ensures.0 ∙ length_some _ _ _ _ c.if-subs-eq0.false, c.last_end.ensures.1)
+returns c = (c.last_end.ensures.0 ∙ length_some c.args.row _ _ c.if-subs-eq0.false, c.last_end.ensures.1)

@@ -6,7 +6,7 @@ use Rattle.draft.proofs.Walks.{begun, subs_done, subs_many, subs_wrong, subs_mor
 use Rattle.draft.proofs.subs_ok.Goals as goal
 
 pub loop-next-init : goal.loop-next-init
-loop-next-init c = let h = c.requires in begun _ _ _ _ h.1 h.2
+loop-next-init c = let h = c.requires in begun _ _ _ _ h.0 h.1
 
 pub returns-in_err-next : goal.returns-in_err-next
 returns-in_err-next c =

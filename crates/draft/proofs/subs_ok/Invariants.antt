@@ -2,14 +2,13 @@
 -- Assumes nothing.
 use Prim.Native.Nat.{◌-◌}
 use lib.ListN.{length}
-use Rattle.rows.specs.Places.{field_at}
-use Rattle.table.specs.Lists.{tabulate}
+use Rattle.table.specs.Shape.{fields_of}
 use Rattle.entry.specs.Bits.{list_ok}
 use Rattle.draft.proofs.Walks.{Begun}
 use Rattle.draft.proofs.subs_ok.Given as goal
 
 abbrev pub invariant-loop-next : goal.invariant-loop-next
-invariant-loop-next l = Begun (list_ok l.revision (tabulate (field_at l.table) l.at l.count)) l.kinds l.bits l.p l.n l.next
+invariant-loop-next l = Begun (list_ok l.revision (fields_of l.fields)) l.kinds l.bits l.p l.n l.next
 
 abbrev pub decreases-loop-next : goal.decreases-loop-next
 decreases-loop-next l = length l.kinds - l.next

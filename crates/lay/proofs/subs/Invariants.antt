@@ -6,8 +6,8 @@ use mathlib.Core.Path.{◌≡◌}
 use Prim.Native.Nat.{◌-◌, ◌≤◌}
 use lib.ListN.{length}
 use lib.Seq.{sets}
-use Rattle.rows.specs.Places.{field_at}
-use Rattle.table.specs.Lists.{tabulate, every}
+use Rattle.table.specs.Lists.{every}
+use Rattle.table.specs.Shape.{fields_of}
 use Rattle.entry.specs.Bits.{list_ok}
 use Rattle.draft.specs.Draft.{last_end}
 use Rattle.draft.specs.Code.{Stops, subs_from}
@@ -17,7 +17,7 @@ use Rattle.lay.proofs.subs.Given as goal
 
 abbrev pub invariant-loop-next : goal.invariant-loop-next
 invariant-loop-next l =
-    let fs = tabulate (field_at l.table) l.at l.count in
+    let fs = fields_of l.rows in
     let one = laid l.revision 0 fs in
     (l.next ≤ length l.kinds) × Stops l.kinds l.bits l.next
     × Filling one (last_end l.revision 0 fs) (subs_from l.kinds l.bits l.next) l.to l.out (sets l.initial.out l.base (flat_map one (subs_from l.kinds l.bits l.p)))
