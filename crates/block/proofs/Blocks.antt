@@ -7,7 +7,6 @@ use Rattle.std.specs.Option.{ok_or}
 use mathlib.Core.Bool.{Bool, true, false, not, ◌&&◌, ◌||◌}
 use Prim.Native.Nat.{ℕ, ◌+◌, ◌-◌, ◌*◌, ◌%◌, ◌<◌, ◌≤◌}
 use native.Mathlib.Omega.{arith}
-use native.Mathlib.Nat.{mul-le-mul}
 use lib.ListN.{length, get_or}
 use lib.Dec.{leb, eqb}
 use borrow.Author.Tests.{leb-true, eqb-true, lt-ltb, le-ltb, eq-eqb, ne_eqb}
@@ -33,10 +32,6 @@ use Rattle.block.specs.Block.{row, seen_row, seen, seen_sub_row, seen_sub, Match
 use Rattle.block.specs.Code.{Fitting, Looking}
 use Rattle.block.proofs.Nests.{NestFine, nest_fine}
 use Rattle.wire.proofs.Tests.{both}
-
--- the product of two bytes
-pub small : (k n : ℕ) → k < 256 → n < 256 → k * n ≤ 65025
-small k n a b = let u : k ≤ 255 = omega arith in let v : n ≤ 255 = omega arith in mul-le-mul u v
 
 -- the code's span, by the byte that it read
 pub span_is : (b : List ℕ) (k : ℕ) {m : ℕ} → m ≡ sub_length_in b → span (16 + k * m) m ≡ one_span b k

@@ -67,8 +67,7 @@ fn sub_span(block: &[u8], k: usize) -> Span
     requires { (k < 256) × (16 ≤ length block.now) }
     ensures { result ≡ one_span block.now k }
 {
-    let length = block[15];
-    let size = rows::wide(length);
+    let size = usize::from(block[15]);
     let at = 16 + k * size;
     Span { at, size }
 }
@@ -78,15 +77,13 @@ fn one_nest(block: &[u8], k: usize) -> Nest
     requires { 16 ≤ length block.now }
     ensures { k < count_in block.now → result ≡ alone (one_span block.now k) }
 {
-    if rows::wide(block[14]) <= k {
-        return Nest {
-            first: Span { at: 0, size: 0 },
-            count: 0,
-            size: 0,
-        };
-    }
+    let first = if k < usize::from(block[14]) {
+        sub_span(block, k)
+    } else {
+        Span { at: 0, size: 0 }
+    };
     Nest {
-        first: sub_span(block, k),
+        first,
         count: 0,
         size: 0,
     }
@@ -100,7 +97,7 @@ fn subs_fit(row: Shape, block: &[u8]) -> bool
     if row.subs.len() == 0 {
         return true;
     }
-    let count = rows::wide(block[14]);
+    let count = usize::from(block[14]);
     let end = sub_span(block, count);
     let all = all_end(row.subs, revision(block), end.size);
     ((count == 0) | all) & (end.at <= block.len())
@@ -177,7 +174,7 @@ pub fn sub_row_of<'a>(t: &'a [u8], block: &[u8], k: usize) -> Result<(Shape<'a>,
     ensures { SubMatching t.now block.now k result }
 {
     let (row, nest) = look(t, block, k)?;
-    if row.subs.len() == 0 || rows::wide(block[14]) <= k {
+    if row.subs.len() == 0 || usize::from(block[14]) <= k {
         return Err(Refusal::NoSuchField);
     }
     Ok((row, nest))

@@ -1,8 +1,8 @@
 -- What was put into the plain structs is read back: case by case, by computation.
 -- Assumes nothing.
 use mathlib.Core.Path.{◌≡◌, refl, sym, ap, ◌∙◌}
-use mathlib.Core.Bool.{true, false}
-use Rattle.std.proofs.Common.{None, Some}
+use Rattle.std.specs.Prelude.{option_map}
+use Rattle.std.proofs.Common.{Bool, true, false, Option, None, Some, Result, Ok, Err}
 use Rattle.std.proofs.lemmas.Option.{none-some}
 use Prim.Native.Nat.{ℕ, zero, suc, ◌<◌}
 use native.Mathlib.Omega.{arith}
@@ -10,24 +10,18 @@ use Rattle.record.specs.Answer.{FieldSaid, do_not_use, double, field_refused, no
 use Rattle.reader.specs.declared.Phase.{Phase}
 use Rattle.reader.specs.declared.Phase.TheVariants.{Closed, Feeding, Finishing}
 use Rattle.reader.specs.declared.State.{State}
-use Rattle.tables.specs.declared.Opened.{Opened}
-use Rattle.tables.specs.declared.Opened.TheVariants as opened
 use Rattle.runs.specs.declared.Fed.{Fed}
-use Rattle.runs.specs.declared.Fed.TheVariants as fed
 use Rattle.runs.specs.declared.Finished.{Finished}
 use Rattle.runs.specs.declared.Finished.TheVariants as finished
-use Rattle.tables.specs.declared.Staged.{Staged}
-use Rattle.tables.specs.declared.Staged.TheVariants as staged
-use Rattle.tables.specs.declared.Withdrawn.{Withdrawn}
-use Rattle.tables.specs.declared.Withdrawn.TheVariants as withdrawn
 use Rattle.writer.specs.declared.Written.{Written}
 use Rattle.writer.specs.declared.Written.TheVariants as written
 use Rattle.writer.specs.Write.{write_refused, written_says}
 use Rattle.refusal.specs.Numbers.{number_for}
 use Rattle.refusal.specs.declared.Refusal.{Refusal}
 use Rattle.refusal.specs.declared.Refusal.TheVariants.{BadBuffer, OutOfTurn, RunFull, BadTable, NoTable, NoRow, TooShort, BadSubBlocks, NoSuchField, NotOneFrame, BadValues, NoRoom, BadCeiling}
-use Rattle.tables.specs.Said.{said_opened, said_staged, said_withdrawn}
+use Rattle.tables.specs.Said.{said_version, said_withdrawn}
 use Rattle.runs.specs.Said.{said_fed, said_finished}
+use Rattle.reader.specs.Said.{Report, report_of, took}
 use Rattle.reader.specs.State.{phase_number}
 use Rattle.cform.specs.State.{phase_of, in_phase_if_any, state_of, state_c}
 use Rattle.cform.specs.Answer.{answer_c, field_c}
@@ -52,28 +46,27 @@ by_number s (suc zero) e h = absurd (none-some _ (sym h ∙ feeding-of s e))
 by_number s (suc (suc zero)) e h = absurd (none-some _ (sym h ∙ finishing-of s e))
 by_number s (suc (suc (suc n))) e h = omega arith
 
-opened_back : (a : Opened) → answer_back false (answer_c (said_opened a)) ≡ said_opened a
-opened_back (opened.Version v) = refl
-opened_back (opened.Refused x) = refl
+version_back : (a : Result ℕ Refusal) → answer_back false (answer_c (said_version a)) ≡ said_version a
+version_back (Ok v) = refl
+version_back (Err x) = refl
 
-fed_back : (a : Fed) → answer_back false (answer_c (said_fed a)) ≡ said_fed a
-fed_back (fed.Block n b) = refl
-fed_back (fed.More n) = refl
-fed_back (fed.Refused x) = refl
+took_back : (n : ℕ) (o : Option Report) → answer_back false (answer_c (took n o)) ≡ took n o
+took_back n (Some b) = refl
+took_back n None = refl
 
-finished_back : (a : Finished) → answer_back true (answer_c (said_finished a)) ≡ said_finished a
-finished_back (finished.Block b) = refl
-finished_back (finished.End c) = refl
-finished_back (finished.Refused x) = refl
+fed_back : (a : Result Fed Refusal) → answer_back false (answer_c (said_fed a)) ≡ said_fed a
+fed_back (Ok f) = took_back f.taken (option_map report_of f.block)
+fed_back (Err x) = refl
 
-staged_back : (a : Staged) → answer_back false (answer_c (said_staged a)) ≡ said_staged a
-staged_back (staged.Version v) = refl
-staged_back (staged.Refused x) = refl
+finished_back : (a : Result Finished Refusal) → answer_back true (answer_c (said_finished a)) ≡ said_finished a
+finished_back (Ok (finished.Block b)) = refl
+finished_back (Ok (finished.End c)) = refl
+finished_back (Err x) = refl
 
-withdrawn_back : (a : Withdrawn) → answer_back false (answer_c (said_withdrawn a)) ≡ said_withdrawn a
-withdrawn_back (withdrawn.Waited true) = refl
-withdrawn_back (withdrawn.Waited false) = refl
-withdrawn_back (withdrawn.Refused x) = refl
+withdrawn_back : (a : Result Bool Refusal) → answer_back false (answer_c (said_withdrawn a)) ≡ said_withdrawn a
+withdrawn_back (Ok true) = refl
+withdrawn_back (Ok false) = refl
+withdrawn_back (Err x) = refl
 
 field_back_lem : (a : FieldSaid) → field_back (field_c a) ≡ a
 field_back_lem (unsigned n) = refl
@@ -112,10 +105,9 @@ nothing_lost =
       only_over_2 = λ s. by_number s s.phase refl;
       settings = λ x. refl;
       settings_of_c = λ x. refl;
-      opened = opened_back;
+      opened_or_staged = version_back;
       fed = fed_back;
       finished = finished_back;
-      staged = staged_back;
       withdrawn = withdrawn_back;
       fields = field_back_lem;
       written = written_back_lem;

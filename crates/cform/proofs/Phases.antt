@@ -1,6 +1,6 @@
 -- The state that C's stands for, by the number of its phase.
 -- Assumes nothing.
-use mathlib.Core.Path.{◌≡◌, sym, ap, subst}
+use mathlib.Core.Path.{◌≡◌, sym, ap}
 use mathlib.Core.Bool.{false}
 use Rattle.std.proofs.Common.{Option, None, Some}
 use Prim.Native.Nat.{ℕ, zero, suc, ◌<◌, ◌≤◌}
@@ -9,7 +9,7 @@ use borrow.Author.Tests.{ne_eqb}
 use Rattle.reader.specs.declared.Phase.TheVariants.{Closed, Feeding, Finishing}
 use Rattle.reader.specs.declared.State.{State}
 use Rattle.reader.specs.State.{sound}
-use Rattle.cform.specs.State.{phase_of, in_phase, state_of, Reads, state_c, back_c}
+use Rattle.cform.specs.State.{phase_of, in_phase, state_of, state_c, back_c}
 use Rattle.cform.specs.declared.CState.{CState}
 
 module _ (s : CState) where
@@ -41,14 +41,7 @@ module _ (s : CState) where
     back_next zero e h = sym (ap (λ (o : Option State). back_c s o next) (closed_of e))
     back_next (suc zero) e h = sym (ap (λ (o : Option State). back_c s o next) (feeding-of e))
     back_next (suc (suc zero)) e h = sym (ap (λ (o : Option State). back_c s o next) (finishing-of e))
-    back_next (suc (suc (suc n))) e h = let f : ⊥ = omega arith in absurd f
-
--- what a call is made with
-pub reads_known : {o : Option State} {u t : State} → o ≡ Some u → t ≡ u → Reads o t
-reads_known {o} {u} {t} e f = subst (λ (x : Option State). Reads x t) (sym e) f
-
-pub reads_none : {o : Option State} → o ≡ None → (t : State) → sound t ≡ false → Reads o t
-reads_none {o} e t f = subst (λ (x : Option State). Reads x t) (sym e) f
+    back_next (suc (suc (suc n))) e h = absurd (omega arith)
 
 -- more held bytes than refusal 1 allows
 pub too_many : (t : State) → t.run.held ≡ 65533 → sound t ≡ false

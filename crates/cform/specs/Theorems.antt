@@ -1,17 +1,15 @@
 -- Nothing is lost on the way to C: a state, settings, an answer, a field and what Write answers can be read back from the plain
 -- structs.
 -- Assumes nothing.
-use Rattle.std.specs.Prelude.{◌<◌, ◌≡◌, Bool, true, false, cond, eqb, None, Some}
+use Rattle.std.specs.Prelude.{ℕ, ◌<◌, ◌≡◌, Bool, true, false, cond, eqb, None, Some, Result}
+use Rattle.refusal.specs.declared.Refusal.{Refusal}
 use Rattle.record.specs.Answer.{FieldSaid, do_not_use, double, field_refused, not_in_revision, signed, single, unsigned}
 use Rattle.reader.specs.declared.State.{State}
 use Rattle.reader.specs.declared.Settings.{Settings}
-use Rattle.tables.specs.declared.Opened.{Opened}
 use Rattle.runs.specs.declared.Fed.{Fed}
 use Rattle.runs.specs.declared.Finished.{Finished}
-use Rattle.tables.specs.declared.Staged.{Staged}
-use Rattle.tables.specs.declared.Withdrawn.{Withdrawn}
 use Rattle.reader.specs.Said.{Report, Said, refused, version, took, found, ended, waited}
-use Rattle.tables.specs.Said.{said_opened, said_staged, said_withdrawn}
+use Rattle.tables.specs.Said.{said_version, said_withdrawn}
 use Rattle.runs.specs.Said.{said_fed, said_finished}
 use Rattle.writer.specs.declared.Written.{Written}
 use Rattle.writer.specs.Write.{WriteSaid, wrote, write_refused, written_says}
@@ -58,10 +56,10 @@ pub record NothingLost : Type 0 where
   -- any settings of the reader's, and any of C's, a bad ceiling too: it is for Open to refuse it
   pub settings : (x : Settings) → settings_back (settings_c x) ≡ x
   pub settings_of_c : (x : CSettings) → settings_c (settings_back x) ≡ x
-  pub opened : (a : Opened) → answer_back false (answer_c (said_opened a)) ≡ said_opened a
-  pub fed : (a : Fed) → answer_back false (answer_c (said_fed a)) ≡ said_fed a
-  pub finished : (a : Finished) → answer_back true (answer_c (said_finished a)) ≡ said_finished a
-  pub staged : (a : Staged) → answer_back false (answer_c (said_staged a)) ≡ said_staged a
-  pub withdrawn : (a : Withdrawn) → answer_back false (answer_c (said_withdrawn a)) ≡ said_withdrawn a
+  -- Open's and Stage's
+  pub opened_or_staged : (a : Result ℕ Refusal) → answer_back false (answer_c (said_version a)) ≡ said_version a
+  pub fed : (a : Result Fed Refusal) → answer_back false (answer_c (said_fed a)) ≡ said_fed a
+  pub finished : (a : Result Finished Refusal) → answer_back true (answer_c (said_finished a)) ≡ said_finished a
+  pub withdrawn : (a : Result Bool Refusal) → answer_back false (answer_c (said_withdrawn a)) ≡ said_withdrawn a
   pub fields : (a : FieldSaid) → field_back (field_c a) ≡ a
   pub written : (a : Written) → written_back (written_c (written_says a)) ≡ written_says a

@@ -4,7 +4,7 @@ ghost use Rattle.refusal.specs.Numbers.{number_for};
 ghost use Rattle.reader.specs.Said.{report_of, refused, ended, waited};
 ghost use Rattle.cform.specs.Answer.{no_block, no_end, block_c, say, answer_c};
 
-use crate::{CAnswer, CBlock, CCounts};
+use crate::{CAnswer, CBlock, CCounts, states};
 use reader::{Block, Counts};
 use refusal::Refusal;
 
@@ -37,22 +37,13 @@ pub fn block_c(taken: usize, b: Block) -> CAnswer
     ensures { result ≡ say 0 2 0 0 taken (block_c (report_of b)) no_end }
 {
     CAnswer {
-        refusal: 0,
-        kind: 2,
-        version: 0,
-        waited: 0,
-        taken,
         block: CBlock {
             place: b.place,
             length: b.length,
             number: b.number,
             revision: b.revision,
         },
-        end: CCounts {
-            taken: 0,
-            blocks: 0,
-            skipped: 0,
-        },
+        ..no_block(0, 2, 0, 0, taken)
     }
 }
 
@@ -61,38 +52,20 @@ pub fn at_end(c: Counts) -> CAnswer
     ensures { result ≡ answer_c (ended c) }
 {
     CAnswer {
-        refusal: 0,
-        kind: 4,
-        version: 0,
-        waited: 0,
-        taken: 0,
-        block: CBlock {
-            place: 0,
-            length: 0,
-            number: 0,
-            revision: 0,
-        },
-        end: CCounts {
-            taken: c.taken,
-            blocks: c.blocks,
-            skipped: c.skipped,
-        },
+        end: states::counts_c(c),
+        ..no_block(0, 4, 0, 0, 0)
     }
 }
 
-pub fn refused_c(x: Refusal) -> CAnswer
-    ensures { result ≡ answer_c (refused (number_for x)) }
+pub fn refused_c(why: Refusal) -> CAnswer
+    ensures { result ≡ answer_c (refused (number_for why)) }
 {
-    no_block(refusal::number(x), 0, 0, 0, 0)
+    no_block(u32::from(why), 0, 0, 0, 0)
 }
 
 // Whether a table waited.
 pub fn whether_waited(w: bool) -> CAnswer
     ensures { result ≡ answer_c (waited w) }
 {
-    if w {
-        no_block(0, 5, 0, 1, 0)
-    } else {
-        no_block(0, 5, 0, 0, 0)
-    }
+    no_block(0, 5, 0, u16::from(w), 0)
 }

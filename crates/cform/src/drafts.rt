@@ -35,7 +35,7 @@ pub fn written_c(w: Written) -> CWritten
             length: n,
         },
         Written::Refused(x) => CWritten {
-            refusal: refusal::number(x),
+            refusal: u32::from(x),
             length: 0,
         },
     }

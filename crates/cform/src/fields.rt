@@ -27,9 +27,9 @@ fn value_c(v: Value) -> CField
     match v {
         Value::Unsigned(n) => tell_c(0, 1, n, 0, 0),
         Value::Signed(z) => tell_c(0, 2, 0, z, 0),
-        Value::Single(f) => tell_c(0, 3, 0, 0, value::single_bits(f) as u64),
+        Value::Single(f) => tell_c(0, 3, 0, 0, u64::from(value::single_bits(f))),
         Value::Double(f) => tell_c(0, 4, 0, 0, value::double_bits(f)),
-        Value::SingleNan(b) => tell_c(0, 3, 0, 0, b as u64),
+        Value::SingleNan(b) => tell_c(0, 3, 0, 0, u64::from(b)),
         Value::DoubleNan(b) => tell_c(0, 4, 0, 0, b),
         Value::DoNotUse => tell_c(0, 5, 0, 0, 0),
         Value::NotInRevision => tell_c(0, 6, 0, 0, 0),
@@ -42,7 +42,7 @@ pub fn field_c(a: Answer) -> CField
     ensures { result ≡ field_c (answer_says a) }
 {
     match a {
-        Answer::Field(v) => value_c(v),
-        Answer::Refused(x) => tell_c(refusal::number(x), 0, 0, 0, 0),
+        Ok(v) => value_c(v),
+        Err(why) => tell_c(u32::from(why), 0, 0, 0, 0),
     }
 }

@@ -7,11 +7,11 @@ use crate::CPart;
 use refusal::Refusal;
 
 // The empty part of a refused call.
-pub fn no_part(x: Refusal) -> CPart
-    ensures { result ≡ part_c (Some (number_for x)) 0 0 }
+pub fn no_part(why: Refusal) -> CPart
+    ensures { result ≡ part_c (Some (number_for why)) 0 0 }
 {
     CPart {
-        refusal: refusal::number(x),
+        refusal: u32::from(why),
         offset: 0,
         length: 0,
     }

@@ -1,59 +1,56 @@
 // What a call that goes on with the state answers, and the reply that it makes with the state, as C has them.
 ghost use Rattle.std.specs.Prelude.{◌≡◌};
-ghost use Rattle.tables.specs.Said.{said_opened, said_staged, said_withdrawn};
+ghost use Rattle.tables.specs.Said.{said_version, said_withdrawn};
 ghost use Rattle.runs.specs.Said.{said_fed, said_finished};
 ghost use Rattle.cform.specs.State.{state_of, back_c};
 ghost use Rattle.cform.specs.Answer.{answer_c};
 
 use crate::{CAnswer, CReply, CState, answers, states};
 use reader::State;
+use refusal::Refusal;
 use runs::{Fed, Finished};
-use tables::{Opened, Staged, Withdrawn};
 
-pub fn opened_c(a: Opened) -> CAnswer
-    ensures { result ≡ answer_c (said_opened a) }
+// Open's and Stage's.
+pub fn version_c(a: Result<u16, Refusal>) -> CAnswer
+    ensures { result ≡ answer_c (said_version a) }
 {
     match a {
-        Opened::Version(v) => answers::no_block(0, 1, v, 0, 0),
-        Opened::Refused(x) => answers::refused_c(x),
+        Ok(v) => answers::no_block(0, 1, v, 0, 0),
+        Err(why) => answers::refused_c(why),
     }
 }
 
-pub fn fed_c(a: Fed) -> CAnswer
+pub fn fed_c(a: Result<Fed, Refusal>) -> CAnswer
     ensures { result ≡ answer_c (said_fed a) }
 {
     match a {
-        Fed::Block(n, b) => answers::block_c(n, b),
-        Fed::More(n) => answers::no_block(0, 3, 0, 0, n),
-        Fed::Refused(x) => answers::refused_c(x),
+        Ok(
+            Fed {
+                taken,
+                block: Some(b),
+            },
+        ) => answers::block_c(taken, b),
+        Ok(Fed { taken, block: None }) => answers::no_block(0, 3, 0, 0, taken),
+        Err(why) => answers::refused_c(why),
     }
 }
 
-pub fn finished_c(a: Finished) -> CAnswer
+pub fn finished_c(a: Result<Finished, Refusal>) -> CAnswer
     ensures { result ≡ answer_c (said_finished a) }
 {
     match a {
-        Finished::Block(b) => answers::block_c(0, b),
-        Finished::End(c) => answers::at_end(c),
-        Finished::Refused(x) => answers::refused_c(x),
+        Ok(Finished::Block(b)) => answers::block_c(0, b),
+        Ok(Finished::End(c)) => answers::at_end(c),
+        Err(why) => answers::refused_c(why),
     }
 }
 
-pub fn staged_c(a: Staged) -> CAnswer
-    ensures { result ≡ answer_c (said_staged a) }
-{
-    match a {
-        Staged::Version(v) => answers::no_block(0, 1, v, 0, 0),
-        Staged::Refused(x) => answers::refused_c(x),
-    }
-}
-
-pub fn withdrawn_c(a: Withdrawn) -> CAnswer
+pub fn withdrawn_c(a: Result<bool, Refusal>) -> CAnswer
     ensures { result ≡ answer_c (said_withdrawn a) }
 {
     match a {
-        Withdrawn::Waited(w) => answers::whether_waited(w),
-        Withdrawn::Refused(x) => answers::refused_c(x),
+        Ok(w) => answers::whether_waited(w),
+        Err(why) => answers::refused_c(why),
     }
 }
 
@@ -61,14 +58,12 @@ pub fn withdrawn_c(a: Withdrawn) -> CAnswer
 pub fn reply(s: CState, next: State, a: CAnswer) -> CReply
     ensures { result ≡ record { state = back_c s (state_of s) next; answer = a } }
 {
-    if 2 < s.phase {
-        return CReply {
-            state: s,
-            answer: a,
-        };
-    }
     CReply {
-        state: states::state_c(next),
+        state: if 2 < s.phase {
+            s
+        } else {
+            states::state_c(next)
+        },
         answer: a,
     }
 }

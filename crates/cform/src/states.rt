@@ -1,6 +1,6 @@
 // States and settings as C has them, from the reader's and back.
 ghost use Rattle.std.specs.Prelude.{◌≡◌};
-ghost use Rattle.cform.specs.State.{settings_c, settings_back, in_phase, state_of, Reads, state_c};
+ghost use Rattle.cform.specs.State.{counts_c, settings_c, settings_back, phase_of, in_phase, state_of, Reads, state_c};
 
 use crate::{CCounts, CSettings, CState};
 use reader::{Counts, Phase, Run, Settings, State};
@@ -19,10 +19,22 @@ pub fn settings_back(given: CSettings) -> Settings
     }
 }
 
+// The phase of a number; any other is none.
+#[tactic(auto, unfolding(crate::specs::State::phase_of))]
+fn phase_of(n: usize) -> Option<Phase>
+    ensures { result ≡ phase_of n }
+{
+    match n {
+        0 => Some(Phase::Closed),
+        1 => Some(Phase::Feeding),
+        2 => Some(Phase::Finishing),
+        _ => None,
+    }
+}
+
 fn in_phase(s: CState, phase: Phase) -> State
     ensures { result ≡ in_phase s phase }
 {
-    let x = s.settings;
     State {
         run: Run {
             phase,
@@ -33,7 +45,7 @@ fn in_phase(s: CState, phase: Phase) -> State
                 blocks: s.counts.blocks,
                 skipped: s.counts.skipped,
             },
-            settings: settings_back(x),
+            settings: settings_back(s.settings),
         },
         in_force: s.in_force,
         waiting: s.waiting,
@@ -45,30 +57,28 @@ fn in_phase(s: CState, phase: Phase) -> State
 pub fn state_of(s: CState) -> State
     ensures { Reads (state_of s) result }
 {
-    let phase = s.phase;
-    if phase == 0 {
-        return in_phase(s, Phase::Closed);
+    match phase_of(s.phase) {
+        Some(phase) => in_phase(s, phase),
+        None => {
+            let new = reader::new();
+            State {
+                run: Run {
+                    held: 65533,
+                    ..new.run
+                },
+                ..new
+            }
+        }
     }
-    if phase == 1 {
-        return in_phase(s, Phase::Feeding);
-    }
-    if phase == 2 {
-        return in_phase(s, Phase::Finishing);
-    }
-    State {
-        run: Run {
-            phase: Phase::Closed,
-            held: 65533,
-            standing: 0,
-            counts: Counts {
-                taken: 0,
-                blocks: 0,
-                skipped: 0,
-            },
-            settings: reader::default_settings(),
-        },
-        in_force: 0,
-        waiting: 0,
+}
+
+pub fn counts_c(c: Counts) -> CCounts
+    ensures { result ≡ counts_c c }
+{
+    CCounts {
+        taken: c.taken,
+        blocks: c.blocks,
+        skipped: c.skipped,
     }
 }
 
@@ -76,18 +86,12 @@ pub fn state_c(s: State) -> CState
     ensures { result ≡ state_c s }
 {
     let run = s.run;
-    let phase = run.phase;
-    let x = run.settings;
     CState {
-        phase: reader::phase_number(phase),
+        phase: usize::from(run.phase),
         held: run.held,
         standing: run.standing,
-        counts: CCounts {
-            taken: run.counts.taken,
-            blocks: run.counts.blocks,
-            skipped: run.counts.skipped,
-        },
-        settings: settings_c(x),
+        counts: counts_c(run.counts),
+        settings: settings_c(run.settings),
         in_force: s.in_force,
         waiting: s.waiting,
     }

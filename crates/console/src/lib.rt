@@ -1,70 +1,43 @@
-// The three standard streams, as both programs use them: input in pieces, output from a buffer, and errors told.
+// The three standard streams, as the programs use them: input in pieces, output from a buffer, and failures told.
 #![tactic(auto)]
 
-ghost use Rattle.std.specs.Prelude.{◌+◌, ◌≤◌, ◌<◌, length};
+ghost use Rattle.std.specs.Prelude.{◌≡◌, ◌+◌, ◌≤◌, IfOk};
 ghost use Rattle.std.specs.Counts.{IsPrefixLen};
 
 pub mod lines; // lines.rt: the next line of standard input
 
 use std::io::{Read, Seek};
-use std::{fs, io};
+use std::{fmt, fs, io};
 
 // Standard input by its name.
 const INPUT: &str = "/dev/stdin";
 
-// Why a program stops reading: `Stopped` is its own choice.
+// Why a program stops before the input's end.
 #[derive(Clone, Copy)]
-pub enum Course {
-    GoesOn,
-    InputEnded,
-    Stopped,
-    ReadFailed,
-    WriteFailed,
+pub enum Failure {
+    Read,
+    Write,
 }
 
-pub fn goes_on(c: Course) -> bool {
-    match c {
-        Course::GoesOn => true,
-        _ => false,
+impl fmt::Display for Failure {
+    fn fmt<W: fmt::Write>(&self, f: &mut fmt::Formatter<W>) -> fmt::Result {
+        match self {
+            Failure::Read => write!(f, "cannot read standard input"),
+            Failure::Write => write!(f, "cannot write to standard output"),
+        }
     }
 }
 
-// A proved loop has to end, and nothing says that the input does: it counts its turns down, and has none left where it does not
-// go on.
-pub const TURNS: u64 = 0xffff_ffff_ffff_ffff;
-
-pub fn left(turns: u64, more: bool) -> u64
-    requires { 0 < turns }
-    ensures { result < turns }
-{
-    if more { turns - 1 } else { 0 }
+// Tells a failure on standard error, by the program's name.
+pub fn tell(rt: &HostRuntime, name: &str, why: Failure) {
+    let _ = eprintln!(rt; "{name}: {why}");
 }
 
-// How many bytes were read, and whether to go on.
-#[derive(Clone, Copy)]
-pub struct Piece {
-    pub count: usize,
-    pub course: Course,
-}
-
-// Reads once from standard input.
-pub fn read(rt: &HostRuntime, buf: &mut [u8; 65536]) -> Piece
-    ensures { IsPrefixLen result.count buf.new × (result.count ≤ 65536) }
+// Reads once from standard input, and answers how many bytes: none at its end.
+pub fn read(rt: &HostRuntime, buf: &mut [u8; 65536]) -> Result<usize, Failure>
+    ensures { IfOk result (λ n. IsPrefixLen n buf.new × (n ≤ 65536)) }
 {
-    match rt.stdin().read(buf) {
-        Ok(0) => Piece {
-            count: 0,
-            course: Course::InputEnded,
-        },
-        Ok(count) => Piece {
-            count,
-            course: Course::GoesOn,
-        },
-        Err(_) => Piece {
-            count: 0,
-            course: Course::ReadFailed,
-        },
-    }
+    rt.stdin().read(buf).or(Err(Failure::Read))
 }
 
 // Whether standard input has a place in a file, and a pipe, a socket and a serial line have none. A file is opened once more to
@@ -82,66 +55,44 @@ pub fn live(rt: &HostRuntime) -> bool {
     !has_place(rt).unwrap_or(false)
 }
 
-// Tells words on standard error.
-pub fn tell(rt: &HostRuntime, words: &[u8]) {
-    let _ = rt.stderr().write_all(words);
-}
-
-// Tells a number, in decimal, on standard error.
-pub fn tell_number(rt: &HostRuntime, n: u64) {
-    let _ = rt.eprint(n);
-}
-
-// Writes the first n bytes to standard output.
-fn write(rt: &HostRuntime, out: &[u8], n: usize) -> bool
-    requires { n ≤ length out.now }
-{
-    rt.stdout().write_all(&out[..n]).is_ok()
-}
-
-// How many bytes wait to be written, and whether writing went well.
-#[derive(Clone, Copy)]
-pub struct Room {
+// What waits to be written to standard output: the first bytes of a buffer.
+#[derive(Drop)]
+pub struct Output {
+    pub bytes: [u8; 8192],
     pub filled: usize,
-    pub written: bool,
+    pub ghost within: { filled ≤ 8192 },
 }
 
-// Makes room for a line: writes out what waits where less than that is left.
-pub fn make_room(rt: &HostRuntime, out: &[u8; 8192], filled: usize, line: usize) -> Room
-    requires { (filled ≤ 8192) × (line ≤ 8192) }
-    ensures { (result.filled ≤ filled) × (result.filled + line ≤ 8192) }
-{
-    if filled <= 8192 - line {
-        return Room {
-            filled,
-            written: true,
-        };
+impl Output {
+    // Writes what waits. What cannot be written is not tried again.
+    fn write(&mut self, rt: &HostRuntime) -> Result<(), Failure>
+        ensures { self.new.filled ≡ 0 }
+    {
+        let waits = self.filled;
+        self.filled = 0;
+        let written = rt.stdout().write_all(&self.bytes[..waits]);
+        written.or(Err(Failure::Write))
     }
-    Room {
-        filled: 0,
-        written: write(rt, out, filled),
-    }
-}
 
-fn tell_unwritten(rt: &HostRuntime, name: &[u8]) {
-    tell(rt, name);
-    tell(rt, b": cannot write to standard output\n");
-}
-
-// A program's end: writes out what waits, and tells by the program's name what went wrong.
-pub fn write_out(rt: &HostRuntime, name: &[u8], course: Course, out: &[u8; 8192], filled: usize)
-    requires { filled ≤ 8192 }
-{
-    let written = write(rt, out, filled);
-    match course {
-        Course::ReadFailed => {
-            tell(rt, name);
-            tell(rt, b": cannot read standard input\n");
+    // Makes room for a line: writes out what waits where less than that is left.
+    pub fn make_room(&mut self, rt: &HostRuntime, line: usize) -> Result<(), Failure>
+        requires { line ≤ 8192 }
+        ensures { (self.new.filled ≤ self.old.filled) × (self.new.filled + line ≤ 8192) }
+    {
+        if self.filled <= 8192 - line {
+            return Ok(());
         }
-        Course::WriteFailed => tell_unwritten(rt, name),
-        _ => {}
+        self.write(rt)
     }
-    if !written {
-        tell_unwritten(rt, name);
+
+    // A program's end: writes out what waits, and tells by the program's name what went wrong.
+    pub fn close(&mut self, rt: &HostRuntime, name: &str, end: Result<(), Failure>) {
+        let written = self.write(rt);
+        if let Err(why) = end {
+            tell(rt, name, why);
+        }
+        if let Err(why) = written {
+            tell(rt, name, why);
+        }
     }
 }

@@ -1,7 +1,7 @@
 // The next line of standard input, out of the pieces in which it is read.
-ghost use Rattle.std.specs.Prelude.{◌≤◌, ◌<◌, length};
+ghost use Rattle.std.specs.Prelude.{◌≤◌, length, IfOk, IfSome};
 
-use crate::Course;
+use crate::Failure;
 
 // The longest line, without its line feed.
 pub const LONGEST: usize = 270000;
@@ -9,149 +9,76 @@ pub const LONGEST: usize = 270000;
 // The length of any longer line.
 const TOO_LONG: usize = 270001;
 
-// How long the line is so far, TOO_LONG standing for any longer one; where the piece is read on; whether the line ended.
-#[derive(Clone, Copy)]
-struct Gathered {
-    pub length: usize,
-    pub next: usize,
-    pub ended: bool,
+// The lines of standard input: the last one that was found, the piece that was read last, of which the bytes from `at` to `end`
+// are yet to be looked at, and whether the input has ended.
+#[derive(Drop)]
+pub struct Lines<'a> {
+    pub line: &'a mut [u8; 270000],
+    piece: &'a mut [u8; 65536],
+    at: usize,
+    end: usize,
+    ended: bool,
+    ghost within: { (at ≤ end) × (end ≤ 65536) },
 }
 
-// Reads a piece on from a place to the line's end, or to its own. A line that is too long keeps its first bytes only.
-fn gather(line: &mut [u8; 270000], so_far: usize, piece: &[u8], from: usize) -> Gathered
-    requires { (so_far ≤ 270001) × (from < length piece.now) }
-    ensures { (result.length ≤ 270001) × (from < result.next) × (result.next ≤ length piece.now) }
+// Puts more of a line behind its first bytes, and answers how long it is then. Of a line that is too long only that is kept.
+fn append(line: &mut [u8; 270000], so_far: usize, more: &[u8]) -> usize
+    requires { (length more.now ≤ 65536) × (so_far ≤ 270001) }
+    ensures { result ≤ 270001 }
 {
-    let mut n = so_far;
-    let mut i = from;
-    while i < piece.len() {
-        let b = piece[i];
-        i += 1;
-        if b == b'\n' {
-            return Gathered {
-                length: n,
-                next: i,
-                ended: true,
-            };
+    let end = so_far + more.len();
+    if end > LONGEST {
+        return TOO_LONG;
+    }
+    line[so_far..end].copy_from_slice(more);
+    end
+}
+
+impl<'a> Lines<'a> {
+    // Before the first line.
+    pub fn new(line: &'a mut [u8; 270000], piece: &'a mut [u8; 65536]) -> Self {
+        Lines {
+            line,
+            piece,
+            at: 0,
+            end: 0,
+            ended: false,
         }
-        if n < LONGEST {
-            line[n] = b;
-            n += 1;
-        } else {
-            n = TOO_LONG;
+    }
+
+    // Reads the next piece; whether there is one. An input that has ended is not read again.
+    fn fill(&mut self, rt: &HostRuntime) -> Result<bool, Failure> {
+        if self.ended {
+            return Ok(false);
         }
+        let count = crate::read(rt, self.piece)?;
+        self.at = 0;
+        self.end = count;
+        self.ended = count == 0;
+        Ok(count != 0)
     }
-    Gathered {
-        length: n,
-        next: i,
-        ended: false,
-    }
-}
 
-// A place in the piece that was read, and how many bytes the piece has; how long the line is so far, and whether it was found;
-// whether reading goes on.
-#[derive(Clone, Copy)]
-pub struct LineReading {
-    pub at: usize,
-    pub count: usize,
-    pub length: usize,
-    pub found: bool,
-    pub course: Course,
-}
-
-// Before the first line.
-pub fn start() -> LineReading
-    ensures { (result.at ≤ result.count) × (result.count ≤ 65536) }
-{
-    LineReading {
-        at: 0,
-        count: 0,
-        length: 0,
-        found: false,
-        course: Course::GoesOn,
+    // How long the next line is, TOO_LONG for any longer one, or that there is none. A line begins where the last one ended; at the
+    // input's end a last line without a line feed counts, an empty rest does not.
+    pub fn next_line(&mut self, rt: &HostRuntime) -> Result<Option<usize>, Failure>
+        ensures { IfOk result (λ found. IfSome found (λ n. n ≤ 270001)) }
+    {
+        let mut length = 0;
+        for _ in 0..u64::MAX {
+            if self.at == self.end && !self.fill(rt)? {
+                return Ok(if length == 0 { None } else { Some(length) });
+            }
+            let piece: &[u8] = self.piece;
+            let rest = &piece[self.at..self.end];
+            let feed = rest.iter().position(|b| *b == b'\n');
+            let n = feed.unwrap_or(rest.len());
+            length = append(self.line, length, &rest[..n]);
+            if feed.is_some() {
+                self.at += n + 1;
+                return Ok(Some(length));
+            }
+            self.at = self.end;
+        }
+        Ok(None)
     }
-}
-
-// At the input's end a last line without a line feed counts, an empty rest does not.
-fn is_last(length: usize, course: Course) -> bool {
-    match course {
-        Course::InputEnded => length != 0,
-        _ => false,
-    }
-}
-
-// Reads the piece on to the line's end, or to its own.
-fn read_line(r: LineReading, buf: &[u8; 65536], line: &mut [u8; 270000]) -> LineReading
-    requires { (r.at < r.count) × (r.count ≤ 65536) × (r.length ≤ 270001) }
-    ensures { (result.at ≤ result.count) × (result.count ≤ 65536) × (result.length ≤ 270001) }
-{
-    let count = r.count;
-    let course = r.course;
-    let all: &[u8] = buf;
-    let g = gather(line, r.length, &all[..count], r.at);
-    LineReading {
-        at: g.next,
-        count,
-        length: g.length,
-        found: g.ended,
-        course,
-    }
-}
-
-// Reads the next piece where this one is read.
-fn read_on(
-    rt: &HostRuntime,
-    r: LineReading,
-    buf: &mut [u8; 65536],
-    line: &mut [u8; 270000],
-) -> LineReading
-    requires { (r.at ≤ r.count) × (r.count ≤ 65536) × (r.length ≤ 270001) }
-    ensures { (result.at ≤ result.count) × (result.count ≤ 65536) × (result.length ≤ 270001) }
-{
-    if r.at < r.count {
-        return read_line(r, buf, line);
-    }
-    let piece = crate::read(rt, buf);
-    let course = piece.course;
-    LineReading {
-        at: 0,
-        count: piece.count,
-        length: r.length,
-        found: is_last(r.length, course),
-        course,
-    }
-}
-
-fn goes_on(r: LineReading) -> bool {
-    let course = r.course;
-    if r.found {
-        return false;
-    }
-    crate::goes_on(course)
-}
-
-// A line begins where the last one ended.
-pub fn next_line(
-    rt: &HostRuntime,
-    r: LineReading,
-    buf: &mut [u8; 65536],
-    line: &mut [u8; 270000],
-) -> LineReading
-    requires { (r.at ≤ r.count) × (r.count ≤ 65536) }
-    ensures { (result.at ≤ result.count) × (result.count ≤ 65536) × (result.length ≤ 270001) }
-{
-    let course = r.course;
-    let mut now = LineReading {
-        at: r.at,
-        count: r.count,
-        length: 0,
-        found: false,
-        course,
-    };
-    let mut turns: u64 = crate::left(crate::TURNS, goes_on(now));
-    while turns > 0 {
-        now = read_on(rt, now, buf, line);
-        turns = crate::left(turns, goes_on(now));
-    }
-    now
 }

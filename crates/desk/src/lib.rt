@@ -5,10 +5,9 @@
 ghost use Rattle.std.specs.Prelude.{◌≡◌, min, length};
 ghost use Rattle.std.specs.Counts.{IsPrefixLen};
 
-use reader::{Block, Phase, Run, State};
-use record::Answer;
-use refusal::Refusal;
+use reader::{Block, Phase, State};
 use script::{Buffer, StateNumber};
+use value::Value;
 
 // More than any buffer has: all of it is lent.
 const WHOLE: usize = 0xffff_ffff_ffff_ffff;
@@ -22,18 +21,16 @@ pub struct Desk {
     pub out: usize,
 }
 
-// What a call replies that may write: Open, Stage and Withdraw, Feed without a block and with one, Finish with a block and at the
-// end, or a refusal, whichever call it was.
+// What a call replies that may write and is not refused: Open, Stage and Withdraw, Feed with a block or without one, Finish with a
+// block and at the end.
 #[derive(Clone, Copy)]
 pub enum RunReply {
     Opened(u16),
     Staged(u16),
     Withdrawn(bool),
-    More(usize),
-    FedBlock(usize, Block),
+    Fed(usize, Option<Block>),
     Found(Block),
     End(reader::Counts),
-    Refused(Refusal),
 }
 
 // Bytes that were handed back: how many, and their CRC. Of a block that was written: its length, and the CRC of the whole buffer.
@@ -43,13 +40,12 @@ pub struct PartCrc {
     pub crc: u16,
 }
 
-// What a call replies that is lent none of the reader's buffers to write.
+// What a call replies that is lent none of the reader's buffers to write and is not refused.
 #[derive(Clone, Copy)]
 pub enum AskReply {
-    Field(Answer),
+    Field(Value),
     Bytes(PartCrc),
     Written(PartCrc),
-    Refused(Refusal),
 }
 
 // The CRCs of the three whole buffers.
@@ -76,7 +72,7 @@ pub fn lent(n: usize, buffer: &[u8]) -> usize
     ensures prefix_len { IsPrefixLen result buffer.now }
     ensures value { result ≡ min n (length buffer.now) }
 {
-    if n < buffer.len() { n } else { buffer.len() }
+    n.min(buffer.len())
 }
 
 // `size`: what the next call is lent.
@@ -99,36 +95,11 @@ fn poked_phase(v: usize) -> Phase {
     }
 }
 
-// A desk whose run is in another phase.
-fn with_phase(b: Desk, phase: Phase) -> Desk {
-    let s = b.state;
-    let r = s.run;
-    let counts = r.counts;
-    let settings = r.settings;
-    Desk {
-        state: State {
-            run: Run {
-                phase,
-                held: r.held,
-                standing: r.standing,
-                counts,
-                settings,
-            },
-            in_force: s.in_force,
-            waiting: s.waiting,
-        },
-        hold: b.hold,
-        in_force: b.in_force,
-        waiting: b.waiting,
-        out: b.out,
-    }
-}
-
 // `poke`: a number of the state is set, whether the reader would or not.
 pub fn poked(b: Desk, part: StateNumber, v: usize) -> Desk {
     let mut next = b;
     match part {
-        StateNumber::Phase => return with_phase(b, poked_phase(v)),
+        StateNumber::Phase => next.state.run.phase = poked_phase(v),
         StateNumber::InForce => next.state.in_force = v,
         StateNumber::Waiting => next.state.waiting = v,
         StateNumber::Held => next.state.run.held = v,
@@ -144,10 +115,7 @@ pub fn poked(b: Desk, part: StateNumber, v: usize) -> Desk {
 // `put`: bytes go into a buffer; answers whether they end in it.
 pub fn written(buffer: &mut [u8], offset: usize, bytes: &[u8]) -> bool {
     let n = bytes.len();
-    if buffer.len() < offset {
-        return false;
-    }
-    if buffer.len() - offset < n {
+    if buffer.len() < offset || buffer.len() - offset < n {
         return false;
     }
     copy::copy_in(buffer, offset, bytes, 0, n);

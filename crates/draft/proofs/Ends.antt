@@ -1,29 +1,29 @@
 -- Where the last field ends, looked for from the last row on; and what SBLength and the end are by it.
 -- Assumes nothing.
 use mathlib.Core.Bool.{true, false, cond}
-use mathlib.Core.List.{List, [], ◌∷◌, ◌++◌}
-use mathlib.Core.Path.{◌≡◌, refl, sym, ◌∙◌}
-use Prim.Native.Nat.{ℕ, suc, ◌+◌, ◌*◌, ◌/◌, ◌≤◌, ◌<◌}
+use mathlib.Core.List.{List, [], ◌∷◌}
+use mathlib.Core.Path.{◌≡◌, refl, sym, ap, ◌∙◌}
+use Prim.Native.Nat.{ℕ, zero, suc, ◌+◌, ◌*◌, ◌/◌, ◌≤◌, ◌<◌}
 use native.Mathlib.Nat.{zero-mul, mul-le-mul}
 use native.Mathlib.Omega.{arith}
 use lib.ListN.{length, take, get_or}
-use Rattle.std.proofs.Math.Seq.{take-suc}
-use Rattle.std.proofs.lemmas.List.{map-append}
 use borrow.Author.Tests.{ne_eqb}
 use Rattle.rows.specs.declared.FieldRow.{FieldRow}
 use Rattle.rows.specs.Places.{field_of}
-use Rattle.table.specs.declared.Shape.{Shape}
 use Rattle.table.specs.Rows.{BlockRow, ends}
+use Rattle.table.specs.declared.Shape.{Shape}
 use Rattle.table.specs.Shape.{fields_of, shape_says}
 use Rattle.table.specs.Lookup.{carried}
 use Rattle.draft.specs.Draft.{Draft, last_end, sb_length_by, sb_length, block_end_by, block_end, round_up}
 use Rattle.draft.specs.Code.{Sizing}
 
 -- of one row more: its end where it is carried, else that of the rows before it
-last_more : (revision from : ℕ) (fs : List FieldRow) (f : FieldRow) → last_end revision from (fs ++ f ∷ []) ≡ cond (carried revision f) (ends f) (last_end revision from fs)
+end_more : (rows : List (List ℕ)) (revision from k : ℕ) (d : List ℕ) → k < length rows
+    → last_end revision from (fields_of (take (suc k) rows)) ≡ cond (carried revision (field_of (get_or rows k d))) (ends (field_of (get_or rows k d))) (last_end revision from (fields_of (take k rows)))
 unfolding last_end
-last_more revision from [] f = refl
-last_more revision from (g ∷ gs) f = last_more revision (cond (carried revision g) (ends g) from) gs f
+end_more [] revision from k d h = let z : ⊥ = omega arith in absurd z
+end_more (r ∷ rows) revision from zero d h = refl
+end_more (r ∷ rows) revision from (suc k) d h = end_more rows revision (cond (carried revision (field_of r)) (ends (field_of r)) from) k d (omega arith)
 
 -- the rows from k on are not carried, so those before them give the whole
 module _ (rows : List (List ℕ)) (revision from k whole : ℕ) (inv : whole ≡ last_end revision from (fields_of (take k rows))) where
@@ -31,12 +31,9 @@ module _ (rows : List (List ℕ)) (revision from k whole : ℕ) (inv : whole ≡
   unfolding last_end
   ends_none e = sym (inv ∙ rw e)
 
-  module _ (j : ℕ) (i : k ≡ suc j) (d : List ℕ) (h : j < length rows) (g : FieldRow) (e : g ≡ field_of (get_or rows j d)) where
+  module _ (j : ℕ) (i : k ≡ suc j) (g : FieldRow) (d : List ℕ) (e : g ≡ field_of (get_or rows j d)) (h : j < length rows) where
     last_is : whole ≡ cond (carried revision g) (ends g) (last_end revision from (fields_of (take j rows)))
-    last_is =
-        inv
-        ∙ rw (i, take-suc rows j d h, map-append, e)
-        (last_more revision from (fields_of (take j rows)) (field_of (get_or rows j d)))
+    last_is = rw e (inv ∙ ap (λ (n : ℕ). last_end revision from (fields_of (take n rows))) i ∙ end_more rows revision from j d h)
 
     pub ends_at : carried revision g ≡ true → ends g ≡ whole
     ends_at c = sym (last_is ∙ rw c)
@@ -44,7 +41,7 @@ module _ (rows : List (List ℕ)) (revision from k whole : ℕ) (inv : whole ≡
     pub ends_before : carried revision g ≡ false → whole ≡ last_end revision from (fields_of (take j rows))
     ends_before c = last_is ∙ rw c
 
--- SBLength and L, by a block row
+-- SBLength and L, by a row of a table
 module _ (row : Shape) (revision n : ℕ) where
   pub length_none : n ≡ 0 → 0 ≡ sb_length_by (shape_says row) revision n
   unfolding sb_length_by

@@ -24,12 +24,12 @@ use Rattle.entry.specs.Code.{Taking}
 use Rattle.entry.proofs.Places.{subs_end, values_go, subs_begin}
 use Rattle.draft.specs.Code.{values_from, subs_from, Stops, ListLeft, Resting, Listing, counted, subs_allowed}
 
--- one list, at `next`
+-- one list, at `next`, with the rows from k on
 module _ (rows : List (List ℕ)) (revision k : ℕ) (kinds bits : List ℕ) (next : ℕ) (whole : Bool)
     (inv : whole ≡ list_ok revision (fields_of (drop k rows)) (values_from kinds bits next)) where
   pub list_done : length rows ≤ k → every is_unset (values_from kinds bits next) ≡ whole
   unfolding list_ok
-  list_done h = sym (inv ∙ ap (λ (fs : List FieldRow). list_ok revision fs (values_from kinds bits next)) (none_left rows k h))
+  list_done e = sym (inv ∙ ap (λ (fs : List FieldRow). list_ok revision fs (values_from kinds bits next)) (none_left rows k e))
 
   module _ (g : FieldRow) (d : List ℕ) (u : g ≡ field_of (get_or rows k d)) (h : k < length rows) (t : Taken) (w : Taking kinds bits next t) where
     by : whole ≡ (wanted_ok revision g (wanted_of t.entry.kind t.entry.bits) && list_ok revision (fields_of (drop (k + 1) rows)) (values_from kinds bits t.next))
@@ -41,8 +41,7 @@ module _ (rows : List (List ℕ)) (revision k : ℕ) (kinds bits : List ℕ) (ne
     pub list_stop : wanted_ok revision g (wanted_of t.entry.kind t.entry.bits) ≡ false → false ≡ whole
     list_stop e = sym (by ∙ rw e)
 
-    pub list_go : wanted_ok revision g (wanted_of t.entry.kind t.entry.bits) ≡ true
-        → whole ≡ list_ok revision (fields_of (drop (k + 1) rows)) (values_from kinds bits t.next)
+    pub list_go : wanted_ok revision g (wanted_of t.entry.kind t.entry.bits) ≡ true → whole ≡ list_ok revision (fields_of (drop (k + 1) rows)) (values_from kinds bits t.next)
     list_go e = by ∙ rw e
 
 module _ (revision : ℕ) (fs : List FieldRow) (kinds bits : List ℕ) (p : ℕ) where

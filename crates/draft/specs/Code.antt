@@ -38,7 +38,7 @@ pub record Listing (revision : ℕ) (fs : List FieldRow) (kinds bits : List ℕ)
   pub is : is_some r ≡ list_ok revision fs (values_from kinds bits p)
   pub left : IfSome r (ListLeft kinds bits p)
 
--- how many sub-blocks there are, where the test holds; and the test of them all
+-- how many sub-blocks there are, where all is allowed
 abbrev pub counted : Bool → List (List Wanted) → Option ℕ
 counted ok ss = cond ok (Some (length ss)) None
 

@@ -1,7 +1,7 @@
 // A draft of a block against its row (rule R11), and how long the block is (W7, W9).
 #![tactic(auto)]
 
-ghost use Rattle.std.specs.Prelude.{◌≡◌, [], ◌+◌, ◌≤◌, length};
+ghost use Rattle.std.specs.Prelude.{◌≡◌, [], ◌≤◌, length};
 ghost use Rattle.table.specs.Shape.{fields_of, shape_says};
 ghost use Rattle.entry.specs.Wanted.{wanted_of};
 ghost use Rattle.entry.specs.Bits.{wanted_ok, list_ok};
@@ -70,8 +70,9 @@ pub fn list_ok(
 {
     let mut next = p;
     for field in fields {
+        let f = rows::field(*field);
         let t = entry::take(kinds, bits, next);
-        if !wanted_ok(rows::field(*field), revision, t.entry) {
+        if !wanted_ok(f, revision, t.entry) {
             return None;
         }
         next = t.next;
@@ -80,7 +81,13 @@ pub fn list_ok(
 }
 
 // The sub-blocks' lists from p on, where the first one begins or all has ended: how many there are.
-fn subs_ok(fields: &[[u8; 4]], revision: u8, kinds: &[u8], bits: &[u64], p: usize) -> Option<usize>
+fn subs_ok(
+    fields: &[[u8; 4]],
+    revision: u8,
+    kinds: &[u8],
+    bits: &[u64],
+    p: usize,
+) -> Option<usize>
     requires { (p ≤ length kinds.now) × Stops kinds.now bits.now p }
     ensures { result ≡ counted (subs_allowed (list_ok revision (fields_of fields.now)) (subs_from kinds.now bits.now p)) (subs_from kinds.now bits.now p) }
 {

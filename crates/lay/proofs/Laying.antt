@@ -13,10 +13,10 @@ use lib.Seq.{sets, length-sets}
 use borrow.Author.Tests.{leb-true, le-leb, lt-leb}
 use Rattle.kinds.specs.Types.{size_of}
 use Rattle.rows.specs.declared.FieldRow.{FieldRow}
-use Rattle.table.specs.Lists.{every, is_some}
 use Rattle.rows.specs.Places.{field_of}
-use Rattle.table.specs.Rows.{ends}
+use Rattle.table.specs.Lists.{every, is_some}
 use Rattle.table.specs.Shape.{fields_of}
+use Rattle.table.specs.Rows.{ends}
 use Rattle.table.proofs.FieldRows.{one_left}
 use Rattle.wire.proofs.Tests.{both, both_true, lt?}
 use Rattle.pen.specs.Bytes.{little_bytes}
@@ -205,6 +205,6 @@ unfolding every
 every_one p xs {x} {rest} e a = both (p x) (every p rest) (sym (ap (every p) e) ∙ a)
 
 -- the next row of those that are left
-pub rows_left : (rows : List (List ℕ)) (k : ℕ) {x : FieldRow} → x ≡ field_of (get_or rows k []) → k < length rows
-    → fields_of (drop k rows) ≡ x ∷ fields_of (drop (k + 1) rows)
-rows_left rows k e h = one_left rows k [] h ∙ rw e
+pub rows_left : (rows : List (List ℕ)) (i : ℕ) (d : List ℕ) {x : FieldRow} → x ≡ field_of (get_or rows i d) → i < length rows
+    → fields_of (drop i rows) ≡ x ∷ fields_of (drop (i + 1) rows)
+rows_left rows i d e h = rw e (one_left rows i d h)

@@ -66,8 +66,8 @@ pub fn list_end(kinds: &[u8], p: usize) -> usize
     kinds.len()
 }
 
-// The carried ones of these field rows, with the values from p on; offsets count from `base`, and the first byte written is the one at
-// `from`.
+// The carried ones of these field rows, with the values from p on; offsets count from `base`, and the
+// first byte written is the one at `from`.
 pub fn fields(
     rows: &[[u8; 4]],
     revision: u8,
@@ -78,9 +78,9 @@ pub fn fields(
     base: usize,
     from: usize,
 ) -> Laid
-    requires p_bound { p ≤ length kinds.now }
-    requires fields_value { (in_order from (fields_of rows.now) ≡ true) × (list_ok revision (fields_of rows.now) (values_from kinds.now bits.now p) ≡ true) }
-    requires fields_in_bounds { base + last_end revision from (fields_of rows.now) ≤ length out.old }
+    requires count_bound { p ≤ length kinds.now }
+    requires count_value { (in_order from (fields_of rows.now) ≡ true) × (list_ok revision (fields_of rows.now) (values_from kinds.now bits.now p) ≡ true) }
+    requires count_in_bounds { base + last_end revision from (fields_of rows.now) ≤ length out.old }
     ensures list_left { ListLeft kinds.now bits.now p result.next }
     ensures end_value { result.end ≡ last_end revision from (fields_of rows.now) }
     ensures out_after { out.new ≡ sets out.old (base + from) (laid revision from (fields_of rows.now) (values_from kinds.now bits.now p)) }
@@ -111,9 +111,9 @@ pub fn subs(
     out: &mut [u8],
     base: usize,
 )
-    requires p_bound { (p ≤ length kinds.now) × Stops kinds.now bits.now p }
-    requires fields_value { (in_order 0 (fields_of rows.now) ≡ true) × (every (list_ok revision (fields_of rows.now)) (subs_from kinds.now bits.now p) ≡ true) }
-    requires fields_in_bounds { base + length (subs_from kinds.now bits.now p) * last_end revision 0 (fields_of rows.now) ≤ length out.old }
+    requires count_bound { (p ≤ length kinds.now) × Stops kinds.now bits.now p }
+    requires count_value { (in_order 0 (fields_of rows.now) ≡ true) × (every (list_ok revision (fields_of rows.now)) (subs_from kinds.now bits.now p) ≡ true) }
+    requires count_in_bounds { base + length (subs_from kinds.now bits.now p) * last_end revision 0 (fields_of rows.now) ≤ length out.old }
     ensures { out.new ≡ sets out.old base (flat_map (laid revision 0 (fields_of rows.now)) (subs_from kinds.now bits.now p)) }
 {
     let mut next = p;

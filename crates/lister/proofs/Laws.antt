@@ -1,11 +1,10 @@
--- What the loops ask of the reader: a call takes no more than it is offered.
+-- What an offer asks of the reader: a call takes no more than it is offered.
 -- Assumes nothing.
 use mathlib.Core.List.{List}
 use Rattle.std.proofs.Common.{Option, None, Some}
-use Prim.Native.Nat.{ℕ, ◌+◌, ◌-◌, ◌≤◌}
+use Prim.Native.Nat.{ℕ, ◌-◌, ◌≤◌}
 use native.Mathlib.Omega.{arith}
-use lib.ListN.{length, take, drop, length-drop}
-use lib.Seq.{length-take-le}
+use lib.ListN.{length}
 use Rattle.frame.specs.Judge.{judged}
 use Rattle.scan.specs.Feed.{feed_lit}
 use Rattle.scan.proofs.Stable.{judging}
@@ -34,7 +33,3 @@ few_by None s hold piece h c room = omega (arith, (call (judged c) (judging c).f
 pub taken_few : (s : State) (hold piece : List ℕ) → taken_of (feed_of s hold piece).said ≤ length piece
 unfolding feed_of feeding_of
 taken_few s hold piece = few_by (feed_refusal s hold piece) s hold piece (rest_of hold s.run.held s.run.standing) (ceiling_of s) (limit - s.run.counts.taken)
-
--- a place in the first n bytes, and what is taken from there on
-pub within : (b : List ℕ) (at n t : ℕ) → at ≤ n → n ≤ length b → t ≤ length (take (n - at) (drop at b)) → at + t ≤ n
-within b at n t a h l = omega (arith, length-take-le (n - at) (drop at b) (omega (arith, length-drop at b)))

@@ -21,7 +21,7 @@ pub fn refused(out: &mut [u8; 8192], at: usize, why: Refusal) -> usize
     ensures upper_bound { result ≤ at + 28 }
     ensures out_after { take result out.new ≡ take at out.old ++ refused_text (number_for why) }
 {
-    text::word_number(out, at, b"refused", refusal::number(why) as u64)
+    text::word_number(out, at, b"refused", u64::from(u32::from(why)))
 }
 
 // What is said of a block, with no line's end.
@@ -32,8 +32,8 @@ pub fn block_words(out: &mut [u8; 8192], at: usize, b: Block) -> usize
 {
     let word = text::put(out, at, b"block");
     let place = text::number(out, word, b.place as u64);
-    let name = text::number(out, place, b.number as u64);
-    let revision = text::number(out, name, b.revision as u64);
+    let name = text::number(out, place, u64::from(b.number));
+    let revision = text::number(out, name, u64::from(b.revision));
     text::number(out, revision, b.length as u64)
 }
 
@@ -83,16 +83,13 @@ pub fn state_text(out: &mut [u8; 8192], at: usize, s: State) -> usize
     ensures out_after { take result out.new ≡ take at out.old ++ state_text s }
 {
     let run = s.run;
-    let phase = run.phase;
-    let sums = run.counts;
-    let settings = run.settings;
-    let bar = text::word_number(out, at, b" |", reader::phase_number(phase) as u64);
+    let bar = text::word_number(out, at, b" |", usize::from(run.phase) as u64);
     let force = text::number(out, bar, s.in_force as u64);
     let waiting = text::number(out, force, s.waiting as u64);
     let held = text::number(out, waiting, run.held as u64);
     let standing = text::number(out, held, run.standing as u64);
-    let skipped = counts(out, standing, sums);
-    text::number(out, skipped, settings.ceiling as u64)
+    let skipped = counts(out, standing, run.counts);
+    text::number(out, skipped, run.settings.ceiling as u64)
 }
 
 // The lines of S11's sample are these.

@@ -1,7 +1,7 @@
 // What a call that may write answered, as a reply: it says what the answer says, and a version is told as its call's. The same of
 // Write.
 ghost use Rattle.std.specs.Prelude.{◌≡◌, false, T};
-ghost use Rattle.tables.specs.Said.{said_opened, said_staged, said_withdrawn};
+ghost use Rattle.tables.specs.Said.{said_version, said_withdrawn};
 ghost use Rattle.runs.specs.Said.{said_fed, said_finished};
 ghost use Rattle.writer.specs.Write.{written_says};
 ghost use Rattle.desk.specs.Says.{reply_says, is_staged, is_version};
@@ -9,66 +9,49 @@ ghost use Rattle.desk.specs.Plain.{plainly};
 ghost use Rattle.play.specs.Wrote.{wrote_says, crc_told};
 
 use desk::{AskReply, PartCrc, RunReply};
+use refusal::Refusal;
 use runs::{Fed, Finished};
-use tables::{Opened, Staged, Withdrawn};
-use writer::Written;
 
-pub fn opened(a: Opened) -> RunReply
-    ensures result_value { reply_says result ≡ said_opened a }
+pub fn opened(a: Result<u16, Refusal>) -> Result<RunReply, Refusal>
+    ensures result_value { reply_says result ≡ said_version a }
     ensures result_value_2 { is_staged result ≡ false }
 {
-    match a {
-        Opened::Version(v) => RunReply::Opened(v),
-        Opened::Refused(why) => RunReply::Refused(why),
-    }
+    Ok(RunReply::Opened(a?))
 }
 
-pub fn fed(a: Fed) -> RunReply
+pub fn fed(a: Result<Fed, Refusal>) -> Result<RunReply, Refusal>
     ensures { reply_says result ≡ said_fed a }
 {
-    match a {
-        Fed::Block(taken, b) => RunReply::FedBlock(taken, b),
-        Fed::More(taken) => RunReply::More(taken),
-        Fed::Refused(why) => RunReply::Refused(why),
-    }
+    let f = a?;
+    Ok(RunReply::Fed(f.taken, f.block))
 }
 
-pub fn finished(a: Finished) -> RunReply
+pub fn finished(a: Result<Finished, Refusal>) -> Result<RunReply, Refusal>
     ensures { reply_says result ≡ said_finished a }
 {
-    match a {
-        Finished::Block(b) => RunReply::Found(b),
-        Finished::End(c) => RunReply::End(c),
-        Finished::Refused(why) => RunReply::Refused(why),
+    match a? {
+        Finished::Block(b) => Ok(RunReply::Found(b)),
+        Finished::End(c) => Ok(RunReply::End(c)),
     }
 }
 
-pub fn staged(a: Staged) -> RunReply
-    ensures result_value { reply_says result ≡ said_staged a }
-    ensures result_value_2 { is_staged result ≡ is_version (said_staged a) }
+pub fn staged(a: Result<u16, Refusal>) -> Result<RunReply, Refusal>
+    ensures result_value { reply_says result ≡ said_version a }
+    ensures result_value_2 { is_staged result ≡ is_version (said_version a) }
 {
-    match a {
-        Staged::Version(v) => RunReply::Staged(v),
-        Staged::Refused(why) => RunReply::Refused(why),
-    }
+    Ok(RunReply::Staged(a?))
 }
 
-pub fn withdrawn(a: Withdrawn) -> RunReply
+pub fn withdrawn(a: Result<bool, Refusal>) -> Result<RunReply, Refusal>
     ensures { reply_says result ≡ said_withdrawn a }
 {
-    match a {
-        Withdrawn::Waited(one) => RunReply::Withdrawn(one),
-        Withdrawn::Refused(why) => RunReply::Refused(why),
-    }
+    Ok(RunReply::Withdrawn(a?))
 }
 
 // The CRC is told where a block was written.
-pub fn written(a: Written, crc: u16) -> AskReply
+pub fn written(a: Result<usize, Refusal>, crc: u16) -> Result<AskReply, Refusal>
     ensures t { T (plainly result) }
     ensures result_value { (wrote_says result ≡ Some (written_says a)) × (crc_told result crc ≡ crc) }
 {
-    match a {
-        Written::Length(count) => AskReply::Written(PartCrc { count, crc }),
-        Written::Refused(why) => AskReply::Refused(why),
-    }
+    Ok(AskReply::Written(PartCrc { count: a?, crc }))
 }

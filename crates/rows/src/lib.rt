@@ -21,6 +21,7 @@ pub const TOW: FieldRow = FieldRow {
     first: 0,
     mark: 1,
 };
+
 pub const WNC: FieldRow = FieldRow {
     offset: 12,
     kind: 2,
@@ -40,18 +41,6 @@ pub struct Row {
     pub firsts: usize,
 }
 
-pub fn wide(x: u8) -> usize
-    ensures { (result ≡ x) × (result < 256) }
-{
-    x as usize
-}
-
-pub fn word(x: u16) -> usize
-    ensures { (result ≡ x) × (result < 65536) }
-{
-    x as usize
-}
-
 pub fn version(t: &[u8]) -> u16
     requires { 12 ≤ length t.now }
     ensures { result ≡ version_of t.now }
@@ -64,7 +53,7 @@ pub fn block_count(t: &[u8]) -> usize
     requires { 12 ≤ length t.now }
     ensures { (result ≡ block_count t.now) × (result < 65536) }
 {
-    word(wire::u2(t, t.len() - 10))
+    usize::from(wire::u2(t, t.len() - 10))
 }
 
 // Where the block rows begin, which is where the field rows end.
@@ -89,7 +78,7 @@ pub fn field(bytes: [u8; 4]) -> FieldRow
 {
     let [offset, kind, first, mark] = bytes;
     FieldRow {
-        offset: wide(offset),
+        offset: usize::from(offset),
         kind,
         first,
         mark,
@@ -105,9 +94,9 @@ pub fn row_at(t: &[u8], at: usize, i: usize) -> Row
     Row {
         number: wire::u2(t, p),
         highest: t[p + 2],
-        bodies: wide(t[p + 3]),
-        start: word(wire::u2(t, p + 4)),
-        subs: wide(t[p + 6]),
-        firsts: wide(t[p + 7]),
+        bodies: usize::from(t[p + 3]),
+        start: usize::from(wire::u2(t, p + 4)),
+        subs: usize::from(t[p + 6]),
+        firsts: usize::from(t[p + 7]),
     }
 }

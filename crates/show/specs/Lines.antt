@@ -1,10 +1,11 @@
 -- The lines of the calls that may write, byte by byte (docs/REPLAY.md).
 -- Assumes nothing.
-use Rattle.std.specs.Prelude.{ℕ, Bool, true, false, cond, List, [], ◌∷◌, ◌++◌, None, Some}
+use Rattle.std.specs.Prelude.{ℕ, Bool, true, false, cond, List, [], ◌∷◌, ◌++◌, None, Some, Result}
 use Rattle.text.specs.Numbers.{spaced, crc_text}
 use Rattle.phrases.specs.Lines.{newline, block_words, end_words}
 use Rattle.phrases.specs.Replies.{refused_text, word_bar}
 use Rattle.reader.specs.Said.{Said, refused, version, took, found, ended, waited}
+use Rattle.refusal.specs.declared.Refusal.{Refusal}
 use Rattle.desk.specs.declared.Crcs.{Crcs}
 use Rattle.desk.specs.declared.RunReply.{RunReply}
 use Rattle.desk.specs.Says.{reply_says, is_staged}
@@ -55,5 +56,5 @@ abbrev pub crcs_text : Crcs → List ℕ
 crcs_text c = word_bar ++ crc_text c.hold ++ crc_text c.in_force ++ crc_text c.waiting ++ newline
 
 -- what the call replies
-abbrev pub run_text : RunReply → List ℕ
+abbrev pub run_text : Result RunReply Refusal → List ℕ
 run_text r = said_text (cond (is_staged r) word_staged word_opened) (reply_says r)

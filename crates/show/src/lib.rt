@@ -4,19 +4,14 @@
 ghost use Rattle.std.specs.Prelude.{◌+◌, ◌≤◌, ◌≡◌, ◌++◌, take};
 ghost use Rattle.reader.specs.Said.{report_of, took};
 ghost use Rattle.phrases.specs.Replies.{state_text};
-ghost use Rattle.show.specs.Lines.{one_for, word_fed, said_text, run_text, crcs_text};
+ghost use Rattle.show.specs.Lines.{word_fed, said_text, run_text, crcs_text};
 
 use desk::{Crcs, RunReply};
 use reader::{Block, State};
+use refusal::Refusal;
 
 // The longest line that a call prints fits.
 pub const CALL_LINE: usize = 340;
-
-fn one_for(b: bool) -> u64
-    ensures { result ≡ one_for b }
-{
-    if b { 1 } else { 0 }
-}
 
 // Feed took n bytes and needs more.
 fn more_words(out: &mut [u8; 8192], at: usize, n: usize) -> usize
@@ -39,20 +34,20 @@ fn fed_words(out: &mut [u8; 8192], at: usize, n: usize, b: Block) -> usize
     phrases::block_words(out, gap, b)
 }
 
-fn print(out: &mut [u8; 8192], at: usize, reply: RunReply) -> usize
+fn print(out: &mut [u8; 8192], at: usize, reply: Result<RunReply, Refusal>) -> usize
     requires { at + 120 ≤ 8192 }
     ensures upper_bound { result ≤ at + 120 }
     ensures out_after { take result out.new ≡ take at out.old ++ run_text reply }
 {
     match reply {
-        RunReply::Opened(v) => text::word_number(out, at, b"opened", v as u64),
-        RunReply::Staged(v) => text::word_number(out, at, b"staged", v as u64),
-        RunReply::Withdrawn(one) => text::word_number(out, at, b"withdrawn", one_for(one)),
-        RunReply::More(taken) => more_words(out, at, taken),
-        RunReply::FedBlock(taken, b) => fed_words(out, at, taken, b),
-        RunReply::Found(b) => phrases::block_words(out, at, b),
-        RunReply::End(c) => phrases::end_words(out, at, c),
-        RunReply::Refused(why) => phrases::refused(out, at, why),
+        Ok(RunReply::Opened(v)) => text::word_number(out, at, b"opened", u64::from(v)),
+        Ok(RunReply::Staged(v)) => text::word_number(out, at, b"staged", u64::from(v)),
+        Ok(RunReply::Withdrawn(one)) => text::word_number(out, at, b"withdrawn", u64::from(one)),
+        Ok(RunReply::Fed(taken, None)) => more_words(out, at, taken),
+        Ok(RunReply::Fed(taken, Some(b))) => fed_words(out, at, taken, b),
+        Ok(RunReply::Found(b)) => phrases::block_words(out, at, b),
+        Ok(RunReply::End(c)) => phrases::end_words(out, at, c),
+        Err(why) => phrases::refused(out, at, why),
     }
 }
 
@@ -70,7 +65,13 @@ fn crcs(out: &mut [u8; 8192], at: usize, c: Crcs) -> usize
 }
 
 // The line of a call that may write, with the CRCs of the whole buffers after it.
-pub fn run_line(out: &mut [u8; 8192], at: usize, reply: RunReply, state: State, c: Crcs) -> usize
+pub fn run_line(
+    out: &mut [u8; 8192],
+    at: usize,
+    reply: Result<RunReply, Refusal>,
+    state: State,
+    c: Crcs,
+) -> usize
     requires { at + 340 ≤ 8192 }
     ensures upper_bound { result ≤ at + 340 }
     ensures out_after { take result out.new ≡ take at out.old ++ (run_text reply ++ state_text state ++ crcs_text c) }

@@ -1,7 +1,7 @@
--- Lists: what stands at each index, what holds of every element and of every two neighbours, the first that a test holds of; and whether
--- there is something.
+-- Lists: what stands at each index, what holds of every element and of every two neighbours, the first that a test holds of.
 -- Assumes nothing.
-use Rattle.std.specs.Prelude.{Bool, true, false, ◌&&◌, cond, List, [], ◌∷◌, ℕ, zero, suc, ◌+◌, Option, None, Some}
+use Rattle.std.specs.Prelude.{Bool, true, ◌&&◌, cond, List, [], ◌∷◌, ℕ, zero, suc, ◌+◌, Option, None, Some}
+pub use Rattle.std.specs.Prelude.{is_some}
 
 -- f i, f (i + 1), and so on, n of them
 unfoldable pub tabulate : {A : Type 0} → (ℕ → A) → ℕ → ℕ → List A
@@ -32,7 +32,3 @@ unfoldable pub pick : {A : Type 0} → List A → ℕ → Option A
 pick [] k = None
 pick (x ∷ xs) zero = Some x
 pick (x ∷ xs) (suc k) = pick xs k
-
-abbrev pub is_some : {A : Type 0} → Option A → Bool
-is_some None = false
-is_some (Some x) = true

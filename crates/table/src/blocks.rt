@@ -78,7 +78,7 @@ pub fn rows_ok(t: &[u8]) -> bool
             return false;
         }
         least = r.number + 1;
-        used = used + (r.bodies + r.subs);
+        used += r.bodies + r.subs;
     }
     used == fields
 }

@@ -7,11 +7,7 @@ fn closes(t: &[u8]) -> bool
     requires { 2 ≤ length t.now }
     ensures { result ≡ closing_ok t.now }
 {
-    let mark = b"BT";
-    let n = t.len();
-    let low = t[n - 2] == mark[0];
-    let high = t[n - 1] == mark[1];
-    low & high
+    t.ends_with(b"BT")
 }
 
 pub fn file_ok(t: &[u8]) -> bool
@@ -27,8 +23,8 @@ pub fn file_ok(t: &[u8]) -> bool
         return false;
     }
     let fields = rows::field_count(t, n - back);
-    let to_blocks = rows::word(wire::u2(t, n - 8));
-    let to_fields = rows::word(wire::u2(t, n - 6));
+    let to_blocks = usize::from(wire::u2(t, n - 8));
+    let to_fields = usize::from(wire::u2(t, n - 6));
     let sum = wire::u2(t, n - 4);
     let m = n - 4;
     let crc = crc::crc_of(&t[..m]);

@@ -1,7 +1,7 @@
 // Sub-blocks of two levels (rule T21): the walk over a block's first-level sub-blocks and those nested in each.
 #![tactic(auto)]
 
-ghost use Rattle.std.specs.Prelude.{◌≡◌, cond, ◌+◌, ◌≤◌, ◌<◌, get_or};
+ghost use Rattle.std.specs.Prelude.{◌≡◌, ◌+◌, ◌≤◌, ◌<◌, get_or};
 ghost use Rattle.walk.specs.Walk.{nest_at, nest_end, walked_of};
 ghost use Rattle.walk.specs.Theorems.{WalkLaid};
 
@@ -33,7 +33,7 @@ pub fn byte_or_0(block: &[u8], at: usize) -> usize
     ensures { (result ≡ get_or block.now at 0) × (result < 256) }
 {
     if at < block.len() {
-        rows::wide(block[at])
+        usize::from(block[at])
     } else {
         0
     }
@@ -64,19 +64,12 @@ fn end_of(n: Nest) -> usize
     n.first.at + n.first.size + nested
 }
 
-fn either(first: bool, a: Nest, b: Nest) -> Nest
-    ensures { result ≡ cond first a b }
-{
-    if first { a } else { b }
-}
-
 // The walk over all first-level sub-blocks, in one pass, which finds number k on its way: an empty one at the start where none is.
 pub fn walk(block: &[u8], n2: usize, k: usize) -> Walked
     requires { n2 < 65536 }
     ensures { result ≡ walked_of n2 block.now k }
 {
     let count = byte_or_0(block, 14);
-    let mut i: usize = 0;
     let mut at: usize = 20;
     let mut any = false;
     let mut nest = Nest {
@@ -84,12 +77,13 @@ pub fn walk(block: &[u8], n2: usize, k: usize) -> Walked
         count: 0,
         size: 0,
     };
-    while i < count {
+    for i in 0..count {
         let n = nest_at(block, n2, at);
-        nest = either(i == k, n, nest);
-        any = any | (0 < n.count);
+        if i == k {
+            nest = n;
+        }
+        any |= 0 < n.count;
         at = end_of(n);
-        i += 1;
     }
     Walked { end: at, any, nest }
 }

@@ -7,4 +7,4 @@ pub returns-then-row-eq0 : goal.returns-then-row-eq0
 returns-then-row-eq0 c = subs_none _ c.args.row c.if-row-eq0.true
 
 pub returns : goal.returns
-returns c = subs_some _ c.args.row c.if-row-eq0.false c.wide-count.ensures.0 c.sub_span-end.ensures c.revision.ensures c.all_end-all.ensures
+returns c = subs_some _ c.args.row c.if-row-eq0.false c.from-count.ensures c.sub_span-end.ensures c.revision.ensures c.all_end-all.ensures

@@ -1,7 +1,6 @@
--- `draft::last_end` meets its contract: the rows passed are not carried, so those before them give the whole.
+-- `draft::last_end` meets its contract. The invariant: none of the rows behind is carried, so those before give the whole.
 -- Assumes nothing.
-use mathlib.Core.Path.{◌≡◌}
-use lib.ListN.{take}
+use Rattle.std.proofs.Common.{◌≡◌, take}
 use Rattle.table.specs.Shape.{fields_of}
 use Rattle.draft.specs.Draft.{last_end}
 use Rattle.draft.proofs.last_end.Given as goal

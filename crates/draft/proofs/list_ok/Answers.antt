@@ -10,7 +10,7 @@ pub returns-then-not-wanted_ok : goal.returns-then-not-wanted_ok
 returns-then-not-wanted_ok c =
     let l = c.loop-field in
     lists_not _ _ _ _ _
-    (list_stop c.args.fields.now _ l.field-index _ _ l.next _ l.invariant.3 _ [] c.field.ensures.0 (omega arith) c.take-t.result c.take-t.ensures
+    (list_stop c.args.fields.now _ l.field-index _ _ l.next _ l.invariant.3 _ [] c.field-f.ensures.0 (omega arith) c.take-t.result c.take-t.ensures
     (sym c.wanted_ok.ensures ∙ c.if-not-wanted_ok.true))
 
 pub loop-field-preserved : goal.loop-field-preserved
@@ -20,12 +20,11 @@ loop-field-preserved c =
       omega (arith, t.onward),
       t.within,
       t.subs ∙ l.invariant.2,
-      list_go c.args.fields.now _ l.field-index _ _ l.next _ l.invariant.3 _ [] c.field.ensures.0 (omega arith) c.take-t.result t
+      list_go c.args.fields.now _ l.field-index _ _ l.next _ l.invariant.3 _ [] c.field-f.ensures.0 (omega arith) c.take-t.result t
           (sym c.wanted_ok.ensures ∙ c.if-not-wanted_ok.false),
     )
 
 pub returns : goal.returns
 returns c =
     let l = c.loop-field in
-    lists_rest _ _ _ _ _ l.next l.invariant.0 l.invariant.2 c.rest_ok.ensures
-    (list_done c.args.fields.now _ l.field-index _ _ l.next _ l.invariant.3 (omega arith))
+    lists_rest _ _ _ _ _ l.next l.invariant.0 l.invariant.2 c.rest_ok.ensures (list_done c.args.fields.now _ l.field-index _ _ l.next _ l.invariant.3 (omega arith))

@@ -1,8 +1,6 @@
--- `draft::list_ok` meets its contract: what is left of the rows and of the list gives the whole.
+-- `draft::list_ok` meets its contract. The invariant: the rows that are left, with the values that are left, give the whole.
 -- Assumes nothing.
-use mathlib.Core.Path.{◌≡◌}
-use Prim.Native.Nat.{◌≤◌}
-use lib.ListN.{length, drop}
+use Rattle.std.proofs.Common.{◌≡◌, ◌≤◌, length, drop}
 use Rattle.table.specs.Shape.{fields_of}
 use Rattle.entry.specs.Bits.{list_ok}
 use Rattle.draft.specs.Code.{values_from, subs_from}
@@ -11,5 +9,4 @@ use Rattle.draft.proofs.list_ok.Given as goal
 abbrev pub invariant-loop-field : goal.invariant-loop-field
 invariant-loop-field l =
     (l.p ≤ l.next) × (l.next ≤ length l.kinds) × (subs_from l.kinds l.bits l.next ≡ subs_from l.kinds l.bits l.p)
-    × (list_ok l.revision (fields_of l.fields) (values_from l.kinds l.bits l.p)
-    ≡ list_ok l.revision (fields_of (drop l.field-index l.fields)) (values_from l.kinds l.bits l.next))
+    × (list_ok l.revision (fields_of l.fields) (values_from l.kinds l.bits l.p) ≡ list_ok l.revision (fields_of (drop l.field-index l.fields)) (values_from l.kinds l.bits l.next))

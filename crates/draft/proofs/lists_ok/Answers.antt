@@ -20,7 +20,9 @@ returns-in_err-p c =
     c.from_residual-in_err-p.ensures ∙ lists_set a.row a.revision a.kinds.now a.bits.now c.if-row-eq0.false c.in_err-p.ensures
 
 pub subs_ok-requires : goal.subs_ok-requires
-subs_ok-requires c = let l = c.in_ok-p.ensures.left c.args.bits.now in (l.within, l.stops)
+subs_ok-requires c =
+    let l = c.in_ok-p.ensures.left c.args.bits.now in
+    (l.within, l.stops)
 
 pub returns : goal.returns
 returns c =

@@ -1,5 +1,6 @@
 -- `lay::fields` meets its contract. The invariant: what is left of rows and values gives the whole.
 -- Assumes nothing.
+use mathlib.Core.List.{[]}
 use mathlib.Core.Path.{refl, ◌∙◌}
 use native.Mathlib.Omega.{arith}
 use lib.Seq.{length-sets}
@@ -10,28 +11,22 @@ use Rattle.lay.proofs.fields.Goals.{then-f-revision, else-f-revision}
 
 pub loop-row-init : goal.loop-row-init
 loop-row-init c =
-    let a = c.args in (
-      omega arith,
-      omega arith,
-      refl,
-      laying_all _ a.base _ _ _ _ c.requires.fields_value.0 c.requires.fields_value.1,
-    )
+    let a = c.args in
+    (omega arith, omega arith, refl, laying_all _ a.base _ _ _ _ c.requires.count_value.0 c.requires.count_value.1)
 
 pub field-end-requires : goal.field-end-requires
 field-end-requires c =
-    let a = c.args in
     let l = c.loop-row in
-    let e = rows_left a.rows.now l.row-index c.field-f.ensures.0 (omega arith) in
+    let e = rows_left c.args.rows.now l.row-index [] c.field-f.ensures.0 (omega arith) in
     let to = put_to l.invariant.3 e c.if-f-revision.true in
     let n = simp length-sets at l.invariant.3.long in
     (put_from l.invariant.3 e, omega (arith, to, n), put_allowed l.invariant.3 e c.if-f-revision.true c.take-t.ensures.is)
 
 pub loop-row-preserved : goal.loop-row-preserved
 loop-row-preserved c =
-    let a = c.args in
     let l = c.loop-row in
     let t = c.take-t.ensures in
-    let e = rows_left a.rows.now l.row-index c.field-f.ensures.0 (omega arith) in (
+    let e = rows_left c.args.rows.now l.row-index [] c.field-f.ensures.0 (omega arith) in (
       omega arith,
       t.within,
       t.subs ∙ l.invariant.2,

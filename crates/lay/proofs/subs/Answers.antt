@@ -12,14 +12,14 @@ use Rattle.lay.proofs.Filling.{filling_all, filling_end, filling_more, next_fits
 use Rattle.lay.proofs.subs.Goals as goal
 
 pub loop-next-init : goal.loop-next-init
-loop-next-init c = (c.requires.p_bound.0, c.requires.p_bound.1, filling_all _ _ _ _ _ c.requires.fields_in_bounds, c.requires.fields_value.1)
+loop-next-init c = (c.requires.count_bound.0, c.requires.count_bound.1, filling_all _ _ _ _ _ c.requires.count_in_bounds, c.requires.count_value.1)
 
 pub fields-l-requires : goal.fields-l-requires
 fields-l-requires c =
     let a = c.args in
     let l = c.loop-next in
     let e = subs_from_lem a.kinds.now a.bits.now l.next (omega arith) l.invariant.1 in
-    record { p_bound = omega arith; fields_value = (c.requires.fields_value.0, (every_one _ _ e l.invariant.3).0); fields_in_bounds = next_fits _ _ l.invariant.2 e }
+    record { count_bound = omega arith; count_value = (c.requires.count_value.0, (every_one _ _ e l.invariant.3).0); count_in_bounds = next_fits _ _ l.invariant.2 e }
 
 pub overflow_add-to : goal.overflow_add-to
 overflow_add-to c =
@@ -39,7 +39,7 @@ loop-next-preserved c =
     let e = subs_from_lem a.kinds.now a.bits.now l.next (omega arith) l.invariant.1 in (
       q.list_left.within,
       q.list_left.stops,
-      filling_more _ _ l.invariant.2 e (length_sub a.revision _ _ c.requires.fields_value.0) q.list_left.subs (rw add-zero at q.out_after)
+      filling_more _ _ l.invariant.2 e (length_sub a.revision _ _ c.requires.count_value.0) q.list_left.subs (rw add-zero at q.out_after)
           (ap (λ n. l.to + n) q.end_value),
       rw q.list_left.subs (every_one _ _ e l.invariant.3).1,
     )

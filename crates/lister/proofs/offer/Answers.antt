@@ -12,10 +12,10 @@ pub returns-in-Block : goal.returns-in-Block
 returns-in-Block c =
     let a = c.args in
     let few = ap (λ (o : Outcome). taken_of o.said) c.feed-fed.ensures in
-    omega (arith, few, taken_few a.state a.hold.now a.piece.now, ap (λ (x : Fed). taken_of (said_fed x)) c.in-Block.is)
+    omega (arith, few, taken_few a.state.now a.hold.now a.piece.now, ap (λ (x : Fed). taken_of (said_fed x)) c.in-Block.is)
 
 pub returns-in-More : goal.returns-in-More
 returns-in-More c =
     let a = c.args in
     let few = ap (λ (o : Outcome). taken_of o.said) c.feed-fed.ensures in
-    omega (arith, few, taken_few a.state a.hold.now a.piece.now, ap (λ (x : Fed). taken_of (said_fed x)) c.in-More.is)
+    omega (arith, few, taken_few a.state.now a.hold.now a.piece.now, ap (λ (x : Fed). taken_of (said_fed x)) c.in-More.is)

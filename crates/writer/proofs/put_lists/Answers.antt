@@ -11,7 +11,7 @@ pub fields-requires : goal.fields-requires
 fields-requires c =
     let a = c.args in
     let r = c.requires in
-    record { p_bound = omega arith; fields_value = (r.body, body-allowed a.row r c.if-row-eq0.true); fields_in_bounds = body_fits_lem a.row r }
+    record { count_bound = omega arith; count_value = (r.body, body-allowed a.row r c.if-row-eq0.true); count_in_bounds = body_fits_lem a.row r }
 
 pub returns-then-row-eq0 : goal.returns-then-row-eq0
 returns-then-row-eq0 c =
@@ -26,7 +26,7 @@ subs-requires c =
     let z = c.if-row-eq0.false in
     let fits = subs_fit_lem a.row r z q.subs in
     let n = simp length-sets at (ap length c.little.ensures) in
-    record { p_bound = (q.within, q.stops); fields_value = (r.inner, subs_allowed_lem a.row r z c.list_end-p.result q.subs); fields_in_bounds = omega (arith, fits, n) }
+    record { count_bound = (q.within, q.stops); count_value = (r.inner, subs_allowed_lem a.row r z c.list_end-p.result q.subs); count_in_bounds = omega (arith, fits, n) }
 
 pub returns : goal.returns
 returns c =

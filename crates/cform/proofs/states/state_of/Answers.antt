@@ -1,18 +1,14 @@
--- `cform::states::state_of` meets its contract: one law for each phase.
+-- `cform::states::state_of` meets its contract: by the phase, if the number has one.
 -- Assumes nothing.
-use mathlib.Core.Path.{refl}
-use Rattle.cform.proofs.Phases.{closed_of, feeding-of, finishing-of, unknown-of, reads_known, reads_none, too_many}
+use Rattle.std.proofs.Common.{refl, sym}
+use Rattle.cform.specs.State.{state_of}
+use Rattle.cform.proofs.Phases.{too_many}
 use Rattle.cform.proofs.states.state_of.Goals as goal
 
-pub returns-then-phase-eq0 : goal.returns-then-phase-eq0
-returns-then-phase-eq0 c = reads_known (closed_of _ c.if-phase-eq0.true) c.in_phase.ensures
+pub returns-in-Some : goal.returns-in-Some
+unfolding state_of
+returns-in-Some c = rw (sym c.in-Some.ensures) c.in_phase.ensures
 
-pub returns-then-phase-eq1 : goal.returns-then-phase-eq1
-returns-then-phase-eq1 c = reads_known (feeding-of _ c.if-phase-eq1.true) c.in_phase-then-phase-eq1.ensures
-
-pub returns-then-phase-eq2 : goal.returns-then-phase-eq2
-returns-then-phase-eq2 c = reads_known (finishing-of _ c.if-phase-eq2.true) c.in_phase-then-phase-eq2.ensures
-
-pub returns : goal.returns
-returns c =
-    reads_none (unknown-of _ c.if-phase-eq0.false c.if-phase-eq1.false c.if-phase-eq2.false) _ (too_many _ refl)
+pub returns-in-None : goal.returns-in-None
+unfolding state_of
+returns-in-None c = rw (sym c.in-None.ensures) (too_many _ refl)

@@ -19,6 +19,6 @@ pub returns : goal.returns
 returns c =
     law.file_rest _ (omega arith) c.block_count-r.ensures.0
     c.field_count-fields.ensures
-    (c.word-to_blocks.ensures.0 ∙ c.u2.ensures)
-    (c.word-to_fields.ensures.0 ∙ c.u2-2.ensures)
+    (c.from-to_blocks.ensures ∙ c.u2.ensures)
+    (c.from-to_fields.ensures ∙ c.u2-2.ensures)
     c.u2-sum.ensures c.crc_of-crc.ensures c.closes-mark.ensures
