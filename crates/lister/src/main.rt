@@ -4,31 +4,16 @@
 ghost use Rattle.std.specs.Prelude.{◌+◌, ◌≤◌, length, IfSome};
 
 use console::{Failure, Output};
-use reader::{Block, State};
+use reader::{After, Block, State};
 use runs::{Fed, Finished};
-use tables::{OpenAnswer, Opened};
-
-// How many bytes of a piece the reader took, and the block that it gave.
-#[derive(Clone, Copy)]
-pub struct Offered {
-    pub taken: usize,
-    pub block: Option<Block>,
-}
 
 // Offers a piece once. In a run that is open and fed by this program the one refusal left is a full run's.
-fn offer(state: &mut State, hold: &mut [u8; 65536], piece: &[u8]) -> Option<Offered>
+fn offer(state: &mut State, hold: &mut [u8; 65536], piece: &[u8]) -> Option<Fed>
     ensures { IfSome result (λ o. o.taken ≤ length piece.now) }
 {
     let fed = runs::feed(*state, hold, piece);
     *state = fed.state;
-    match fed.answer {
-        Fed::Block(taken, b) => Some(Offered {
-            taken,
-            block: Some(b),
-        }),
-        Fed::More(taken) => Some(Offered { taken, block: None }),
-        Fed::Refused(_) => None,
-    }
+    fed.answer.ok()
 }
 
 fn list_block(rt: &HostRuntime, b: Block, out: &mut Output) -> Result<(), Failure> {
@@ -114,13 +99,13 @@ fn close_all(
         let closed = runs::finish(now, hold);
         now = closed.state;
         match closed.answer {
-            Finished::Block(b) => list_block(rt, b, out)?,
-            Finished::End(c) => {
+            Ok(Finished::Block(b)) => list_block(rt, b, out)?,
+            Ok(Finished::End(c)) => {
                 out.make_room(rt, phrases::LIST_LINE)?;
                 out.filled = phrases::end_line(&mut out.bytes, out.filled, c);
                 break;
             }
-            Finished::Refused(_) => break,
+            Err(_) => break,
         }
     }
     Ok(())
@@ -151,7 +136,7 @@ fn list(rt: &HostRuntime, state: State) {
 }
 
 // Stages the rows shipped and opens with them. A refused table would wait nowhere, and then Open is refused too.
-fn open() -> OpenAnswer {
+fn open() -> After<u16> {
     let mut in_force = [0u8; 8192];
     let mut waiting = [0u8; 8192];
     let rows = shipped::table();
@@ -167,8 +152,8 @@ fn open() -> OpenAnswer {
 fn main(rt: HostRuntime) {
     let opened = open();
     match opened.answer {
-        Opened::Version(_) => list(&rt, opened.state),
-        Opened::Refused(_) => {
+        Ok(_) => list(&rt, opened.state),
+        Err(_) => {
             let _ = eprintln!(rt; "lister: the rows shipped are refused");
         }
     }

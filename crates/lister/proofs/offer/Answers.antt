@@ -1,21 +1,20 @@
 -- `lister::offer` takes no more than the piece: the reader does not.
 -- Assumes nothing.
-use mathlib.Core.Path.{ap}
-use native.Mathlib.Omega.{arith}
+use Rattle.std.proofs.Common.{◌≤◌, ℕ, ap, length, arith, Result, Ok, Err, IfSome}
+use Rattle.std.specs.Result.{result_ok}
+use Rattle.refusal.specs.declared.Refusal.{Refusal}
 use Rattle.runs.specs.Said.{said_fed}
 use Rattle.reader.specs.Outcome.{Outcome}
 use Rattle.runs.specs.declared.Fed.{Fed}
 use Rattle.lister.proofs.Laws.{taken_of, taken_few}
 use Rattle.lister.proofs.offer.Goals as goal
 
-pub returns-in-Block : goal.returns-in-Block
-returns-in-Block c =
-    let a = c.args in
-    let few = ap (λ (o : Outcome). taken_of o.said) c.feed-fed.ensures in
-    omega (arith, few, taken_few a.state.now a.hold.now a.piece.now, ap (λ (x : Fed). taken_of (said_fed x)) c.in-Block.is)
+few : (r : Result Fed Refusal) (n : ℕ) → taken_of (said_fed r) ≤ n → IfSome (result_ok r) (λ o. o.taken ≤ n)
+few (Ok f) n h = h
+few (Err x) n h = tt
 
-pub returns-in-More : goal.returns-in-More
-returns-in-More c =
+pub returns : goal.returns
+returns c =
     let a = c.args in
-    let few = ap (λ (o : Outcome). taken_of o.said) c.feed-fed.ensures in
-    omega (arith, few, taken_few a.state.now a.hold.now a.piece.now, ap (λ (x : Fed). taken_of (said_fed x)) c.in-More.is)
+    let said = ap (λ (o : Outcome). taken_of o.said) c.feed-fed.ensures in
+    rw c.ok.ensures.value (few c.feed-fed.result.answer (length a.piece.now) (omega (arith, said, taken_few a.state.now a.hold.now a.piece.now)))
