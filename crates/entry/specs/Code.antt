@@ -1,4 +1,4 @@
--- Working definitions for the code: bits that fit as a struct, and a value taken from a list at a place.
+-- Working definitions for the code: the bits of what is wanted, by a type, and a value taken from a list at a place.
 -- Assumes nothing.
 use Rattle.std.specs.Prelude.{ℕ, ◌≤◌, List, ◌≡◌, length, get_or, drop, Option, None, Some}
 use Rattle.entry.specs.declared.Taken.{Taken}

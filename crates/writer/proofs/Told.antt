@@ -4,21 +4,19 @@ use mathlib.Core.Bool.{Bool, true, false, ◌&&◌}
 use mathlib.Core.List.{List, [], ◌∷◌}
 use Rattle.std.proofs.Common.{Option, None, Some}
 use Rattle.std.proofs.lemmas.Option.{cond_some}
-use mathlib.Core.Path.{◌≡◌, refl, sym, ap, subst, ◌∙◌}
+use mathlib.Core.Path.{◌≡◌, refl, sym, ap, ◌∙◌}
 use Prim.Native.Nat.{ℕ, ◌+◌, ◌*◌, ◌/◌, ◌≤◌, ◌<◌}
 use native.Mathlib.Omega.{arith}
 use lib.Dec.{leb}
 use lib.ListN.{length}
 use borrow.Author.Tests.{leb-true, eq-eqb, ne_eqb}
-use Rattle.rows.specs.declared.Row.{Row}
-use Rattle.rows.specs.Places.{field_count}
-use Rattle.table.specs.declared.RowFound.{RowFound}
-use Rattle.table.specs.declared.RowFound.TheVariants as found
 use Rattle.table.specs.Lists.{every, first_that}
 use Rattle.table.specs.Rows.{BlockRow}
-use Rattle.table.specs.Decode.{block_of, decode}
+use Rattle.table.specs.declared.Shape.{Shape}
+use Rattle.table.specs.Shape.{shape_says}
+use Rattle.table.specs.Decode.{decode}
 use Rattle.table.specs.Rules.{number_ok, block_ok, table_ok}
-use Rattle.table.specs.Lookup.{has_number, find_row, row_says, Stands, StandsIfAny, Finding}
+use Rattle.table.specs.Lookup.{has_number, find_row, Finding}
 use Rattle.table.proofs.Passed.{passed}
 use Rattle.copy.specs.Over.{over}
 use Rattle.wire.proofs.Tests.{both}
@@ -90,11 +88,6 @@ module _ (top : ℕ) (b : BlockRow) (d : Draft) where
         unfolding written_by
         told_length e = rw (accepted, sym room_is ∙ room, e, all_is)
 
--- a row as it stands
-pub one_seen : (t : List ℕ) (row : Row) → row.firsts ≡ 0 → (block_of t row).firsts ≡ 0
-unfolding block_of
-one_seen t row one = one
-
 -- by a table
 no_number : (n : ℕ) (bs : List BlockRow) → every number_ok bs ≡ true → 8191 < n → first_that (has_number n) bs ≡ None
 unfolding every first_that
@@ -106,43 +99,32 @@ no_number n (b ∷ bs) e h =
     rw (ne_eqb b.number n m) (no_number n bs a.1 h)
 
 -- a row of two levels, and one of one level
-two_refused : (top : ℕ) (t : List ℕ) (row : Row) → (row.firsts ≡ 0 → ⊥) → (d : Draft) (buffer : List ℕ)
-    → write_outcome (write_refused 6) buffer ≡ written_by top (writable_row (Some (block_of t row))) d buffer
-unfolding block_of written_by
-two_refused top t row two d buffer = rw (ne_eqb row.firsts 0 two)
+two_refused : (top : ℕ) (b : BlockRow) → (b.firsts ≡ 0 → ⊥) → (d : Draft) (buffer : List ℕ) → write_outcome (write_refused 6) buffer ≡ written_by top (writable_row (Some b)) d buffer
+unfolding written_by
+two_refused top b two d buffer = rw (ne_eqb b.firsts 0 two)
 
-one_writable : (t : List ℕ) (row : Row) → row.firsts ≡ 0 → writable_row (Some (block_of t row)) ≡ Some (block_of t row)
-unfolding block_of
-one_writable t row one = rw (eq-eqb row.firsts 0 one)
+one_writable : (b : BlockRow) → b.firsts ≡ 0 → writable_row (Some b) ≡ Some b
+one_writable b one = rw (eq-eqb b.firsts 0 one)
 
 module _ (top : ℕ) (t : List ℕ) (d : Draft) (buffer : List ℕ) where
   pub told_high : table_ok t ≡ true → 65535 < d.number → write_outcome (write_refused 6) buffer ≡ written_of top (decode t) d buffer
   unfolding written_of written_by find_row
   told_high ok h = rw (no_number d.number (decode t).rows (passed t ok).meaning.numbers (omega arith))
 
-  module _ {f : RowFound} (finding : Finding t d.number f) where
-    pub told_6 : f ≡ found.Nothing → write_outcome (write_refused 6) buffer ≡ written_of top (decode t) d buffer
-    unfolding written_of written_by
-    told_6 e = ap (λ (x : Option BlockRow). written_by top (writable_row x) d buffer) (sym (ap (row_says t) e) ∙ finding.is)
+  module _ {n : ℕ} (same : n ≡ d.number) where
+    by_row : {x : Option BlockRow} → x ≡ find_row (decode t) n → written_by top (writable_row x) d buffer ≡ written_of top (decode t) d buffer
+    unfolding written_of
+    by_row e = ap (λ (y : Option BlockRow). written_by top (writable_row y) d buffer) (e ∙ ap (find_row (decode t)) same)
 
-    module _ {row : Row} (e : f ≡ found.At row) where
-      stands : Stands t row
-      stands = subst (StandsIfAny t) e finding.stands
+    pub told_6 : Finding t n None → write_outcome (write_refused 6) buffer ≡ written_of top (decode t) d buffer
+    unfolding written_by
+    told_6 finding = by_row finding.is
 
-      pub told_inside : row.start + row.bodies + row.subs ≤ field_count t
-      told_inside = stands.inside
-
-      pub told_rules : block_ok (block_of t row) ≡ true
-      told_rules = stands.rules
-
-      found_is_lem : written_by top (writable_row (Some (block_of t row))) d buffer ≡ written_of top (decode t) d buffer
-      unfolding written_of
-      found_is_lem = ap (λ (x : Option BlockRow). written_by top (writable_row x) d buffer) (sym (ap (row_says t) e) ∙ finding.is)
-
+    module _ {row : Shape} (finding : Finding t n (Some row)) where
       -- W1: by a row of two levels nothing is written
       pub told_two : (row.firsts ≡ 0 → ⊥) → write_outcome (write_refused 6) buffer ≡ written_of top (decode t) d buffer
-      told_two two = two_refused top t row two d buffer ∙ found_is_lem
+      told_two two = two_refused top (shape_says row) two d buffer ∙ by_row finding.is
 
       -- and by one of one level the row decides
-      pub told_found : row.firsts ≡ 0 → {o : WriteOutcome} → o ≡ written_by top (Some (block_of t row)) d buffer → o ≡ written_of top (decode t) d buffer
-      told_found one g = g ∙ ap (λ (x : Option BlockRow). written_by top x d buffer) (sym (one_writable t row one)) ∙ found_is_lem
+      pub told_found : row.firsts ≡ 0 → {o : WriteOutcome} → o ≡ written_by top (Some (shape_says row)) d buffer → o ≡ written_of top (decode t) d buffer
+      told_found one g = g ∙ ap (λ (x : Option BlockRow). written_by top x d buffer) (sym (one_writable (shape_says row) one)) ∙ by_row finding.is

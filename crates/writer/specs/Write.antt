@@ -1,13 +1,12 @@
 -- What a draft comes to, by a decoded table and a ceiling (rule C17): an answer, and every byte of the buffer (W1, R20: 6, 11, 12).
 -- Assumes nothing.
-use Rattle.std.specs.Prelude.{ℕ, cond, List, length, Option, None, Some}
+use Rattle.std.specs.Prelude.{ℕ, cond, List, length, Option, None, Some, Result, Ok, Err}
 use Rattle.refusal.specs.Numbers.{number_for}
+use Rattle.refusal.specs.declared.Refusal.{Refusal}
 use Rattle.copy.specs.Over.{over}
 use Rattle.table.specs.Rows.{BlockRow, Table, one_level}
 use Rattle.table.specs.Lookup.{find_row}
 use Rattle.draft.specs.Draft.{Draft, draft_ok, block_length, room_for}
-use Rattle.writer.specs.declared.Written.{Written}
-use Rattle.writer.specs.declared.Written.TheVariants.{Length, Refused}
 use Rattle.writer.specs.Block.{block_bytes}
 
 -- W1: the length of the block, or the number of a refusal
@@ -44,6 +43,6 @@ unfoldable pub written_of : ℕ → Table → Draft → List ℕ → WriteOutcom
 written_of c tab d buffer = written_by c (writable_row (find_row tab d.number)) d buffer
 
 -- D9: what the code's answer says
-abbrev pub written_says : Written → WriteSaid
-written_says (Length n) = wrote n
-written_says (Refused r) = write_refused (number_for r)
+abbrev pub written_says : Result ℕ Refusal → WriteSaid
+written_says (Ok n) = wrote n
+written_says (Err r) = write_refused (number_for r)

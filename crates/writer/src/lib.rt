@@ -3,8 +3,8 @@
 
 ghost use Rattle.std.specs.Prelude.{◌≡◌, true, [], ◌+◌, ◌≤◌, length};
 ghost use Rattle.std.proofs.lemmas.List.Edits.{sets};
-ghost use Rattle.rows.specs.Places.{field_count};
-ghost use Rattle.table.specs.Decode.{block_of, decode};
+ghost use Rattle.table.specs.Decode.{decode};
+ghost use Rattle.table.specs.Shape.{shape_says};
 ghost use Rattle.table.specs.Rules.{table_ok, block_ok};
 ghost use Rattle.copy.specs.Over.{over};
 ghost use Rattle.draft.specs.Draft.{draft_of, stamps_ok};
@@ -14,15 +14,7 @@ ghost use Rattle.writer.specs.Code.{stamps_out, lists_out, Ready, Writable};
 
 use draft::{Head, Measured};
 use refusal::Refusal;
-use rows::Row;
-use table::RowFound;
-
-// The length of the block that was written, or why none was.
-#[derive(Clone, Copy)]
-pub enum Written {
-    Length(usize),
-    Refused(Refusal),
-}
+use table::Shape;
 
 // V8: TOW and WNc.
 fn put_stamps(out: &mut [u8], h: Head)
@@ -37,8 +29,7 @@ fn put_stamps(out: &mut [u8], h: Head)
 
 // The body from 14 on, and the sub-blocks: N and SBLength where the row has sub-fields, else the values.
 fn put_lists(
-    table: &[u8],
-    row: Row,
+    row: Shape,
     revision: u8,
     kinds: &[u8],
     bits: &[u64],
@@ -46,27 +37,22 @@ fn put_lists(
     sub: usize,
     out: &mut [u8],
 )
-    requires subs_bound { row.start + row.bodies + row.subs ≤ field_count table.now }
-    requires ready { Ready (block_of table.now row) revision kinds.now bits.now subs sub (length out.old) }
-    ensures { out.new ≡ sets out.old 14 (lists_out (block_of table.now row) revision kinds.now bits.now) }
+    requires { Ready (shape_says row) revision kinds.now bits.now subs sub (length out.old) }
+    ensures { out.new ≡ sets out.old 14 (lists_out (shape_says row.entry) revision kinds.now bits.now) }
 {
-    let at = row.start;
-    let n = row.bodies;
-    let m = row.subs;
-    if m == 0 {
-        lay::fields(table, at, n, revision, kinds, bits, 0, out, 0, 14);
+    if row.subs.len() == 0 {
+        lay::fields(row.body, revision, kinds, bits, 0, out, 0, 14);
         return;
     }
     // T16: a byte each
     pen::little(out, 14, 2, (subs + 256 * sub) as u64);
     let p = lay::list_end(kinds, 0);
-    lay::subs(table, at + n, m, revision, kinds, bits, p, out, 16);
+    lay::subs(row.subs, revision, kinds, bits, p, out, 16);
 }
 
 // The bytes of a draft that its row accepts and that has room.
 fn put_block(
-    table: &[u8],
-    row: Row,
+    row: Shape,
     h: Head,
     kinds: &[u8],
     bits: &[u64],
@@ -74,44 +60,43 @@ fn put_block(
     z: Measured,
     out: &mut [u8],
 )
-    requires subs_bound { (row.start + row.bodies + row.subs ≤ field_count table.now) × (h.number ≤ 65535) }
-    requires writable { Writable (block_of table.now row) (draft_of h kinds.now bits.now) subs z (length out.old) }
-    ensures { out.new ≡ over (block_bytes (block_of table.now row) (draft_of h kinds.now bits.now)) out.old }
+    requires h_bound { h.number ≤ 65535 }
+    requires writable { Writable (shape_says row) (draft_of h kinds.now bits.now) subs z (length out.old) }
+    ensures { out.new ≡ over (block_bytes (shape_says row.entry) (draft_of h kinds.now bits.now)) out.old }
 {
     let end = z.end;
     let all = z.all;
     put_stamps(out, h);
-    put_lists(table, row, h.revision as u8, kinds, bits, subs, z.sub, out);
+    put_lists(row, h.revision as u8, kinds, bits, subs, z.sub, out);
     pen::zeros(out, end, all - end);
     pen::seal(out, h.number + 8192 * h.revision, all);
 }
 
-// A draft by its row, of one level: R11, R12, then the bytes.
+// A draft by its row, of one level: R11, R12, then the bytes. How long the block is.
 fn put(
     ceiling: usize,
-    table: &[u8],
-    row: Row,
+    row: Shape,
     h: Head,
     kinds: &[u8],
     bits: &[u64],
     out: &mut [u8],
-) -> Written
-    requires { (row.start + row.bodies + row.subs ≤ field_count table.now) × (block_ok (block_of table.now row) ≡ true) × (row.firsts ≡ 0) × (h.number ≤ 65535) }
-    ensures { write_outcome (written_says result) out.new ≡ written_by ceiling (Some (block_of table.now row)) (draft_of h kinds.now bits.now) out.old }
+) -> Result<usize, Refusal>
+    requires { (block_ok (shape_says row) ≡ true) × (row.firsts ≡ 0) × (h.number ≤ 65535) }
+    ensures { write_outcome (written_says result) out.new ≡ written_by ceiling (Some (shape_says row.entry)) (draft_of h kinds.now bits.now) out.old }
 {
-    let Some(subs) = draft::accepts(table, row, h, kinds, bits) else {
-        return Written::Refused(Refusal::BadValues);
+    let Some(subs) = draft::accepts(row, h, kinds, bits) else {
+        return Err(Refusal::BadValues);
     };
-    let z = draft::sizes(table, row, h.revision as u8, subs);
+    let z = draft::sizes(row, h.revision as u8, subs);
     let all = z.all;
     if !((all <= out.len()) & (all <= ceiling) & (z.sub <= 255)) {
-        return Written::Refused(Refusal::NoRoom);
+        return Err(Refusal::NoRoom);
     }
-    put_block(table, row, h, kinds, bits, subs, z, out);
-    Written::Length(all)
+    put_block(row, h, kinds, bits, subs, z, out);
+    Ok(all)
 }
 
-// The block of a draft, of no more bytes than the ceiling, at the start of the buffer.
+// The block of a draft, of no more bytes than the ceiling, at the start of the buffer: how long it is, or why there is none.
 pub fn write(
     ceiling: usize,
     table: &[u8],
@@ -119,22 +104,19 @@ pub fn write(
     kinds: &[u8],
     bits: &[u64],
     out: &mut [u8],
-) -> Written
+) -> Result<usize, Refusal>
     requires { table_ok table.now ≡ true }
     ensures { write_outcome (written_says result) out.new ≡ written_of ceiling (decode table.now) (draft_of h kinds.now bits.now) out.old }
 {
-    if 65535 < h.number {
-        return Written::Refused(Refusal::NoRow);
+    let Ok(number) = u16::try_from(h.number) else {
+        return Err(Refusal::NoRow);
+    };
+    let Some(row) = table::find(table, number) else {
+        return Err(Refusal::NoRow);
+    };
+    // W1: only rows of one level are written by
+    if row.firsts != 0 {
+        return Err(Refusal::NoRow);
     }
-    let number = h.number as u16;
-    match table::find(table, number) {
-        RowFound::At(row) => {
-            // W1: only rows of one level are written by
-            if row.firsts != 0 {
-                return Written::Refused(Refusal::NoRow);
-            }
-            put(ceiling, table, row, h, kinds, bits, out)
-        }
-        RowFound::Nothing => Written::Refused(Refusal::NoRow),
-    }
+    put(ceiling, row, h, kinds, bits, out)
 }

@@ -1,7 +1,6 @@
 -- `draft::lists_ok` meets its contract: each return is one law of a row with sub-fields, or without.
 -- Assumes nothing.
 use mathlib.Core.Path.{◌∙◌}
-use native.Mathlib.Omega.{arith}
 use Rattle.draft.proofs.Drafts.{body_not, body_all, lists_set, lists_subs}
 use Rattle.draft.proofs.lists_ok.Goals as goal
 

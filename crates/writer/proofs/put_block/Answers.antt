@@ -18,7 +18,7 @@ overflow_cast-h c = omega (arith, given_revision _ _ _ c.requires.writable)
 pub put_lists-requires : goal.put_lists-requires
 put_lists-requires c =
     let n = simp length-sets at (ap length c.put_stamps.ensures) in
-    record { subs_bound = c.requires.subs_bound.0; ready = given_lists _ _ _ c.requires.writable n }
+    given_lists _ _ _ c.requires.writable n
 
 pub overflow_sub-all : goal.overflow_sub-all
 overflow_sub-all c = omega (arith, given_all _ _ _ c.requires.writable)
@@ -27,7 +27,7 @@ pub overflow_mul-h : goal.overflow_mul-h
 overflow_mul-h c = omega (arith, given_revision _ _ _ c.requires.writable)
 
 pub overflow_add-h : goal.overflow_add-h
-overflow_add-h c = omega (arith, given_revision _ _ _ c.requires.writable, c.requires.subs_bound.1)
+overflow_add-h c = omega (arith, given_revision _ _ _ c.requires.writable, c.requires.h_bound)
 
 pub seal-requires : goal.seal-requires
 seal-requires c = let n = given_all _ _ _ c.requires.writable in (omega arith, omega (arith, c.requires.writable.fits))
