@@ -9,7 +9,7 @@ use runs::{Fed, Finished};
 
 // Offers a piece once. In a run that is open and fed by this program the one refusal left is a full run's.
 fn offer(state: &mut State, hold: &mut [u8; 65536], piece: &[u8]) -> Option<Fed>
-    ensures { IfSome result (λ o. o.taken ≤ length piece.now) }
+    ensures { IfSome result (λ f. f.taken ≤ length piece.now) }
 {
     let fed = runs::feed(*state, hold, piece);
     *state = fed.state;
