@@ -76,23 +76,20 @@ pub fn end_line(out: &mut [u8; 8192], at: usize, c: Counts) -> usize
     text::put(out, words, b"\n")
 }
 
-// The state's nine numbers, behind a bar.
+// The state's nine numbers, behind a bar: one by one, as its text is defined, for the promise names each.
 pub fn state_text(out: &mut [u8; 8192], at: usize, s: State) -> usize
     requires { at + 191 ≤ 8192 }
     ensures upper_bound { result ≤ at + 191 }
     ensures out_after { take result out.new ≡ take at out.old ++ state_text s }
 {
     let run = s.run;
-    let phase = run.phase;
-    let sums = run.counts;
-    let settings = run.settings;
-    let bar = text::word_number(out, at, b" |", reader::phase_number(phase) as u64);
+    let bar = text::word_number(out, at, b" |", reader::phase_number(run.phase) as u64);
     let force = text::number(out, bar, s.in_force as u64);
     let waiting = text::number(out, force, s.waiting as u64);
     let held = text::number(out, waiting, run.held as u64);
     let standing = text::number(out, held, run.standing as u64);
-    let skipped = counts(out, standing, sums);
-    text::number(out, skipped, settings.ceiling as u64)
+    let skipped = counts(out, standing, run.counts);
+    text::number(out, skipped, run.settings.ceiling as u64)
 }
 
 // The lines of S11's sample are these.
