@@ -1,6 +1,6 @@
 -- `scan::scan` meets its contract: what the whole run comes to gives what feeding a byte at a time gives.
 -- Assumes nothing.
-use Rattle.std.proofs.Common.{◌≡◌, sym, ap, ◌∙◌, ℕ, ◌+◌, ◌++◌, arith, subst, length}
+use Rattle.std.proofs.Common.{sym, ap, ◌∙◌, ℕ, ◌+◌, ◌++◌, subst, length}
 use Rattle.frame.specs.Judge.{judged}
 use Rattle.scan.specs.Passed.{nothing_passed}
 use Rattle.scan.specs.declared.Passed.{Passed}

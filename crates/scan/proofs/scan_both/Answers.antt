@@ -1,10 +1,9 @@
 -- `scan::scan_both` meets its contract: a part and then the rest is the whole.
 -- Assumes nothing.
-use Rattle.std.proofs.Common.{◌≡◌, sym, ap, ◌∙◌, ℕ, ◌+◌, arith, subst, length, []}
+use Rattle.std.proofs.Common.{sym, ap, ◌∙◌, ◌+◌, arith, subst, length}
 use Rattle.frame.specs.Judge.{judged}
 use Rattle.scan.specs.Passed.{nothing_passed}
-use Rattle.scan.specs.Settle.{settle}
-use Rattle.scan.specs.Scan.{with_rest, stretch_of}
+use Rattle.scan.specs.Scan.{with_rest}
 use Rattle.scan.proofs.Scanning.{then_part, stays, part_then, last_part, Kept, kept}
 use Rattle.scan.proofs.scan_both.Goals as goal
 
