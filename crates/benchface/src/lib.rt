@@ -17,7 +17,6 @@ ghost use Rattle.benchface.specs.Written.{plain_head, length_said};
 use draft::Head;
 use entry::Entry;
 use feed::HoldNumbers;
-use writer::Written;
 
 // The new held bytes, the standing block, the bytes taken and the bytes skipped.
 fn four(r: HoldNumbers) -> [usize; 4]
@@ -79,9 +78,5 @@ pub fn alderflute_bench_write(
         tow: Entry { kind: 1, bits: tow },
         wnc: Entry { kind: 1, bits: wnc },
     };
-    let w = writer::write(ceiling, table, head, kinds, bits, out);
-    match w {
-        Written::Length(n) => n,
-        Written::Refused(_) => 0,
-    }
+    writer::write(ceiling, table, head, kinds, bits, out).unwrap_or(0)
 }

@@ -44,12 +44,9 @@ fn ends_by(f: FieldRow, revision: u8, n: usize) -> bool
 fn all_end(fields: &[[u8; 4]], revision: u8, n: usize) -> bool
     ensures { result ≡ every (ends_by revision n) (fields_of fields.now) }
 {
-    for field in fields {
-        if !ends_by(rows::field(*field), revision, n) {
-            return false;
-        }
-    }
-    true
+    fields
+        .iter()
+        .all(|field| ends_by(rows::field(*field), revision, n))
 }
 
 // Refusal 7 is given where this fails.

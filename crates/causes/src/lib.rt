@@ -32,29 +32,21 @@ pub fn nothing_passed() -> Passed
     }
 }
 
-// One place passed: with the sync pair one of the four is 1, and without it none.
-fn one_place(few: usize, badlen: usize, past: usize, badcrc: usize) -> Passed
-    ensures { result ≡ record { skipped = 1; few = few; badlen = badlen; past = past; badcrc = badcrc } }
-{
-    Passed {
-        skipped: 1,
-        few,
-        badlen,
-        past,
-        badcrc,
-    }
-}
-
-// What one place adds, by its reason. A lone last 0x24 has none of the four: its reason is that no sync pair stands there.
+// What one place adds, by its reason: with the sync pair one of the four is 1, and without it none. A lone last 0x24 has none of the four:
+// its reason is that no sync pair stands there.
 fn each(why: Reason) -> Passed
     ensures { result ≡ each why }
 {
+    let place = Passed {
+        skipped: 1,
+        ..nothing_passed()
+    };
     match why {
-        Reason::NoSync => one_place(0, 0, 0, 0),
-        Reason::FewLeft => one_place(1, 0, 0, 0),
-        Reason::LengthNotAllowed => one_place(0, 1, 0, 0),
-        Reason::PastEnd => one_place(0, 0, 1, 0),
-        Reason::CrcWrong(_) => one_place(0, 0, 0, 1),
+        Reason::NoSync => place,
+        Reason::FewLeft => Passed { few: 1, ..place },
+        Reason::LengthNotAllowed => Passed { badlen: 1, ..place },
+        Reason::PastEnd => Passed { past: 1, ..place },
+        Reason::CrcWrong(_) => Passed { badcrc: 1, ..place },
     }
 }
 
@@ -80,9 +72,6 @@ pub fn count_no_sync(a: Passed, n: usize) -> Passed
 {
     Passed {
         skipped: a.skipped + n,
-        few: a.few,
-        badlen: a.badlen,
-        past: a.past,
-        badcrc: a.badcrc,
+        ..a
     }
 }

@@ -4,7 +4,7 @@ ghost use Rattle.std.specs.Prelude.{◌≤◌, length, IfOk, IfSome};
 use crate::Failure;
 
 // The longest line, without its line feed.
-pub const LONGEST: usize = 270000;
+const LONGEST: usize = 270000;
 
 // The length of any longer line.
 const TOO_LONG: usize = 270001;
@@ -21,7 +21,7 @@ pub struct Lines<'a> {
     ghost within: { (at ≤ end) × (end ≤ 65536) },
 }
 
-// Puts more of a line behind its first bytes, and answers how long it is then. Of a line that is too long only that is kept.
+// Puts more of a line behind its first bytes, and answers how long it is then. Of a line that is too long no more is kept.
 fn append(line: &mut [u8; 270000], so_far: usize, more: &[u8]) -> usize
     requires { (length more.now ≤ 65536) × (so_far ≤ 270001) }
     ensures { result ≤ 270001 }
@@ -64,6 +64,7 @@ impl<'a> Lines<'a> {
         ensures { IfOk result (λ found. IfSome found (λ n. n ≤ 270001)) }
     {
         let mut length = 0;
+        // A proved loop has to end, and nothing says that the input does.
         for _ in 0..u64::MAX {
             if self.at == self.end && !self.fill(rt)? {
                 return Ok(if length == 0 { None } else { Some(length) });

@@ -1,7 +1,7 @@
 -- The judge of the run's end, by what is decided already and by how many bytes are left.
 -- Assumes nothing.
-use mathlib.Core.Path.{◌≡◌, ap, ap₂, ◌∙◌}
-use mathlib.Core.List.{List, [], ◌∷◌}
+use mathlib.Core.Path.{◌≡◌, refl, ap, ap₂, ◌∙◌}
+use mathlib.Core.List.{List}
 use mathlib.Core.Bool.{Bool, cond}
 use Prim.Native.Nat.{ℕ}
 use lib.ListN.{length}
@@ -10,9 +10,6 @@ use Rattle.frame.specs.Judge.{judged, last_by, judged_last}
 use Rattle.frame.specs.declared.Reason.TheVariants.{NoSync, FewLeft, PastEnd}
 use Rattle.frame.specs.declared.Verdict.{Verdict}
 use Rattle.frame.specs.declared.Verdict.TheVariants.{NoFrame, Frame, Undecided}
-use types.Run.{OneOf, miss}
-use denote.Enum.Declared.{tag_of}
-use Rattle.frame.specs.contracts.Verdict.{the_type}
 
 -- what is decided already stays, and the rest is told by how many bytes there are
 pub last_ends : (c : ℕ) (v : List ℕ) {a b : Bool} → judged c v ≡ Undecided → ltb (length v) 2 ≡ a → ltb (length v) 8 ≡ b
@@ -21,11 +18,8 @@ unfolding judged_last
 last_ends c v u e f =
     ap (λ (x : Verdict). last_by x v) u ∙ ap₂ (λ (x y : Bool). NoFrame (cond x NoSync (cond y FewLeft PastEnd))) e f
 
-abbrev decided : List ℕ
-decided = 0 ∷ 1 ∷ []
-
-pub last_same : (c : ℕ) (v : List ℕ) (x : Verdict) → OneOf decided (tag_of the_type x) → judged c v ≡ x → judged_last c v ≡ x
+pub last_same : (c : ℕ) (v : List ℕ) (x : Verdict) → (x ≡ Undecided → ⊥) → judged c v ≡ x → judged_last c v ≡ x
 unfolding judged_last
-last_same c v (NoFrame r) h e = ap (λ (x : Verdict). last_by x v) e
+last_same c v (NoFrame r) n e = ap (λ (x : Verdict). last_by x v) e
 last_same c v (Frame n) h e = ap (λ (x : Verdict). last_by x v) e
-last_same c v Undecided h e = absurd (miss decided 2 tt h)
+last_same c v Undecided n e = absurd (n refl)

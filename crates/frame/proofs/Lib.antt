@@ -1,4 +1,3 @@
-pub mod Apart
 pub mod Cases
 pub mod View
 pub mod Standing

@@ -2,14 +2,14 @@
 // then the piece; at its end in one.
 #![tactic(auto)]
 
-ghost use Rattle.std.specs.Prelude.{◌≡◌, ◌++◌, min, ◌+◌, ◌≤◌, ◌<◌, length, get_or, take, drop};
+ghost use Rattle.std.specs.Prelude.{◌≡◌, ◌++◌, ◌+◌, ◌≤◌, ◌<◌, length, get_or, take, drop};
 ghost use Rattle.crc.specs.Crc.{crc_of};
 ghost use Rattle.wire.specs.Little.{little_at};
 ghost use Rattle.frame.specs.Frame.{allowed, ceiling_ok, whole_frame};
 ghost use Rattle.frame.specs.Judge.{judged, judged_last};
 
 // Why no frame stands at a place.
-#[derive(Clone, Copy)]
+#[derive(Clone, Copy, PartialEq, Eq)]
 pub enum Reason {
     // No sync pair.
     NoSync,
@@ -23,7 +23,7 @@ pub enum Reason {
 }
 
 // What stands at a place, as far as the bytes that are there show.
-#[derive(Clone, Copy)]
+#[derive(Clone, Copy, PartialEq, Eq)]
 pub enum Verdict {
     NoFrame(Reason),
     // A frame of so many bytes.
@@ -32,24 +32,12 @@ pub enum Verdict {
     Undecided,
 }
 
-// The lesser of two lengths.
-pub fn lesser(a: usize, b: usize) -> usize
-    ensures { result ≡ min a b }
-{
-    if a < b { a } else { b }
-}
-
 // The byte at i of `a` and then `b`.
 fn at(a: &[u8], b: &[u8], i: usize) -> u8
     requires { i < length a.now + length b.now }
     ensures { result ≡ get_or (a.now ++ b.now) i 0 }
 {
-    if i < a.len() {
-        a[i]
-    } else {
-        let j = i - a.len();
-        b[j]
-    }
+    if i < a.len() { a[i] } else { b[i - a.len()] }
 }
 
 // The two bytes at i of `a` and then `b`, low byte first.
@@ -68,8 +56,8 @@ fn crc_between(a: &[u8], b: &[u8], n: usize) -> u16
     requires { (4 ≤ n) × (n ≤ length a.now + length b.now) }
     ensures { result ≡ crc_of (drop 4 (take n (a.now ++ b.now))) }
 {
-    let i = lesser(a.len(), COVERED);
-    let e = lesser(a.len(), n);
+    let i = a.len().min(COVERED);
+    let e = a.len().min(n);
     let j = COVERED - i;
     let f = n - e;
     crc::update(0, &a[i..e], &b[j..f])
@@ -78,14 +66,14 @@ fn crc_between(a: &[u8], b: &[u8], n: usize) -> u16
 // F16: the greatest ceiling.
 pub const GREATEST_CEILING: usize = 65532;
 
-// F16: whether a number is a ceiling.
+// F16: whether a number is a ceiling: three tests and no branch, as the definition has them.
 pub fn ceiling_ok(c: usize) -> bool
     ensures { result ≡ ceiling_ok c }
 {
     (c % 4 == 0) & (16 <= c) & (c <= GREATEST_CEILING)
 }
 
-// F4: which lengths are allowed under a ceiling.
+// F4: which lengths are allowed under a ceiling; as above without a branch.
 fn length_allowed(ceiling: usize, n: usize) -> bool
     ensures { result ≡ allowed ceiling n }
 {
@@ -112,7 +100,7 @@ pub fn judge(ceiling: usize, a: &[u8], b: &[u8]) -> Verdict
     if left < 8 {
         return Verdict::Undecided;
     }
-    let n = pair_at(a, b, 6) as usize;
+    let n = usize::from(pair_at(a, b, 6));
     if !length_allowed(ceiling, n) {
         // Known by eight bytes: a header made of noise does not wait for as many as it says (F17).
         return Verdict::NoFrame(Reason::LengthNotAllowed);
@@ -134,28 +122,20 @@ pub fn judge_last(ceiling: usize, s: &[u8]) -> Verdict
     ensures { result ≡ judged_last ceiling s.now }
 {
     let v = judge(ceiling, s, b"");
-    match v {
-        Verdict::Undecided => {
-            if s.len() < 2 {
-                Verdict::NoFrame(Reason::NoSync)
-            } else if s.len() < 8 {
-                Verdict::NoFrame(Reason::FewLeft)
-            } else {
-                Verdict::NoFrame(Reason::PastEnd)
-            }
-        }
-        _ => v,
-    }
+    let Verdict::Undecided = v else {
+        return v;
+    };
+    let why = match s.len() {
+        0..=1 => Reason::NoSync,
+        2..=7 => Reason::FewLeft,
+        _ => Reason::PastEnd,
+    };
+    Verdict::NoFrame(why)
 }
 
 // R10: whether the bytes given are exactly one frame, however long.
 pub fn is_frame(s: &[u8]) -> bool
     ensures { result ≡ whole_frame s.now }
 {
-    let v = judge(GREATEST_CEILING, s, b"");
-    if let Verdict::Frame(n) = v {
-        n == s.len()
-    } else {
-        false
-    }
+    judge(GREATEST_CEILING, s, b"") == Verdict::Frame(s.len())
 }

@@ -1,55 +1,27 @@
 -- The words of a text one after the other, and lists that grow with them.
 -- Assumes nothing.
-use Prim.Native.Nat.{ℕ, suc, ◌+◌, ◌≤◌, ◌<◌}
+use Prim.Native.Nat.{ℕ, ◌+◌, ◌≤◌, ◌<◌}
 use mathlib.Core.Path.{◌≡◌, refl, sym, ap, ap₂, ◌∙◌}
-use mathlib.Core.Bool.{Bool, true, false}
+use mathlib.Core.Bool.{false, not}
 use mathlib.Core.List.{List, [], ◌∷◌, ◌++◌, append_assoc, append-nil}
 use Rattle.std.proofs.Common.{Option, None, Some, MatchOption, option_map, unwrap_or, slice_range, Bor, ◌⊎◌, inl, inr}
 use native.Mathlib.Numerals.{add-one}
 use native.Mathlib.Omega.{arith}
 use lib.Dec.{eqb}
-use lib.ListN.{length, take, drop, set}
-use lib.Seq.{take-suc-set}
+use lib.ListN.{length, take, set}
+use lib.Seq.{take_all, take-suc-set}
 use Rattle.words.specs.Words.{up_to, decimal_in}
 use Rattle.words.specs.Values.{value_in, stamp_in}
+use Rattle.std.proofs.lemmas.List.Elements.{All-from_get_or}
+use Rattle.std.proofs.lemmas.List.Splits.{slice_split_first, slice_split_none}
+use Rattle.std.proofs.lemmas.List.Sums.{prefix_len_passes}
+use borrow.Author.Tests.{not-true}
+use Rattle.words.proofs.Reading.{up_first}
 use Rattle.words.proofs.Valuing.{rest_whole, value_empty}
 use Rattle.draft.specs.declared.Head.{Head}
-use Rattle.lists.specs.Line.{TwoLists, into_first, words_of, value_before, lists_in, head_by, head_in, both_in, line_in}
+use Rattle.lists.specs.Line.{TwoLists, words_of, value_before, lists_in, head_by, head_in, both_in, line_in}
 
 -- ---- the first word of a text
-
-up_space : (c : ℕ) (t : List ℕ) → eqb c 32 ≡ true → up_to 32 (c ∷ t) ≡ 0
-unfolding up_to
-up_space c t e = rw e
-
-up-letter : (c : ℕ) (t : List ℕ) → eqb c 32 ≡ false → up_to 32 (c ∷ t) ≡ suc (up_to 32 t)
-unfolding up_to
-up-letter c t e = rw e
-
--- a text that goes on behind its first word
-module _ (c : ℕ) (t : List ℕ) where
-  more_cons : (b : Bool) → eqb c 32 ≡ b → up_to 32 (c ∷ t) < length (c ∷ t)
-      → (up_to 32 t < length t → words_of t ≡ take (up_to 32 t) t ∷ words_of (drop (suc (up_to 32 t)) t))
-      → words_of (c ∷ t) ≡ take (up_to 32 (c ∷ t)) (c ∷ t) ∷ words_of (drop (suc (up_to 32 (c ∷ t))) (c ∷ t))
-  unfolding words_of
-  more_cons true e h ih = rw (up_space c t e, e)
-  more_cons false e h ih = rw (up-letter c t e, e) (ap (into_first c) (ih (omega (arith, up-letter c t e))))
-
-  last_cons : (b : Bool) → eqb c 32 ≡ b → length (c ∷ t) ≤ up_to 32 (c ∷ t)
-      → (length t ≤ up_to 32 t → words_of t ≡ take (up_to 32 t) t ∷ [])
-      → words_of (c ∷ t) ≡ take (up_to 32 (c ∷ t)) (c ∷ t) ∷ []
-  unfolding words_of
-  last_cons true e h ih = let z : ⊥ = omega (arith, up_space c t e) in absurd z
-  last_cons false e h ih = rw (up-letter c t e, e) (ap (into_first c) (ih (omega (arith, up-letter c t e))))
-
-more_words : (t : List ℕ) → up_to 32 t < length t → words_of t ≡ take (up_to 32 t) t ∷ words_of (drop (suc (up_to 32 t)) t)
-more_words [] h = let z : ⊥ = omega arith in absurd z
-more_words (c ∷ t) h = more_cons c t (eqb c 32) refl h (more_words t)
-
-last_word : (t : List ℕ) → length t ≤ up_to 32 t → words_of t ≡ take (up_to 32 t) t ∷ []
-unfolding words_of up_to
-last_word [] h = refl
-last_word (c ∷ t) h = last_cons c t (eqb c 32) refl h (last_word t)
 
 -- what the code cuts out behind the first word, as `get` says it
 abbrev pub Got : List ℕ → ℕ → Option (Bor (List ℕ)) → Type 0
@@ -57,8 +29,12 @@ Got t n o = MatchOption o ((length t < n) ⊎ (length t < length t)) (λ r. (n �
 
 pub cut_words : (t : List ℕ) (n : ℕ) (o : Option (Bor (List ℕ))) → n ≡ up_to 32 t → Got t (n + 1) o
     → words_of t ≡ take n t ∷ unwrap_or (option_map (λ r. words_of r.now) o) []
-cut_words t n None e h = rw e (last_word t (elim h [ inl a ↦ omega arith | inr a ↦ omega arith ]))
-cut_words t n (Some r) e h = rw (h.2, rest_whole t (n + 1), e, add-one) (more_words t (omega arith))
+unfolding words_of
+cut_words t n None e h =
+    let l : length t ≤ n = elim h [ inl a ↦ omega arith | inr a ↦ omega arith ] in
+    let a = All-from_get_or (λ c. eqb c 32 ≡ false) t 0 (λ i j. not-true _ (prefix_len_passes (λ c. not (eqb c 32)) t i 0 (omega (arith, up_first t)))) in
+    slice_split_none (λ c. eqb c 32) t a ∙ ap (λ (w : List ℕ). w ∷ []) (sym (take_all n t l))
+cut_words t n (Some r) e h = rw (h.2, rest_whole t (n + 1), e ∙ up_first t) (slice_split_first (λ c. eqb c 32) t 0 (omega (arith, up_first t)))
 
 -- ---- the two lists
 

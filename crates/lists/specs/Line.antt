@@ -1,19 +1,15 @@
 -- A line of `write` behind its first word (docs/REPLAY.md): what Write is given by it (rule W1), with the two lists of W3.
 -- Assumes nothing.
-use Rattle.std.specs.Prelude.{ℕ, cond, List, [], ◌∷◌, eqb, get_or, drop, Option, None, Some}
+use Rattle.std.specs.Prelude.{ℕ, List, [], ◌∷◌, eqb, get_or, drop, Option, None, Some}
+use Rattle.std.specs.List.{slice_split}
 use Rattle.words.specs.Words.{decimal_in}
 use Rattle.words.specs.Values.{value_in, stamp_in}
 use Rattle.entry.specs.declared.Entry.{Entry}
 use Rattle.draft.specs.declared.Head.{Head}
 
-abbrev pub into_first : ℕ → List (List ℕ) → List (List ℕ)
-into_first c [] = (c ∷ []) ∷ []
-into_first c (w ∷ ws) = (c ∷ w) ∷ ws
-
 -- the words of a text: what stands between its spaces
 unfoldable pub words_of : List ℕ → List (List ℕ)
-words_of [] = [] ∷ []
-words_of (c ∷ s) = cond (eqb c 32) ([] ∷ words_of s) (into_first c (words_of s))
+words_of s = slice_split (λ c. eqb c 32) s
 
 -- W3: kinds and bits
 abbrev pub TwoLists : Type 0

@@ -76,7 +76,7 @@ pub fn end_line(out: &mut [u8; 8192], at: usize, c: Counts) -> usize
     text::put(out, words, b"\n")
 }
 
-// The state's nine numbers, behind a bar.
+// The state's nine numbers, behind a bar: one by one, as its text is defined, for the promise names each.
 pub fn state_text(out: &mut [u8; 8192], at: usize, s: State) -> usize
     requires { at + 191 ≤ 8192 }
     ensures upper_bound { result ≤ at + 191 }

@@ -44,9 +44,23 @@ module _ (judge : List ℕ → Verdict) (rest : List ℕ) where
       let p = settle (with_rest judge rest) s in
       ap (λ (x : Settled). stretch_of x a m) (settle_joined judge rest s) ∙ then_by p.standing p.passed p.rest a m
 
+  -- where not all is passed, nothing more is read
+  pub stays : (x : Stretch) → ((a : Passed) (m : ℕ) → x ≡ Through a m → ⊥) → then_part x ≡ x
+  stays (Block a n m) h = refl
+  stays (Waits a) h = refl
+  stays (Through a m) h = absurd (h a m refl)
+
+no_more : (judge : List ℕ → Verdict) (x : Stretch) → then_part judge [] x ≡ x
+unfolding settle count_all needed
+no_more judge (Block a n m) = refl
+no_more judge (Waits a) = refl
+no_more judge (Through a m) = refl
+
 -- the last part
-pub last_part : (judge : List ℕ → Verdict) (s : List ℕ) (a : Passed) (m : ℕ) → stretch_of (settle judge s) a m ≡ then_part judge [] (stretch_of (settle (with_rest judge []) s) a m)
-last_part judge s a m = ap (λ (v : List ℕ). stretch_of (settle judge v) a m) (sym (append-nil s)) ∙ part_then judge [] s a m
+pub last_part : (judge : List ℕ → Verdict) (s : List ℕ) (a : Passed) (m : ℕ) → stretch_of (settle judge s) a m ≡ stretch_of (settle (with_rest judge []) s) a m
+last_part judge s a m =
+    ap (λ (v : List ℕ). stretch_of (settle judge v) a m) (sym (append-nil s)) ∙ part_then judge [] s a m
+    ∙ no_more judge (stretch_of (settle (with_rest judge []) s) a m)
 
 -- ---- what is passed is there, and marks do not fall
 

@@ -2,7 +2,7 @@
 // then the piece.
 #![tactic(auto)]
 
-ghost use Rattle.std.specs.Prelude.{◌≡◌, false, max, ◌+◌, ◌≤◌, ◌<◌, length, replicate};
+ghost use Rattle.std.specs.Prelude.{◌≡◌, ◌++◌, false, ◌+◌, ◌≤◌, ◌<◌, length, replicate};
 ghost use Rattle.frame.specs.Judge.{judged, judged_last};
 ghost use Rattle.scan.specs.Settle.{settle};
 ghost use Rattle.scan.specs.Feed.{feed_lit, stop};
@@ -39,12 +39,6 @@ pub enum Stretch {
     Through(Passed, usize),
 }
 
-fn greater(a: usize, b: usize) -> usize
-    ensures { result ≡ max a b }
-{
-    if a < b { b } else { a }
-}
-
 // Whether a first sync byte stands in the four bytes from k on.
 fn dollar_in_four(s: &[u8], k: usize) -> bool
     requires { k + 4 ≤ length s.now }
@@ -53,7 +47,8 @@ fn dollar_in_four(s: &[u8], k: usize) -> bool
     (s[k] == 0x24) | (s[k + 1] == 0x24) | (s[k + 2] == 0x24) | (s[k + 3] == 0x24)
 }
 
-// Passes groups of eight bytes from i on, as long as no first sync byte stands in them: eight tests, one branch.
+// Passes groups of eight bytes from i on, as long as no first sync byte stands in them: eight tests, one branch. It goes by eights,
+// for noise is read at two instructions a byte so.
 fn skip_eights(s: &[u8], i: usize) -> usize
     requires { i ≤ length s.now }
     ensures { NoDollar s.now i result }
@@ -93,11 +88,7 @@ fn start_from(s: &[u8], i: usize) -> usize
     k
 }
 
-fn nothing_passed() -> Passed
-    ensures { result ≡ nothing_passed }
-{
-    Passed { skipped: 0 }
-}
+const NOTHING_PASSED: Passed = Passed { skipped: 0 };
 
 // One more place is passed, for a reason.
 fn count(a: Passed, why: Reason) -> Passed
@@ -134,25 +125,18 @@ fn scan_part(ceiling: usize, s: &[u8], rest: &[u8], before: Passed, mark: usize)
             return Stretch::Through(passed, m);
         }
         let place = passed.skipped;
-        let v = frame::judge(ceiling, &s[p..], rest);
-        match v {
-            Verdict::Frame(n) => {
-                return Stretch::Block(passed, n, greater(m, place + n));
-            }
-            Verdict::Undecided => {
-                return Stretch::Waits(passed);
-            }
+        match frame::judge(ceiling, &s[p..], rest) {
+            Verdict::Frame(n) => return Stretch::Block(passed, n, m.max(place + n)),
+            Verdict::Undecided => return Stretch::Waits(passed),
             Verdict::NoFrame(why) => {
                 passed = count(passed, why);
                 match why {
                     Reason::CrcWrong(n) => {
-                        m = greater(m, place + n);
+                        m = m.max(place + n);
                         // And not p + n (F11, D6): a header made of noise must not hide the blocks behind it.
                         k = 1 + p;
                     }
-                    _ => {
-                        k = p + 1;
-                    }
+                    _ => k = p + 1,
                 }
             }
         }
@@ -160,41 +144,30 @@ fn scan_part(ceiling: usize, s: &[u8], rest: &[u8], before: Passed, mark: usize)
     Stretch::Through(passed, m)
 }
 
+// What the places of the held bytes and then of the piece come to.
+fn scan_both(ceiling: usize, held: &[u8], piece: &[u8]) -> Stretch
+    ensures { result ≡ stretch_of (settle (judged ceiling) (held.now ++ piece.now)) nothing_passed (length held.now) }
+{
+    match scan_part(ceiling, held, piece, NOTHING_PASSED, held.len()) {
+        Stretch::Through(before, mark) => scan_part(ceiling, piece, b"", before, mark),
+        within => within,
+    }
+}
+
 // The held bytes and then the piece, up to the first block or the place that is not decided; the promise is by C6, a byte at
 // a time.
 pub fn scan(ceiling: usize, held: &[u8], piece: &[u8]) -> Scanned
     ensures { result ≡ scanned_of (feed_lit ceiling held.now piece.now (length piece.now)) }
 {
-    let n = held.len();
-    let all = piece.len();
-    match scan_part(ceiling, held, piece, nothing_passed(), n) {
-        Stretch::Block(passed, len, m) => Scanned {
-            taken: m - n,
-            passed: passed,
-            block: len,
-        },
-        Stretch::Waits(passed) => Scanned {
-            taken: all,
-            passed: passed,
-            block: 0,
-        },
-        Stretch::Through(before, mark) => match scan_part(ceiling, piece, b"", before, mark) {
-            Stretch::Block(passed, len, m) => Scanned {
-                taken: m - n,
-                passed: passed,
-                block: len,
-            },
-            Stretch::Waits(passed) => Scanned {
-                taken: all,
-                passed: passed,
-                block: 0,
-            },
-            Stretch::Through(passed, _) => Scanned {
-                taken: all,
-                passed: passed,
-                block: 0,
-            },
-        },
+    let (taken, passed, block) = match scan_both(ceiling, held, piece) {
+        Stretch::Block(passed, length, m) => (m - held.len(), passed, length),
+        Stretch::Waits(passed) => (piece.len(), passed, 0),
+        Stretch::Through(passed, _) => (piece.len(), passed, 0),
+    };
+    Scanned {
+        taken,
+        passed,
+        block,
     }
 }
 
@@ -213,7 +186,7 @@ fn last_found(passed: Passed, block: usize) -> Scanned
 pub fn last(ceiling: usize, held: &[u8]) -> Scanned
     ensures { result ≡ scanned_of (stop (settle (judged_last ceiling) held.now)) }
 {
-    let mut passed = nothing_passed();
+    let mut passed = NOTHING_PASSED;
     while passed.skipped < held.len() {
         let k = passed.skipped;
         let p = start_from(held, k);
@@ -221,18 +194,11 @@ pub fn last(ceiling: usize, held: &[u8]) -> Scanned
         if p == held.len() {
             return last_found(passed, 0);
         }
-        let v = frame::judge_last(ceiling, &held[p..]);
-        match v {
-            Verdict::Frame(n) => {
-                return last_found(passed, n);
-            }
-            Verdict::NoFrame(why) => {
-                passed = count(passed, why);
-            }
+        match frame::judge_last(ceiling, &held[p..]) {
+            Verdict::Frame(n) => return last_found(passed, n),
+            Verdict::NoFrame(why) => passed = count(passed, why),
             // Never: at the run's end every place is decided (F13).
-            Verdict::Undecided => {
-                return last_found(passed, 0);
-            }
+            Verdict::Undecided => return last_found(passed, 0),
         }
     }
     last_found(passed, 0)

@@ -13,8 +13,6 @@ use std::fs::File;
 use std::io::{Error, Read, Write};
 use std::rt::Env;
 use std::{fmt, fs, str};
-use tables::Opened;
-use writer::Written;
 
 // Why a line makes no block.
 #[derive(Clone, Copy)]
@@ -88,10 +86,7 @@ impl Scribe<'_> {
             &self.bits[..k],
             &mut self.block,
         );
-        match written {
-            Written::Length(n) => Ok(n),
-            Written::Refused(why) => Err(Fault::Refused(why)),
-        }
+        written.map_err(Fault::Refused)
     }
 
     // Writes out a block of so many bytes. It is never longer than its buffer.
@@ -147,8 +142,8 @@ fn scribe_by(rt: &HostRuntime, rows: &[u8]) {
         &waiting,
     );
     match opened.answer {
-        Opened::Version(_) => scribe_lines(rt, opened.state, &in_force),
-        Opened::Refused(_) => {
+        Ok(_) => scribe_lines(rt, opened.state, &in_force),
+        Err(_) => {
             let _ = eprintln!(rt; "scribe: the table breaks one of the rules T1 to T20");
         }
     }

@@ -1,6 +1,7 @@
 -- Field rows as they stand, four bytes each, and as they are meant: parts of them, one after the other, and what holds of every one.
 -- Assumes nothing.
 use Rattle.std.proofs.Common.{◌≡◌, ℕ, zero, suc, ◌+◌, ◌<◌, ◌≤◌, Bool, true, false, ◌&&◌, None, Some, List, [], ◌∷◌, length, drop, get_or, refl, ap, sym, ◌∙◌, arith, drop-cons, add-one}
+use Rattle.std.specs.List.{list_all}
 use Rattle.std.proofs.Math.ListN.{drop_of_length-le}
 use Rattle.rows.specs.declared.FieldRow.{FieldRow}
 use Rattle.table.specs.Lists.{every, pick}
@@ -35,19 +36,8 @@ every_pick p [] k x e h = let z : ⊥ = cc in absurd z
 every_pick p (y ∷ ys) zero x e h = let s : y ≡ x = cc in rw (← s) (both (p y) _ e).0
 every_pick p (y ∷ ys) (suc k) x e h = every_pick p ys k x (both (p y) _ e).1 h
 
--- a loop over them that asks the same of each: what is left gives the whole
-module _ (p : FieldRow → Bool) (rows : List (List ℕ)) (k : ℕ) (whole : Bool) (inv : whole ≡ every p (fields_of (drop k rows))) where
-  pub every_done : length rows ≤ k → true ≡ whole
-  unfolding every
-  every_done h = sym (inv ∙ ap (every p) (none_left rows k h))
-
-  module _ (f : FieldRow) (d : List ℕ) (g : f ≡ field_of (get_or rows k d)) (h : k < length rows) where
-    each : whole ≡ (p f && every p (fields_of (drop (k + 1) rows)))
-    unfolding every
-    each = inv ∙ ap (every p) (one_left rows k d h) ∙ rw g
-
-    pub every_stop : p f ≡ false → false ≡ whole
-    every_stop e = sym (each ∙ rw e)
-
-    pub every_go : p f ≡ true → whole ≡ every p (fields_of (drop (k + 1) rows))
-    every_go e = each ∙ rw e
+-- the same of every one, by `all`
+pub all_every : (p : FieldRow → Bool) (rows : List (List ℕ)) → list_all (λ r. p (field_of r)) rows ≡ every p (fields_of rows)
+unfolding every
+all_every p [] = refl
+all_every p (r ∷ rows) = ap (λ b. p (field_of r) && b) (all_every p rows)

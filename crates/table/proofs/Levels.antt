@@ -44,10 +44,6 @@ module _ (b : BlockRow) (ok : block_ok b ≡ true) (two : b.firsts ≡ 0 → ⊥
       let c = both (levels_ok b && is_nested (nested_row b)) _ a.0 in
       leb-true _ _ (both (levels_ok b) _ c.0).0
 
-  pub two_triple : is_triple b.body ≡ true
-  unfolding nest_ok
-  two_triple = (both (levels_ok b && is_nested (nested_row b)) _ (both (levels_ok b && is_nested (nested_row b) && is_triple b.body) _ nest).0).1
-
 -- the same of a row as it stands
 module _ (t : List ℕ) (r : Row) (ok : block_ok (block_of t r) ≡ true) where
   seen_two : (r.firsts ≡ 0 → ⊥) → (block_of t r).firsts ≡ 0 → ⊥
@@ -83,17 +79,6 @@ module _ (t : List ℕ) (r : Row) (ok : block_ok (block_of t r) ≡ true) where
     by false e = rw e (take_tab (field_at t) (r.start + r.bodies) r.subs r.firsts few)
 
   module _ (two : r.firsts ≡ 0 → ⊥) where
-    pub first_two : first_rows (block_of t r) ≡ tabulate (field_at t) (r.start + r.bodies) r.firsts
-    unfolding first_rows block_of
-    first_two = rw (ne_eqb r.firsts 0 two) (take_tab (field_at t) (r.start + r.bodies) r.subs r.firsts few)
-
     pub second_are : second_rows (block_of t r) ≡ tabulate (field_at t) (r.start + r.bodies + r.firsts) (r.subs - r.firsts)
     unfolding second_rows block_of
     second_are = rw (ne_eqb r.firsts 0 two) (drop_tab (field_at t) (r.start + r.bodies) r.subs r.firsts few)
-
-    pub nested_is : nested_row (block_of t r) ≡ Some (field_at t (r.start + r.bodies + (r.firsts - 1)))
-    unfolding block_of
-    nested_is =
-        let h = few in
-        let i : r.firsts - 1 < r.subs = omega arith in
-        pick_in (field_at t) (r.start + r.bodies) r.subs (r.firsts - 1) i

@@ -64,23 +64,6 @@ module _ {A : Type 0} (f : ℕ → A) where
   pick_out i (suc k) zero h = absurd (not-suc-le-zero h)
   pick_out i (suc k) (suc j) h = pick_out (i + 1) k j (omega arith)
 
-  -- a loop that tests each: what is left gives the whole
-  module _ (p : A → Bool) (i k : ℕ) (whole : Bool) (inv : whole ≡ every p (tabulate f i k)) where
-    pub every_done : k ≡ 0 → true ≡ whole
-    unfolding every
-    every_done e = sym (inv ∙ ap (every p) (tab_none i k e))
-
-    every_by : 0 < k → whole ≡ (p (f i) && every p (tabulate f (i + 1) (k - 1)))
-    unfolding every
-    every_by h = inv ∙ ap (every p) (tab-more i k h)
-
-    module _ (x : A) (g : x ≡ f i) (h : 0 < k) where
-      pub every_stop : p x ≡ false → false ≡ whole
-      every_stop e = sym (every_by h ∙ rw (← g, e))
-
-      pub every_go : p x ≡ true → (j l : ℕ) → j ≡ i + 1 → l ≡ k - 1 → whole ≡ every p (tabulate f j l)
-      every_go e j l u v = every_by h ∙ rw (← g, e, u, v)
-
 module _ {A B : Type 0} (f : A → B) where
   pub every_map : (p : B → Bool) (xs : List A) → every p (map f xs) ≡ every (λ (x : A). p (f x)) xs
   unfolding every

@@ -81,10 +81,5 @@ fn is_early(f: FieldRow) -> bool
 pub fn all_early(rows: &[[u8; 4]]) -> bool
     ensures { result ≡ every early (fields_of rows.now) }
 {
-    for row in rows {
-        if !is_early(field(*row)) {
-            return false;
-        }
-    }
-    true
+    rows.iter().all(|row| is_early(field(*row)))
 }

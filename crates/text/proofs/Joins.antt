@@ -2,19 +2,11 @@
 -- Assumes nothing.
 use mathlib.Core.Path.{◌≡◌, ap, ◌∙◌}
 use mathlib.Core.List.{List, ◌++◌, append_assoc}
-use Prim.Native.Nat.{ℕ, ◌+◌, ◌^◌, ◌≤◌, ◌<◌}
+use Prim.Native.Nat.{ℕ, ◌^◌, ◌<◌}
 use native.Mathlib.Omega.{arith}
-use lib.ListN.{length, take, drop}
-use lib.Seq.{paste, take-paste, take_all}
 use Rattle.io.specs.Digits.{last_digits, IsDigitCount}
 use Rattle.text.specs.Numbers.{decimal, four_hex}
 use Rattle.text.proofs.Decimals.{places_is, four_are}
-
-pub copied : (d e w : List ℕ) (at k : ℕ) → e ≡ paste d at (drop 0 w) k → at ≤ length d → k ≤ length w → take (at + k) e ≡ take at d ++ take k w
-copied d e w at k p a b = ap (take (at + k)) p ∙ take-paste d at w k a b
-
-pub copied_all : (d e w : List ℕ) (at : ℕ) → e ≡ paste d at (drop 0 w) (length w) → at ≤ length d → take (at + length w) e ≡ take at d ++ w
-copied_all d e w at p a = copied d e w at (length w) p a (omega arith) ∙ ap (λ (x : List ℕ). take at d ++ x) (take_all (length w) w (omega arith))
 
 -- y is x and a, z is y and b
 pub joined : (x a b : List ℕ) {y z : List ℕ} → y ≡ x ++ a → z ≡ y ++ b → z ≡ x ++ (a ++ b)

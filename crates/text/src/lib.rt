@@ -1,7 +1,7 @@
 // Words and numbers put into a buffer for standard output, each behind what stands there.
 #![tactic(auto)]
 
-ghost use Rattle.std.specs.Prelude.{◌+◌, ◌≤◌, length, take, nat_abs, ◌≡◌, ◌++◌};
+ghost use Rattle.std.specs.Prelude.{◌+◌, ◌≤◌, length, take, ◌≡◌, ◌++◌};
 ghost use Rattle.text.specs.Numbers.{decimal, spaced, integer_text, crc_text};
 
 // A word goes to the place `at`; answers the place behind it.
@@ -63,19 +63,9 @@ pub fn crc(out: &mut [u8; 8192], at: usize, n: u16) -> usize
     ensures out_after { take result out.new ≡ take at out.old ++ crc_text n }
 {
     let mut digits = [0u8; 16];
-    let k = io::hex(n as u64, 4, &mut digits);
+    let k = io::hex(u64::from(n), 4, &mut digits);
     let gap = put(out, at, b" ");
     put(out, gap, &digits[..k])
-}
-
-// How far a number lies from zero.
-fn magnitude(z: i64) -> u64
-    ensures { result ≡ nat_abs z }
-{
-    if z < 0 {
-        return (-1 - z) as u64 + 1;
-    }
-    z as u64
 }
 
 // A space and a number with a sign.
@@ -84,7 +74,7 @@ pub fn integer(out: &mut [u8; 8192], at: usize, z: i64) -> usize
     ensures upper_bound { result ≤ at + 22 }
     ensures out_after { take result out.new ≡ take at out.old ++ integer_text z }
 {
-    let n = magnitude(z);
+    let n = z.unsigned_abs();
     if z < 0 {
         let minus = put(out, at, b" -");
         return decimal_digits(out, minus, n);

@@ -26,12 +26,13 @@ at_cons s i h = rw (add-one, drop-cons s i 0)
 found : (n m : ℕ) → n ≤ m → n ≡ unwrap_or (cond (ltb n m) (Some n) None) m
 found n m h = grind (arith, nat_tests)
 
--- the first space of a text, or its end, as `position` gives it
-pub up_is : (w : List ℕ) → up_to 32 w ≡ unwrap_or (position (λ c. eqb c 32) w) (length w)
+-- the first space of a text, or its end
+pub up_first : (w : List ℕ) → up_to 32 w ≡ position_or_len (λ c. eqb c 32) w
 unfolding up_to
-up_is w =
-    let f : ℕ = position_or_len (λ c. eqb c 32) w in
-    is_position_or_len (up_to 32) (λ c. eqb c 32) refl (λ c s. rw one-add) w ∙ found f (length w) (prefix_len-le-length (λ c. not (eqb c 32)) w)
+up_first w = is_position_or_len (up_to 32) (λ c. eqb c 32) refl (λ c s. rw one-add) w
+
+pub up_is : (w : List ℕ) → up_to 32 w ≡ unwrap_or (position (λ c. eqb c 32) w) (length w)
+up_is w = up_first w ∙ found (position_or_len (λ c. eqb c 32) w) (length w) (prefix_len-le-length (λ c. not (eqb c 32)) w)
 
 pub key_grows : (k c i : ℕ) → k < 256 ^ i → c < 256 → k * 256 + c < 256 ^ (i + 1)
 key_grows k c i l h = let p : 256 ^ (i + 1) ≡ 256 * 256 ^ i = rw add-one (pow-succ' 256 i) in omega arith

@@ -24,7 +24,7 @@ Start = Lts.Start tie.the-claims Reads.Pre Reads.Post tie.handed_clauses
 
 pub slice_bounds-scan-end-2 : goal.slice_bounds-scan-end-2
 slice_bounds-scan-end-2 c =
-    sym (length-take-le c.lesser-t.result c.args.piece.now (omega arith))
+    sym (length-take-le c.min-t.result c.args.piece.now (omega arith))
 
 abbrev entry : AfterScan → Start
 entry s = s.before.before.before.before.before
@@ -47,7 +47,7 @@ came : (s : AfterScan) → s.scan-found.result ≡ scanned_of (fed s)
 unfolding rest_of
 came s =
     let a = (entry s).args in
-    let l = s.lesser-t in
+    let l = s.min-t in
     s.scan-found.ensures ∙ ap scanned_of (roomed a.ceiling (rest s) a.piece.now a.room l.result l.ensures)
 
 -- none is lost

@@ -16,8 +16,8 @@ use Rattle.feed.proofs.move_down.Tie as tie
 abbrev AtLoop : Type 0
 AtLoop = Lts.At-loop tie.the-claims Reads.Pre Reads.Post goal.the-invariant-loop-moved goal.the-decreases-loop-moved
 
-abbrev AfterLesser : Type 0
-AfterLesser = Lts.After-lesser tie.the-claims Reads.Pre Reads.Post goal.the-invariant-loop-moved goal.the-decreases-loop-moved
+abbrev AfterMin : Type 0
+AfterMin = Lts.After-min tie.the-claims Reads.Pre Reads.Post goal.the-invariant-loop-moved goal.the-decreases-loop-moved
 
 pub returns-then-from-eq0 : goal.returns-then-from-eq0
 returns-then-from-eq0 c =
@@ -33,9 +33,9 @@ long l =
     paste_long l.loop-moved.hold a.hold.now 0 a.hold.now a.from l.loop-moved.moved l.loop-moved.invariant.1 (omega arith) (omega arith)
 
 -- how many bytes move in a turn
-least : (m : AfterLesser)
-    → m.lesser-n.result ≡ min (m.args.k - m.loop-moved.moved) 1024
-least m = m.lesser-n.ensures
+least : (m : AfterMin)
+    → m.min-n.result ≡ min (m.args.k - m.loop-moved.moved) 1024
+least m = m.min-n.ensures
 
 pub move_some-requires : goal.move_some-requires
 move_some-requires c =
@@ -55,7 +55,7 @@ loop-moved-preserved c =
     let l = c.loop-moved in
     let a = c.args in
     let h = a.hold.now in
-    let n = c.lesser-n.result in
+    let n = c.min-n.result in
     let s = drop a.from a.hold.now in (
       omega (arith, least c.before.before.before.before.before.before),
       c.move_some.ensures

@@ -15,5 +15,5 @@ returns c =
     let g = c.args in
     c.update.ensures
     ∙ ap₂ (λ (x y : ℕ). crc_of (take (y - x) (drop x g.a.now) ++ take (g.n - y - (4 - x)) (drop (4 - x) g.b.now)))
-    c.lesser-i.ensures c.lesser-e.ensures
+    c.min-i.ensures c.min-e.ensures
     ∙ ap crc_of (between g.a.now g.b.now g.n (omega arith) (omega arith))

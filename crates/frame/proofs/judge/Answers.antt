@@ -35,8 +35,8 @@ Else3 = Lts.Else3 tie.the-claims Reads.Pre Reads.Post
 abbrev Else4 : Type 0
 Else4 = Lts.Else4 tie.the-claims Reads.Pre Reads.Post
 
-abbrev AfterPairAt : Type 0
-AfterPairAt = Lts.After-pair_at tie.the-claims Reads.Pre Reads.Post
+abbrev AfterFrom : Type 0
+AfterFrom = Lts.After-from tie.the-claims Reads.Pre Reads.Post
 
 abbrev Else6 : Type 0
 Else6 = Lts.Else6 tie.the-claims Reads.Pre Reads.Post
@@ -69,28 +69,28 @@ two c =
 second : (c : Else4) → get_or (run c.before.before.before.before.before.before) 1 0 ≡ 0x40
 second c = sym c.at-2.ensures ∙ c.if-at-ne64.false
 
-abbrev start : AfterPairAt → AfterSharedSliceKnown2
-start u = u.before.before.before.before.before.before.before.before
+abbrev start : AfterFrom → AfterSharedSliceKnown2
+start u = u.before.before.before.before.before.before.before.before.before
 
-head : (u : AfterPairAt) → Head (run (start u))
+head : (u : AfterFrom) → Head (run (start u))
 head u =
     record {
       eight = omega (arith, long (start u), u.if-left-lt8.false);
-      first = first u.before.before.before.before.before;
-      second = second u.before.before;
+      first = first u.before.before.before.before.before.before;
+      second = second u.before.before.before;
     }
 
 ok : (c : Else6) → allowed (top (start c.before.before)) (length_at (run (start c.before.before)) 0) ≡ true
 ok c =
-    ap (allowed (top (start c.before.before))) (sym c.pair_at-n.ensures) ∙ sym c.length_allowed.ensures ∙ c.if-not-length_allowed.false
+    ap (allowed (top (start c.before.before))) (sym (c.from-n.ensures ∙ c.pair_at.ensures)) ∙ sym c.length_allowed.ensures ∙ c.if-not-length_allowed.false
 
 -- the test of the CRC, as `crc_right` has it
 sums : (c : AfterPairAt2)
-    → crc_right (run (start c.before.before.before.before.before)) 0 ≡ eqb c.pair_at.result c.crc_between-crc.result
+    → crc_right (run (start c.before.before.before.before.before)) 0 ≡ eqb c.pair_at-2.result c.crc_between-crc.result
 unfolding crc_right
 sums c =
-    ap₂ (λ (x y : ℕ). eqb x y) (sym c.pair_at.ensures)
-    (ap (λ (x : ℕ). crc_of (drop 4 (take x (run (start c.before.before.before.before.before))))) (zero-add (length_at (run (start c.before.before.before.before.before)) 0) ∙ sym c.pair_at-n.ensures)
+    ap₂ (λ (x y : ℕ). eqb x y) (sym c.pair_at-2.ensures)
+    (ap (λ (x : ℕ). crc_of (drop 4 (take x (run (start c.before.before.before.before.before))))) (zero-add (length_at (run (start c.before.before.before.before.before)) 0) ∙ sym (c.from-n.ensures ∙ c.pair_at.ensures))
     ∙ sym c.crc_between-crc.ensures)
 
 pub returns-then-left-eq0 : goal.returns-then-left-eq0
@@ -117,33 +117,33 @@ returns-then-not-length_allowed c =
     let d = head c.before.before.before in
     sym
     (bad_length (top (start c.before.before.before)) (run (start c.before.before.before)) (omega (arith, d.eight)) d.first d.second d.eight
-    (ap (allowed (top (start c.before.before.before))) (sym c.pair_at-n.ensures) ∙ sym c.length_allowed.ensures ∙ c.if-not-length_allowed.true))
+    (ap (allowed (top (start c.before.before.before))) (sym (c.from-n.ensures ∙ c.pair_at.ensures)) ∙ sym c.length_allowed.ensures ∙ c.if-not-length_allowed.true))
 
 pub returns-then-left-n : goal.returns-then-left-n
 returns-then-left-n c =
     let d = head c.before.before.before.before in
     sym
     (part (top (start c.before.before.before.before)) (run (start c.before.before.before.before)) (omega (arith, d.eight)) d.first d.second d.eight (ok c.before.before)
-    (omega (arith, long (start c.before.before.before.before), c.if-left-n.true, c.pair_at-n.ensures)))
+    (omega (arith, long (start c.before.before.before.before), c.if-left-n.true, c.from-n.ensures ∙ c.pair_at.ensures)))
 
 pub crc_between-crc-requires : goal.crc_between-crc-requires
 crc_between-crc-requires c =
-    (omega (arith, (allows (top (start c.before.before.before.before)) (length_at (run (start c.before.before.before.before)) 0) (ok c.before.before)).not_small, c.pair_at-n.ensures), omega (arith, c.if-left-n.false))
+    (omega (arith, (allows (top (start c.before.before.before.before)) (length_at (run (start c.before.before.before.before)) 0) (ok c.before.before)).not_small, c.from-n.ensures ∙ c.pair_at.ensures), omega (arith, c.if-left-n.false))
 
 pub returns-then-pair_at-crc : goal.returns-then-pair_at-crc
 returns-then-pair_at-crc c =
     let d = head c.before.before.before.before.before.before.before in
     sym
     (good (top (start c.before.before.before.before.before.before.before)) (run (start c.before.before.before.before.before.before.before)) (omega (arith, d.eight)) d.first d.second d.eight (ok c.before.before.before.before.before)
-    (omega (arith, long (start c.before.before.before.before.before.before.before), c.if-left-n.false, c.pair_at-n.ensures))
-    (sums c.before.before ∙ eq-eqb c.pair_at.result c.crc_between-crc.result c.if-pair_at-crc.true)
-    ∙ ap Frame (sym c.pair_at-n.ensures))
+    (omega (arith, long (start c.before.before.before.before.before.before.before), c.if-left-n.false, c.from-n.ensures ∙ c.pair_at.ensures))
+    (sums c.before.before ∙ eq-eqb c.pair_at-2.result c.crc_between-crc.result c.if-pair_at-crc.true)
+    ∙ ap Frame (sym (c.from-n.ensures ∙ c.pair_at.ensures)))
 
 pub returns-else-pair_at-crc : goal.returns-else-pair_at-crc
 returns-else-pair_at-crc c =
     let d = head c.before.before.before.before.before.before.before in
     sym
     (bad (top (start c.before.before.before.before.before.before.before)) (run (start c.before.before.before.before.before.before.before)) (omega (arith, d.eight)) d.first d.second d.eight (ok c.before.before.before.before.before)
-    (omega (arith, long (start c.before.before.before.before.before.before.before), c.if-left-n.false, c.pair_at-n.ensures))
-    (sums c.before.before ∙ ne_eqb c.pair_at.result c.crc_between-crc.result c.if-pair_at-crc.false)
-    ∙ ap (λ (k : ℕ). NoFrame (CrcWrong k)) (sym c.pair_at-n.ensures))
+    (omega (arith, long (start c.before.before.before.before.before.before.before), c.if-left-n.false, c.from-n.ensures ∙ c.pair_at.ensures))
+    (sums c.before.before ∙ ne_eqb c.pair_at-2.result c.crc_between-crc.result c.if-pair_at-crc.false)
+    ∙ ap (λ (k : ℕ). NoFrame (CrcWrong k)) (sym (c.from-n.ensures ∙ c.pair_at.ensures)))

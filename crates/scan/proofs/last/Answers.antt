@@ -1,6 +1,6 @@
 -- `scan::last` meets its contract. The invariant: the places behind those passed give, with these, what the whole gives.
 -- Assumes nothing.
-use mathlib.Core.Path.{◌≡◌, sym, ap, ◌∙◌}
+use mathlib.Core.Path.{◌≡◌, refl, sym, ap, ◌∙◌}
 use mathlib.Core.List.{List}
 use Prim.Native.Nat.{ℕ, ◌+◌, ◌<◌, ◌-◌}
 use native.Mathlib.Omega.{arith}
@@ -35,9 +35,7 @@ abbrev AfterCount : Type 0
 AfterCount = Lts.After-count tie.the-claims Reads.Pre Reads.Post goal.the-invariant-loop-passed goal.the-decreases-loop-passed
 
 pub loop-passed-init : goal.loop-passed-init
-loop-passed-init c =
-    let e = c.nothing_passed-passed.ensures in
-    (omega (arith, ap (λ (x : Passed). x.skipped) e), ap (λ (x : Passed). from_end c.args.ceiling c.args.held.now x.skipped x) e)
+loop-passed-init c = (omega arith, refl)
 
 pub start_from-p-requires : goal.start_from-p-requires
 start_from-p-requires c = c.loop-passed.invariant.0
@@ -89,10 +87,10 @@ place j = (begin j).before.start_from-p.result
 abbrev top : AfterJudgeLast → ℕ
 top j = top_at (begin j).before
 
-verdict : (j : AfterJudgeLast) {x : Verdict} → j.judge_last-v.result ≡ x → judged_last (top j) (drop (place j) (run j)) ≡ x
+verdict : (j : AfterJudgeLast) {x : Verdict} → j.judge_last.result ≡ x → judged_last (top j) (drop (place j) (run j)) ≡ x
 verdict j e =
     sym
-    (j.judge_last-v.ensures
+    (j.judge_last.ensures
     ∙ ap (judged_last (top j)) (take_all (length (run j) - place j) (drop (place j) (run j)) (omega (arith, length-drop (place j) (run j)))))
     ∙ e
 

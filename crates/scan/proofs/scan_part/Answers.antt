@@ -110,11 +110,11 @@ run j = drop (place j) (entry (begin j)).args.s.now ++ (entry (begin j)).args.re
 abbrev top : AfterJudge → ℕ
 top j = (entry (begin j)).args.ceiling
 
-verdict : (j : AfterJudge) {x : Verdict} → j.judge-v.result ≡ x → judged (top j) (run j) ≡ x
+verdict : (j : AfterJudge) {x : Verdict} → j.judge.result ≡ x → judged (top j) (run j) ≡ x
 verdict j e =
     let s = (entry (begin j)).args.s.now in
     sym
-    (j.judge-v.ensures
+    (j.judge.ensures
     ∙ ap (λ (x : List ℕ). judged (top j) (x ++ (entry (begin j)).args.rest.now))
     (take_all (length s - place j) (drop (place j) s) (omega (arith, length-drop (place j) s))))
     ∙ e
@@ -125,7 +125,7 @@ within j n t =
     let s = (entry (begin j)).args.s.now in
     omega (arith, t.within, length-append (drop (place j) s) (entry (begin j)).args.rest.now, length-drop (place j) s, inside j.before.before)
 
-fits : (j : AfterJudge) {x : Verdict} → j.judge-v.result ≡ x → Fits (run j) x
+fits : (j : AfterJudge) {x : Verdict} → j.judge.result ≡ x → Fits (run j) x
 fits j e = subst (Fits (run j)) (verdict j e) ((judging (top j)).fits (run j))
 
 -- the next place fits a number, and so does the block's end
@@ -155,7 +155,7 @@ overflow_add-place c = omega (arith, end_fits c.before.before c.in-Frame.n (fits
 pub returns-in-Frame : goal.returns-in-Frame
 returns-in-Frame c =
     let a = (entry (begin c.before.before.before)).args in
-    ap (Block (past (counted c.before.before.before)) c.in-Frame.n) c.greater.ensures
+    ap (Block (past (counted c.before.before.before)) c.in-Frame.n) c.max.ensures
     ∙ sym
     (part_frame a.ceiling a.s.now a.rest.now (place c.before.before.before) (past (counted c.before.before.before)) (begin c.before.before.before).before.before.loop-k.m c.in-Frame.n (inside c.before.before.before.before.before) (verdict c.before.before.before c.in-Frame.is))
     ∙ there (counted c.before.before.before)
@@ -207,8 +207,8 @@ loop-k-preserved-in-CrcWrong c =
     let e : 1 + place j ≡ place j + 1 = omega arith in (
       omega (arith, inside j.before.before),
       omega (arith, one_more c.before.before.before),
-      ap (λ (i : ℕ). from_here (begin j) i c.count-passed.result c.greater-m.result) e
-          ∙ ap₂ (from_here (begin j) (place j + 1)) (c.count-passed.ensures ∙ ap (count (past (counted j))) c.in-CrcWrong.is) c.greater-m.ensures
+      ap (λ (i : ℕ). from_here (begin j) i c.count-passed.result c.max-m.result) e
+          ∙ ap₂ (from_here (begin j) (place j + 1)) (c.count-passed.ensures ∙ ap (count (past (counted j))) c.in-CrcWrong.is) c.max-m.ensures
           ∙ sym (part_pass a.ceiling a.s.now a.rest.now (place j) (past (counted j)) m (CrcWrong c.in-CrcWrong.n) (inside j.before.before) (reasoned c.before.before))
           ∙ there (counted j),
     )
