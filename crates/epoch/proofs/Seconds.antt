@@ -38,9 +38,6 @@ second_ends n m h =
 
 -- the first level, or the only one
 module _ (t b : List ℕ) (k : ℕ) (r : Row) (n : Nest) (fine : SubFine t b k r n) where
-  pub first_in : n.first.at + n.first.size ≤ length b
-  first_in = omega (arith, fine.within)
-
   pub second_by_lem : (m : ℕ) → m < n.count → (second_at n m).at + (second_at n m).size ≤ length b
   second_by_lem m h = omega (arith, fine.within, second_ends n m h)
 

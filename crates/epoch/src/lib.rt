@@ -1,7 +1,7 @@
 // What a block of two levels answers beyond a block of one: the fields of its second level, and a MeasEpoch's pseudoranges.
 #![tactic(auto)]
 
-ghost use Rattle.std.specs.Prelude.{◌≡◌, true, not, ◌&&◌, eqb, ◌+◌, ◌≤◌, ◌<◌, ◌^◌, length};
+ghost use Rattle.std.specs.Prelude.{◌≡◌, true, not, ◌&&◌, eqb, ◌+◌, ◌≤◌, ◌<◌, ◌^◌, length, IfSome};
 ghost use Rattle.rows.specs.Places.{field_count, field_at};
 ghost use Rattle.kinds.specs.Types.{size_of};
 ghost use Rattle.table.specs.Lists.{tabulate, every, pick};
@@ -10,25 +10,14 @@ ghost use Rattle.table.specs.Rules.{table_ok};
 ghost use Rattle.walk.specs.Walk.{nest_end, second_at};
 ghost use Rattle.block.specs.Block.{number_in, ends_by, SubFine};
 ghost use Rattle.record.specs.Answer.{Answers, answer_says};
-ghost use Rattle.pseudorange.specs.Code.{pair_says, PairBelow};
 ghost use Rattle.epoch.specs.Second.{second_field};
 ghost use Rattle.epoch.specs.Ranges.{unsigned_of, unsigned_at, pair_at, first_pair, second_pair, range_field, range2_field};
-ghost use Rattle.epoch.specs.Code.{number_says, NumberBelow};
 
-use block::SubMatched;
-use pseudorange::Pair;
 use record::Answer;
 use refusal::Refusal;
 use rows::Row;
 use value::Value;
 use walk::{Nest, Span};
-
-// An unsigned number that a field answers, or that it answers none.
-#[derive(Clone, Copy)]
-pub enum Number {
-    Is(u64),
-    Not,
-}
 
 // Where second-level sub-block m of a first-level one stands.
 fn second_span(n: Nest, m: usize) -> Span
@@ -36,8 +25,7 @@ fn second_span(n: Nest, m: usize) -> Span
     ensures { result ≡ second_at n m }
 {
     let size = n.size;
-    let first = n.first;
-    let start = first.at + first.size;
+    let start = n.first.at + n.first.size;
     let at = start + m * size;
     Span { at, size }
 }
@@ -47,41 +35,26 @@ pub fn second_field(table: &[u8], block: &[u8], k: usize, m: usize, j: usize) ->
     requires { table_ok table.now ≡ true }
     ensures { Answers result (second_field (decode table.now) block.now k m j) }
 {
-    match block::sub_row_of(table, block, k) {
-        SubMatched::At(row, nest) => {
-            if nest.count <= m {
-                return Answer::Refused(Refusal::NoSuchField);
-            }
-            let first = row.firsts;
-            let count = row.subs - first;
-            if count <= j {
-                return Answer::Refused(Refusal::NoSuchField);
-            }
-            let start = row.start + row.bodies + first;
-            let f = rows::field_at(table, start + j);
-            let revision = block::revision(block);
-            let span = second_span(nest, m);
-            record::field_said(record::part(block, span), f, revision)
-        }
-        SubMatched::Refused(x) => Answer::Refused(x),
+    let (row, nest) = block::sub_row_of(table, block, k)?;
+    if nest.count <= m {
+        return Err(Refusal::NoSuchField);
     }
+    if row.subs - row.firsts <= j {
+        return Err(Refusal::NoSuchField);
+    }
+    let start = row.start + row.bodies + row.firsts;
+    let f = rows::field_at(table, start + j);
+    let span = second_span(nest, m);
+    record::field_said(record::part(block, span), f, block::revision(block))
 }
 
-fn number_of(a: Answer) -> Number
-    ensures { number_says result ≡ unsigned_of (answer_says a) }
+// The unsigned number that a field answers, if it answers one.
+fn number_of(a: Answer) -> Option<u64>
+    ensures { result ≡ unsigned_of (answer_says a) }
 {
     match a {
-        Answer::Field(v) => match v {
-            Value::Unsigned(n) => Number::Is(n),
-            Value::Signed(_) => Number::Not,
-            Value::Single(_) => Number::Not,
-            Value::Double(_) => Number::Not,
-            Value::SingleNan(_) => Number::Not,
-            Value::DoubleNan(_) => Number::Not,
-            Value::DoNotUse => Number::Not,
-            Value::NotInRevision => Number::Not,
-        },
-        Answer::Refused(_) => Number::Not,
+        Ok(Value::Unsigned(n)) => Some(n),
+        _ => None,
     }
 }
 
@@ -94,17 +67,17 @@ fn number_at(
     kind: u8,
     s: &[u8],
     revision: u8,
-) -> Number
+) -> Option<u64>
     requires { (at + count ≤ field_count table.now) × (every (ends_by revision (length s.now)) (tabulate (field_at table.now) at count) ≡ true) × (kind ≤ 4) }
-    ensures result_value { number_says result ≡ unsigned_at revision s.now kind (pick (tabulate (field_at table.now) at count) j) }
-    ensures number_below { NumberBelow (256 ^ size_of kind) result }
+    ensures result_value { result ≡ unsigned_at revision s.now kind (pick (tabulate (field_at table.now) at count) j) }
+    ensures number_below { IfSome result (λ n. n < 256 ^ size_of kind) }
 {
     if count <= j {
-        return Number::Not;
+        return None;
     }
     let f = rows::field_at(table, at + j);
     if f.kind != kind {
-        return Number::Not;
+        return None;
     }
     number_of(record::field_said(s, f, revision))
 }
@@ -118,44 +91,51 @@ fn pair_at(
     kind: u8,
     s: &[u8],
     revision: u8,
-) -> Pair
+) -> Option<(u64, u64)>
     requires { (at + count ≤ field_count table.now) × (every (ends_by revision (length s.now)) (tabulate (field_at table.now) at count) ≡ true) × (kind ≤ 4) }
-    ensures result_value { pair_says result ≡ pair_at revision s.now j kind (tabulate (field_at table.now) at count) }
-    ensures pair_below { PairBelow (256 ^ size_of kind) result }
+    ensures result_value { result ≡ pair_at revision s.now j kind (tabulate (field_at table.now) at count) }
+    ensures pair_below { IfSome result (λ p. p.1 < 256 ^ size_of kind) }
 {
     let high = number_at(table, at, count, 3, 1, s, revision);
     let low = number_at(table, at, count, j, kind, s, revision);
-    match high {
-        Number::Is(x) => match low {
-            Number::Is(y) => Pair::Both(x, y),
-            Number::Not => Pair::Not,
-        },
-        Number::Not => Pair::Not,
-    }
+    high.zip(low)
 }
 
 // Misc and CodeLSB of a first-level sub-block.
-fn first_pair(table: &[u8], row: Row, block: &[u8], k: usize, nest: Nest) -> Pair
+fn first_pair(table: &[u8], row: Row, block: &[u8], k: usize, nest: Nest) -> Option<(u64, u64)>
     requires { (table_ok table.now ≡ true) × SubFine table.now block.now k row nest }
-    ensures result_value { pair_says result ≡ first_pair (block_of table.now row) block.now nest }
-    ensures pair_below { PairBelow 4294967296 result }
+    ensures result_value { result ≡ first_pair (block_of table.now row) block.now nest }
+    ensures pair_below { IfSome result (λ p. p.1 < 4294967296) }
 {
     let at = row.start + row.bodies;
     let count = table::first_count(row);
     let revision = block::revision(block);
-    let span = nest.first;
-    pair_at(table, at, count, 4, 3, record::part(block, span), revision)
+    pair_at(
+        table,
+        at,
+        count,
+        4,
+        3,
+        record::part(block, nest.first),
+        revision,
+    )
 }
 
 // OffsetsMSB and CodeOffsetLSB of a second-level one.
-fn second_pair(table: &[u8], row: Row, block: &[u8], k: usize, nest: Nest, m: usize) -> Pair
+fn second_pair(
+    table: &[u8],
+    row: Row,
+    block: &[u8],
+    k: usize,
+    nest: Nest,
+    m: usize,
+) -> Option<(u64, u64)>
     requires { (table_ok table.now ≡ true) × SubFine table.now block.now k row nest × (m < nest.count) }
-    ensures result_value { pair_says result ≡ second_pair (block_of table.now row) block.now (Some (second_at nest m)) }
-    ensures pair_below { PairBelow 65536 result }
+    ensures result_value { result ≡ second_pair (block_of table.now row) block.now (Some (second_at nest m)) }
+    ensures pair_below { IfSome result (λ p. p.1 < 65536) }
 {
-    let first = row.firsts;
-    let count = row.subs - first;
-    let at = row.start + row.bodies + first;
+    let count = row.subs - row.firsts;
+    let at = row.start + row.bodies + row.firsts;
     let revision = block::revision(block);
     let span = second_span(nest, m);
     pair_at(table, at, count, 6, 2, record::part(block, span), revision)
@@ -165,7 +145,7 @@ fn is_epoch(block: &[u8], row: Row) -> bool
     requires { 8 ≤ length block.now }
     ensures { result ≡ (eqb (number_in block.now) 4027 && not (eqb row.firsts 0)) }
 {
-    (block::number(block) == 4027) & (row.firsts != 0)
+    block::number(block) == 4027 && row.firsts != 0
 }
 
 // The pseudorange of first-level sub-block k of a block.
@@ -173,15 +153,11 @@ pub fn range(table: &[u8], block: &[u8], k: usize) -> Answer
     requires { table_ok table.now ≡ true }
     ensures { Answers result (range_field (decode table.now) block.now k) }
 {
-    match block::sub_row_of(table, block, k) {
-        SubMatched::At(row, nest) => {
-            if !is_epoch(block, row) {
-                return Answer::Refused(Refusal::NoSuchField);
-            }
-            pseudorange::range(first_pair(table, row, block, k, nest))
-        }
-        SubMatched::Refused(x) => Answer::Refused(x),
+    let (row, nest) = block::sub_row_of(table, block, k)?;
+    if !is_epoch(block, row) {
+        return Err(Refusal::NoSuchField);
     }
+    pseudorange::range(first_pair(table, row, block, k, nest))
 }
 
 // The pseudorange of sub-block m nested in it.
@@ -189,15 +165,11 @@ pub fn range2(table: &[u8], block: &[u8], k: usize, m: usize) -> Answer
     requires { table_ok table.now ≡ true }
     ensures { Answers result (range2_field (decode table.now) block.now k m) }
 {
-    match block::sub_row_of(table, block, k) {
-        SubMatched::At(row, nest) => {
-            if !is_epoch(block, row) | (nest.count <= m) {
-                return Answer::Refused(Refusal::NoSuchField);
-            }
-            let first = first_pair(table, row, block, k, nest);
-            let second = second_pair(table, row, block, k, nest, m);
-            pseudorange::range2(first, second)
-        }
-        SubMatched::Refused(x) => Answer::Refused(x),
+    let (row, nest) = block::sub_row_of(table, block, k)?;
+    if !is_epoch(block, row) || nest.count <= m {
+        return Err(Refusal::NoSuchField);
     }
+    let first = first_pair(table, row, block, k, nest);
+    let second = second_pair(table, row, block, k, nest, m);
+    pseudorange::range2(first, second)
 }
