@@ -119,28 +119,12 @@ fn stamped(block: &[u8], f: FieldRow) -> Answer
 pub fn tow(block: &[u8]) -> Answer
     ensures { Answers result (stamp tow_row block.now) }
 {
-    stamped(
-        block,
-        FieldRow {
-            offset: 8,
-            kind: 3,
-            first: 0,
-            mark: 1,
-        },
-    )
+    stamped(block, rows::TOW)
 }
 
 // The week number of a block.
 pub fn wnc(block: &[u8]) -> Answer
     ensures { Answers result (stamp wnc_row block.now) }
 {
-    stamped(
-        block,
-        FieldRow {
-            offset: 12,
-            kind: 2,
-            first: 0,
-            mark: 1,
-        },
-    )
+    stamped(block, rows::WNC)
 }
