@@ -110,15 +110,8 @@ fn first_pair(table: &[u8], row: Row, block: &[u8], k: usize, nest: Nest) -> Opt
     let at = row.start + row.bodies;
     let count = table::first_count(row);
     let revision = block::revision(block);
-    pair_at(
-        table,
-        at,
-        count,
-        4,
-        3,
-        record::part(block, nest.first),
-        revision,
-    )
+    let span = nest.first;
+    pair_at(table, at, count, 4, 3, record::part(block, span), revision)
 }
 
 // OffsetsMSB and CodeOffsetLSB of a second-level one.
