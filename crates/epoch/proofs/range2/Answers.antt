@@ -19,5 +19,7 @@ returns-then-not-is_epoch c =
 
 pub returns : goal.returns
 returns c =
+    let second = c.second_pair-second.ensures.result_value in
+    let there = rw c.second_span-span.ensures at second in
     range2_says _ _ _ c.in_ok-row.ensures c.is_epoch.ensures _ c.if-not-is_epoch.false c.if-nest-m.false
-    c.first_pair-first.ensures.result_value c.second_pair-second.ensures.result_value c.range2.ensures
+    c.first_pair-first.ensures.result_value there c.range2.ensures
