@@ -1,4 +1,4 @@
--- A second-level sub-block that is there: it lies in the block.
+-- The second-level sub-blocks of a first-level one, by their number, and where they end.
 -- Assumes nothing.
 use mathlib.Core.List.{List}
 use Rattle.std.proofs.Common.{None, Some}
@@ -29,6 +29,3 @@ second_ends n m h =
     let v : suc m * n.size ≤ n.count * n.size = mul-le-mul_right n.size h in
     let w = suc-mul m n.size in
     omega arith
-
-pub second_within : (b : List ℕ) (k : ℕ) (r : Shape) (n : Nest) → SubFine b k r n → (m : ℕ) → m < n.count → (second_at n m).at + (second_at n m).size ≤ length b
-second_within b k r n fine m h = omega (arith, fine.within, second_ends n m h)
