@@ -82,13 +82,13 @@ def functions(document, text):
     """`crate::name`, also through a module, is a function or a type of the crate."""
     for crate, name in sorted(set(re.findall(r"`(\w+)::(?:\w+::)*(\w+)`", text))):
         if crate in CRATES:
-            found = re.search(rf"\b(fn|struct|enum|const) {name}\b", CODE[crate])
+            found = re.search(rf"\b(fn|struct|enum|type|const) {name}\b", CODE[crate])
             CASES.expect(f"{document}: {crate}::{name}", found, f"crates/{crate}/src has no such item")
 
 
 def defines(file, name):
     """Whether a file of code or of definitions has a line that says what a name is, and not only one that uses it."""
-    start = r"(fn|struct|enum|const|mod)" if file.endswith(".rt") else r"^(?!use\b)\s*(unfoldable|abbrev)?\s*(pub)?\s*(record|data)?"
+    start = r"(fn|struct|enum|type|const|mod)" if file.endswith(".rt") else r"^(?!use\b)\s*(unfoldable|abbrev)?\s*(pub)?\s*(record|data)?"
     return re.search(rf"{start}\s*\b{name}(?![\w·])", read(os.path.join("crates", file)), re.M)
 
 

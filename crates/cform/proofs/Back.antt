@@ -13,8 +13,6 @@ use Rattle.reader.specs.declared.State.{State}
 use Rattle.runs.specs.declared.Fed.{Fed}
 use Rattle.runs.specs.declared.Finished.{Finished}
 use Rattle.runs.specs.declared.Finished.TheVariants as finished
-use Rattle.writer.specs.declared.Written.{Written}
-use Rattle.writer.specs.declared.Written.TheVariants as written
 use Rattle.writer.specs.Write.{write_refused, written_says}
 use Rattle.refusal.specs.Numbers.{number_for}
 use Rattle.refusal.specs.declared.Refusal.{Refusal}
@@ -93,9 +91,9 @@ refusal_back_lem BadValues = refl
 refusal_back_lem NoRoom = refl
 refusal_back_lem BadCeiling = refl
 
-written_back_lem : (a : Written) → written_back (written_c (written_says a)) ≡ written_says a
-written_back_lem (written.Length n) = refl
-written_back_lem (written.Refused x) = refusal_back_lem x
+written_back_lem : (a : Result ℕ Refusal) → written_back (written_c (written_says a)) ≡ written_says a
+written_back_lem (Ok n) = refl
+written_back_lem (Err x) = refusal_back_lem x
 
 pub nothing_lost : NothingLost
 nothing_lost =

@@ -11,7 +11,6 @@ use Rattle.runs.specs.declared.Finished.{Finished}
 use Rattle.reader.specs.Said.{Report, Said, refused, version, took, found, ended, waited}
 use Rattle.tables.specs.Said.{said_version, said_withdrawn}
 use Rattle.runs.specs.Said.{said_fed, said_finished}
-use Rattle.writer.specs.declared.Written.{Written}
 use Rattle.writer.specs.Write.{WriteSaid, wrote, write_refused, written_says}
 use Rattle.cform.specs.State.{counts_back, settings_c, settings_back, state_of, state_c}
 use Rattle.cform.specs.Answer.{answer_c, field_c}
@@ -62,4 +61,4 @@ pub record NothingLost : Type 0 where
   pub finished : (a : Result Finished Refusal) → answer_back true (answer_c (said_finished a)) ≡ said_finished a
   pub withdrawn : (a : Result Bool Refusal) → answer_back false (answer_c (said_withdrawn a)) ≡ said_withdrawn a
   pub fields : (a : FieldSaid) → field_back (field_c a) ≡ a
-  pub written : (a : Written) → written_back (written_c (written_says a)) ≡ written_says a
+  pub written : (a : Result ℕ Refusal) → written_back (written_c (written_says a)) ≡ written_says a

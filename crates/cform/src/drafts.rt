@@ -1,12 +1,21 @@
 // What Write is given and answers: from C's, and as C has it.
 ghost use Rattle.std.specs.Prelude.{◌≡◌};
 ghost use Rattle.writer.specs.Write.{written_says};
-ghost use Rattle.cform.specs.Draft.{head_of, written_c};
+ghost use Rattle.cform.specs.Draft.{entry_of, head_of, written_c};
 
 use crate::{CValue, CWritten};
 use draft::Head;
 use entry::Entry;
-use writer::Written;
+use refusal::Refusal;
+
+fn entry_of(v: CValue) -> Entry
+    ensures { result ≡ entry_of v }
+{
+    Entry {
+        kind: v.kind,
+        bits: v.bits,
+    }
+}
 
 // What the block begins with.
 pub fn head_of(number: u64, revision: u64, tow: CValue, wnc: CValue) -> Head
@@ -15,27 +24,21 @@ pub fn head_of(number: u64, revision: u64, tow: CValue, wnc: CValue) -> Head
     Head {
         number,
         revision,
-        tow: Entry {
-            kind: tow.kind,
-            bits: tow.bits,
-        },
-        wnc: Entry {
-            kind: wnc.kind,
-            bits: wnc.bits,
-        },
+        tow: entry_of(tow),
+        wnc: entry_of(wnc),
     }
 }
 
-pub fn written_c(w: Written) -> CWritten
+pub fn written_c(w: Result<usize, Refusal>) -> CWritten
     ensures { result ≡ written_c (written_says w) }
 {
     match w {
-        Written::Length(n) => CWritten {
+        Ok(n) => CWritten {
             refusal: 0,
             length: n,
         },
-        Written::Refused(x) => CWritten {
-            refusal: u32::from(x),
+        Err(why) => CWritten {
+            refusal: u32::from(why),
             length: 0,
         },
     }

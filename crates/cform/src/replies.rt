@@ -24,13 +24,10 @@ pub fn fed_c(a: Result<Fed, Refusal>) -> CAnswer
     ensures { result ≡ answer_c (said_fed a) }
 {
     match a {
-        Ok(
-            Fed {
-                taken,
-                block: Some(b),
-            },
-        ) => answers::block_c(taken, b),
-        Ok(Fed { taken, block: None }) => answers::no_block(0, 3, 0, 0, taken),
+        Ok(fed) => match fed.block {
+            Some(b) => answers::block_c(fed.taken, b),
+            None => answers::no_block(0, 3, 0, 0, fed.taken),
+        },
         Err(why) => answers::refused_c(why),
     }
 }

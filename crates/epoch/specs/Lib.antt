@@ -1,3 +1,2 @@
 pub mod Second
 pub mod Ranges
-pub mod Code

@@ -2,6 +2,7 @@
 -- C16, R9).
 -- Assumes nothing.
 use Rattle.std.specs.Prelude.{ℕ, Bool, not, ◌&&◌, cond, List, eqb, Option, None, Some}
+use Rattle.std.specs.Option.{option_zip}
 use Rattle.kinds.specs.Types.{u1, u2, u4}
 use Rattle.rows.specs.declared.FieldRow.{FieldRow}
 use Rattle.table.specs.Lists.{pick}
@@ -12,7 +13,7 @@ use Rattle.walk.specs.declared.Nest.{Nest}
 use Rattle.walk.specs.Walk.{seconds}
 use Rattle.block.specs.Block.{number_in, revision_in, nest_of, Seen, refused_by, row, seen_sub}
 use Rattle.record.specs.Calls.{field_said, sub_slice}
-use Rattle.pseudorange.specs.Range.{Two, range_said, range2_said}
+use Rattle.pseudorange.specs.Range.{range_said, range2_said}
 
 -- R9: the number, where an unsigned one is answered
 abbrev pub unsigned_of : FieldSaid → Option ℕ
@@ -29,21 +30,16 @@ abbrev pub unsigned_at : ℕ → List ℕ → ℕ → Option FieldRow → Option
 unsigned_at revision s kind None = None
 unsigned_at revision s kind (Some f) = cond (eqb f.kind kind) (unsigned_of (field_said revision s f)) None
 
-abbrev pub both_of : Option ℕ → Option ℕ → Option Two
-both_of None y = None
-both_of (Some x) None = None
-both_of (Some x) (Some y) = Some (record { high = x; low = y })
-
 -- V11, V12: of these rows field 3, a u1, and field j, of the type given
-unfoldable pub pair_at : ℕ → List ℕ → ℕ → ℕ → List FieldRow → Option Two
-pair_at revision s j kind rows = both_of (unsigned_at revision s u1 (pick rows 3)) (unsigned_at revision s kind (pick rows j))
+unfoldable pub pair_at : ℕ → List ℕ → ℕ → ℕ → List FieldRow → Option (ℕ × ℕ)
+pair_at revision s j kind rows = option_zip (unsigned_at revision s u1 (pick rows 3)) (unsigned_at revision s kind (pick rows j))
 
 -- V11: Misc and CodeLSB of a first-level sub-block
-abbrev pub first_pair : BlockRow → List ℕ → Nest → Option Two
+abbrev pub first_pair : BlockRow → List ℕ → Nest → Option (ℕ × ℕ)
 first_pair r b n = pair_at (revision_in b) (sub_slice b n.first) 4 u4 (first_rows r)
 
 -- V12: OffsetsMSB and CodeOffsetLSB of a second-level one
-abbrev pub second_pair : BlockRow → List ℕ → Option Span → Option Two
+abbrev pub second_pair : BlockRow → List ℕ → Option Span → Option (ℕ × ℕ)
 second_pair r b None = None
 second_pair r b (Some s) = pair_at (revision_in b) (sub_slice b s) 6 u2 (second_rows r)
 

@@ -1,7 +1,7 @@
 // Lists the blocks of standard input, read as one run: a line for each, and last the run's counts (rule S11).
 #![tactic(auto)]
 
-ghost use Rattle.std.specs.Prelude.{◌+◌, ◌≤◌, length, IfSome};
+ghost use Rattle.std.specs.Prelude.{◌≤◌, length, IfSome};
 
 use console::{Failure, Output};
 use reader::{After, Block, State};

@@ -3,9 +3,10 @@
 
 ghost use Rattle.std.specs.Prelude.{◌≤◌, ◌≡◌, T, length};
 ghost use Rattle.crc.specs.Crc.{crc_of};
+ghost use Rattle.record.specs.Answer.{no_nan_in};
 ghost use Rattle.desk.specs.Plain.{plainly};
 ghost use Rattle.reader.specs.Outcome.{outcome};
-ghost use Rattle.tables.specs.Said.{said_opened};
+ghost use Rattle.tables.specs.Said.{said_version};
 ghost use Rattle.tables.specs.Calls.{open_of};
 ghost use Rattle.play.specs.Turns.{plain};
 ghost use Rattle.play.specs.Opening.{settings_by};
@@ -14,18 +15,18 @@ mod replies; // replies.rt: what a call that may write answered, and Write, as a
 
 use desk::{AskReply, Crcs, Desk, PartCrc, RunReply};
 use lists::LineRead;
-use reader::{Check, Settings, State};
-use record::{Answer, Handed};
+use reader::{After, Settings, State};
+use record::Answer;
+use refusal::Refusal;
 use script::{Ask, Buffer, LineCall, RunCall};
-use tables::OpenAnswer;
 
 // What a line came to: nothing to print, a bad line, or what its call replied.
 #[derive(Clone, Copy)]
 pub enum Turn {
     Quiet,
     Bad,
-    Ran(RunReply),
-    Asked(AskReply),
+    Ran(Result<RunReply, Refusal>),
+    Asked(Result<AskReply, Refusal>),
 }
 
 // The desk after a line, and what the line came to.
@@ -39,20 +40,14 @@ pub struct Played {
 fn quiet(desk: Desk, good: bool) -> Played
     ensures { T (plain result.turn) }
 {
-    if good {
-        return Played {
-            desk,
-            turn: Turn::Quiet,
-        };
-    }
     Played {
         desk,
-        turn: Turn::Bad,
+        turn: if good { Turn::Quiet } else { Turn::Bad },
     }
 }
 
 // After a call that the reader answers, every buffer is lent whole again.
-fn ran(state: State, reply: RunReply) -> Played
+fn ran(state: State, reply: Result<RunReply, Refusal>) -> Played
     ensures { T (plain result.turn) }
 {
     Played {
@@ -73,8 +68,8 @@ fn settings_by(ceiling: Option<u64>) -> Settings
     }
 }
 
-fn open(s: State, ceiling: Option<u64>, force: &mut [u8], waiting: &[u8]) -> OpenAnswer
-    ensures { outcome (said_opened result.answer) result.state force.new ≡ open_of s (settings_by ceiling) force.old waiting.now }
+fn open(s: State, ceiling: Option<u64>, force: &mut [u8], waiting: &[u8]) -> After<u16>
+    ensures { outcome (said_version result.answer) result.state force.new ≡ open_of s (settings_by ceiling) force.old waiting.now }
 {
     tables::open(s, settings_by(ceiling), force, waiting)
 }
@@ -93,28 +88,23 @@ fn run_on(
     match run {
         RunCall::Open(ceiling) => {
             let r = open(s, ceiling, force, waiting);
-            let answer = r.answer;
-            ran(r.state, replies::opened(answer))
+            ran(r.state, replies::opened(r.answer))
         }
         RunCall::Feed => {
             let r = runs::feed(s, hold, given);
-            let answer = r.answer;
-            ran(r.state, replies::fed(answer))
+            ran(r.state, replies::fed(r.answer))
         }
         RunCall::Finish => {
             let r = runs::finish(s, hold);
-            let answer = r.answer;
-            ran(r.state, replies::finished(answer))
+            ran(r.state, replies::finished(r.answer))
         }
         RunCall::Stage => {
             let r = tables::stage(s, waiting, given);
-            let answer = r.answer;
-            ran(r.state, replies::staged(answer))
+            ran(r.state, replies::staged(r.answer))
         }
         RunCall::Withdraw => {
             let r = tables::withdraw(s);
-            let answer = r.answer;
-            ran(r.state, replies::withdrawn(answer))
+            ran(r.state, replies::withdrawn(r.answer))
         }
     }
 }
@@ -165,46 +155,51 @@ fn handed(bytes: &[u8]) -> PartCrc
 }
 
 // The block just reported.
-fn bytes(s: State, hold: &[u8]) -> AskReply
+fn bytes(s: State, hold: &[u8]) -> Result<AskReply, Refusal>
     ensures { T (plainly result) }
 {
-    let check = runs::bytes_refused(s, hold);
-    match check {
-        Check::Refused(why) => AskReply::Refused(why),
-        Check::Passed => AskReply::Bytes(handed(runs::bytes(s, hold))),
-    }
+    runs::bytes_refused(s, hold)?;
+    Ok(AskReply::Bytes(handed(runs::bytes(s, hold))))
 }
 
 // A sub-block of a record.
-fn sub_bytes(s: State, force: &[u8], block: &[u8], k: usize) -> AskReply
+fn sub_bytes(s: State, force: &[u8], block: &[u8], k: usize) -> Result<AskReply, Refusal>
     ensures { T (plainly result) }
 {
-    let refused = records::sub_bytes_refused(s, force, block, k);
-    match refused {
-        Handed::Refused(why) => AskReply::Refused(why),
-        Handed::Given => AskReply::Bytes(handed(records::sub_bytes(s, force, block, k))),
-    }
+    records::sub_bytes_refused(s, force, block, k)?;
+    Ok(AskReply::Bytes(handed(records::sub_bytes(s, force, block, k))))
+}
+
+// What a field answers.
+fn field(a: Answer) -> Result<AskReply, Refusal>
+    requires { T (no_nan_in a) }
+    ensures { T (plainly result) }
+{
+    Ok(AskReply::Field(a?))
 }
 
 // A call that is lent nothing to write, on what it is lent of each buffer. `tow` and `wnc` read no buffer.
-fn ask_on(s: State, ask: Ask, given: &[u8], hold: &[u8], force: &[u8]) -> AskReply
+fn ask_on(
+    s: State,
+    ask: Ask,
+    given: &[u8],
+    hold: &[u8],
+    force: &[u8],
+) -> Result<AskReply, Refusal>
     ensures { T (plainly result) }
 {
     match ask {
         Ask::Bytes => bytes(s, hold),
-        Ask::Body(i) => AskReply::Field(records::body(s, force, given, i as usize)),
-        Ask::Sub(k, j) => AskReply::Field(records::sub(s, force, given, k as usize, j as usize)),
+        Ask::Body(i) => field(records::body(s, force, given, i as usize)),
+        Ask::Sub(k, j) => field(records::sub(s, force, given, k as usize, j as usize)),
         Ask::SubBytes(k) => sub_bytes(s, force, given, k as usize),
         Ask::Sub2(k, m, j) => {
-            let r = epochs::sub2(s, force, given, k as usize, m as usize, j as usize);
-            AskReply::Field(r)
+            field(epochs::sub2(s, force, given, k as usize, m as usize, j as usize))
         }
-        Ask::Range(k) => AskReply::Field(epochs::range(s, force, given, k as usize)),
-        Ask::Range2(k, m) => AskReply::Field(epochs::range2(
-            s, force, given, k as usize, m as usize,
-        )),
-        Ask::Tow => AskReply::Field(records::tow(s, given)),
-        Ask::Wnc => AskReply::Field(records::wnc(s, given)),
+        Ask::Range(k) => field(epochs::range(s, force, given, k as usize)),
+        Ask::Range2(k, m) => field(epochs::range2(s, force, given, k as usize, m as usize)),
+        Ask::Tow => field(records::tow(s, given)),
+        Ask::Wnc => field(records::wnc(s, given)),
     }
 }
 

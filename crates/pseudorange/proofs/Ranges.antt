@@ -1,7 +1,7 @@
--- V11 by its mask, V12's sum case by case, Do-Not-Use, and what is answered.
+-- V12's sum case by case, its Do-Not-Use, and that every pseudorange fits.
 -- Assumes nothing.
 use mathlib.Core.Path.{◌≡◌, refl, sym, ap, ◌∙◌, subst}
-use mathlib.Core.Bool.{Bool, true, false, ◌&&◌, ◌||◌}
+use mathlib.Core.Bool.{Bool, ◌&&◌}
 use Prim.Native.Nat.{ℕ, suc, ◌+◌, ◌*◌, ◌-◌, ◌%◌, ◌<◌, ◌≤◌}
 use native.Mathlib.Omega.{arith}
 use lib.Bits.{bit_and, and_mask}
@@ -10,23 +10,8 @@ use lib.IntN.{ℤ, pos, negsuc, neg_ℤ, ◌+ℤ◌, ◌*ℤ◌}
 use borrow.Author.Tests.{lt-ltb, le-ltb, ne_eqb}
 use Rattle.wire.proofs.Tests.{lt?, eq?}
 use Rattle.value.specs.Bits.{with_sign}
-use Rattle.value.specs.declared.Value.TheVariants.{Signed, DoNotUse}
-use Rattle.record.specs.declared.Answer.TheVariants.{Field}
-use Rattle.record.specs.Answer.{Answers}
-use Rattle.pseudorange.specs.declared.Pair.TheVariants.{Both}
-use Rattle.pseudorange.specs.Range.{first_range, no_first, second_range, no_offset, is_minus4, range_said, range2_said}
-use Rattle.pseudorange.specs.Code.{pair_says}
+use Rattle.pseudorange.specs.Range.{first_range, second_range, no_offset, is_minus4}
 use Rattle.pseudorange.specs.Theorems.{Between, RangesFit}
-
--- V11
-pub low_4 : (x : ℕ) → bit_and x 15 ≡ x % 16
-low_4 x = and_mask x 4
-
-pub first_is : (misc lsb : ℕ) → bit_and misc 15 * 4294967296 + lsb ≡ first_range misc lsb
-first_is misc lsb = ap (λ (n : ℕ). n * 4294967296 + lsb) (low_4 misc)
-
-pub no_first_is : (misc lsb : ℕ) → (eqb (bit_and misc 15) 0 && eqb lsb 0) ≡ no_first misc lsb
-no_first_is misc lsb = ap (λ (n : ℕ). eqb n 0 && eqb lsb 0) (low_4 misc)
 
 -- V12
 pub low_3 : (x : ℕ) → bit_and x 7 ≡ x % 8
@@ -70,23 +55,6 @@ minus_4 m h =
 pub no_offset_is : (offsets lsb : ℕ) → (eqb (bit_and offsets 7) 4 && eqb lsb 0) ≡ no_offset offsets lsb
 no_offset_is offsets lsb =
     ap (λ (n : ℕ). eqb n 4 && eqb lsb 0) (low_3 offsets) ∙ ap (λ (t : Bool). t && eqb lsb 0) (minus_4 (offsets % 8) (omega arith))
-
--- what is answered
-module _ (misc code : ℕ) where
-  pub no_range : no_first misc code ≡ true → Answers (Field DoNotUse) (range_said (pair_says (Both misc code)))
-  no_range e = rw e (record { says = refl; case = refl })
-
-  pub a_range : no_first misc code ≡ false → {z : ℤ} → z ≡ pos (first_range misc code) → Answers (Field (Signed z)) (range_said (pair_says (Both misc code)))
-  a_range e q = rw (e, q) (record { says = refl; case = refl })
-
-  module _ (offsets lsb : ℕ) where
-    pub no_second : (no_first misc code || no_offset offsets lsb) ≡ true
-        → Answers (Field DoNotUse) (range2_said (pair_says (Both misc code)) (pair_says (Both offsets lsb)))
-    no_second e = rw e (record { says = refl; case = refl })
-
-    pub a_second : (no_first misc code || no_offset offsets lsb) ≡ false → {z : ℤ} → z ≡ second_range (first_range misc code) offsets lsb
-        → Answers (Field (Signed z)) (range2_said (pair_says (Both misc code)) (pair_says (Both offsets lsb)))
-    a_second e q = rw (e, q) (record { says = refl; case = refl })
 
 -- from -262,144 to 68,719,738,879
 second_fits : (first offsets lsb m : ℕ) → m ≡ offsets % 8 → m < 8 → first < 68719476736 → lsb < 65536 → Between 262144 68719738879 (second_range first offsets lsb)

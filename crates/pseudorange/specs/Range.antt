@@ -36,20 +36,14 @@ is_minus4 (negsuc n) = eqb n 3
 abbrev pub no_offset : ℕ → ℕ → Bool
 no_offset offsets lsb = is_minus4 (code_offset_msb offsets) && eqb lsb 0
 
--- two numbers of a sub-block: Misc and CodeLSB, or OffsetsMSB and CodeOffsetLSB
-pub record Two : Type 0 where
-  pub high : ℕ
-  pub low : ℕ
-
--- C16: what Range answers; R9: one of them is no number
-abbrev pub range_said : Option Two → FieldSaid
+-- C16: what Range answers, by Misc and CodeLSB; R9: one of them is no number
+abbrev pub range_said : Option (ℕ × ℕ) → FieldSaid
 range_said None = field_refused 9
-range_said (Some p) = cond (no_first p.high p.low) do_not_use (signed (pos (first_range p.high p.low)))
+range_said (Some p) = cond (no_first p.0 p.1) do_not_use (signed (pos (first_range p.0 p.1)))
 
--- C16: what Range2 answers; R9 comes before Do-Not-Use
-abbrev pub range2_said : Option Two → Option Two → FieldSaid
+-- C16: what Range2 answers, by the same, OffsetsMSB and CodeOffsetLSB; R9 comes before Do-Not-Use
+abbrev pub range2_said : Option (ℕ × ℕ) → Option (ℕ × ℕ) → FieldSaid
 range2_said None q = field_refused 9
 range2_said (Some p) None = field_refused 9
 range2_said (Some p) (Some q) =
-    cond (no_first p.high p.low || no_offset q.high q.low) do_not_use
-    (signed (second_range (first_range p.high p.low) q.high q.low))
+    cond (no_first p.0 p.1 || no_offset q.0 q.1) do_not_use (signed (second_range (first_range p.0 p.1) q.0 q.1))

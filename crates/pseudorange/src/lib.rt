@@ -1,22 +1,14 @@
 // Pseudoranges of a MeasEpoch, in whole millimetres (rules V11, V12), from the numbers in its fields.
 #![tactic(auto)]
 
-ghost use Rattle.std.specs.Prelude.{◌≡◌, ◌≤◌, ◌<◌};
+ghost use Rattle.std.specs.Prelude.{◌≡◌, ◌<◌, IfSome};
 ghost use Rattle.record.specs.Answer.{Answers};
 ghost use Rattle.pseudorange.specs.Range.{first_range, no_first, second_range, no_offset, range_said, range2_said};
-ghost use Rattle.pseudorange.specs.Code.{pair_says, PairBelow};
 ghost use Rattle.pseudorange.specs.Theorems.{RangesFit};
 
 use record::Answer;
 use refusal::Refusal;
 use value::Value;
-
-// The numbers in two fields: bits that lead, and the low part. Or one of them is no number.
-#[derive(Clone, Copy)]
-pub enum Pair {
-    Both(u64, u64),
-    Not,
-}
 
 // V11: by a mask, as the ID is taken apart.
 fn first_range(misc: u64, lsb: u64) -> u64
@@ -31,7 +23,7 @@ fn no_first(misc: u64, lsb: u64) -> bool
     ensures { result ≡ no_first misc lsb }
 {
     let msb = misc & 15;
-    (msb == 0) & (lsb == 0)
+    msb == 0 && lsb == 0
 }
 
 // V12: three bits in two's complement; with the first of them set the offset lies `down` below the sum's other part.
@@ -55,47 +47,32 @@ fn no_offset(offsets: u64, lsb: u64) -> bool
     ensures { result ≡ no_offset offsets lsb }
 {
     let msb = offsets & 7;
-    (msb == 4) & (lsb == 0)
+    msb == 4 && lsb == 0
 }
 
-// What Range answers, by Misc and CodeLSB.
-pub fn range(p: Pair) -> Answer
-    requires { PairBelow 4294967296 p }
-    ensures { Answers result (range_said (pair_says p)) }
+// What Range answers, by Misc and CodeLSB, where both are numbers.
+pub fn range(p: Option<(u64, u64)>) -> Answer
+    requires { IfSome p (λ n. n.1 < 4294967296) }
+    ensures { Answers result (range_said p) }
 {
-    match p {
-        Pair::Both(misc, lsb) => {
-            if no_first(misc, lsb) {
-                return Answer::Field(Value::DoNotUse);
-            }
-            Answer::Field(Value::Signed(first_range(misc, lsb) as i64))
-        }
-        Pair::Not => Answer::Refused(Refusal::NoSuchField),
+    let (misc, lsb) = p.ok_or(Refusal::NoSuchField)?;
+    if no_first(misc, lsb) {
+        return Ok(Value::DoNotUse);
     }
+    Ok(Value::Signed(first_range(misc, lsb) as i64))
 }
 
 // What Range2 answers, by the same, OffsetsMSB and CodeOffsetLSB, where all four are numbers.
-fn both_ranges(misc: u64, code: u64, offsets: u64, lsb: u64) -> Answer
-    requires { (code < 4294967296) × (lsb < 65536) }
-    ensures { Answers result (range2_said (pair_says (Pair.Both misc code)) (pair_says (Pair.Both offsets lsb))) }
+pub fn range2(p: Option<(u64, u64)>, q: Option<(u64, u64)>) -> Answer
+    requires { IfSome p (λ n. n.1 < 4294967296) × IfSome q (λ n. n.1 < 65536) }
+    ensures { Answers result (range2_said p q) }
 {
-    if no_first(misc, code) | no_offset(offsets, lsb) {
-        return Answer::Field(Value::DoNotUse);
+    let (misc, code) = p.ok_or(Refusal::NoSuchField)?;
+    let (offsets, lsb) = q.ok_or(Refusal::NoSuchField)?;
+    if no_first(misc, code) || no_offset(offsets, lsb) {
+        return Ok(Value::DoNotUse);
     }
-    Answer::Field(Value::Signed(second_range(first_range(misc, code), offsets, lsb)))
-}
-
-pub fn range2(p: Pair, q: Pair) -> Answer
-    requires { (PairBelow 4294967296 p) × (PairBelow 65536 q) }
-    ensures { Answers result (range2_said (pair_says p) (pair_says q)) }
-{
-    match p {
-        Pair::Both(misc, code) => match q {
-            Pair::Both(offsets, lsb) => both_ranges(misc, code, offsets, lsb),
-            Pair::Not => Answer::Refused(Refusal::NoSuchField),
-        },
-        Pair::Not => Answer::Refused(Refusal::NoSuchField),
-    }
+    Ok(Value::Signed(second_range(first_range(misc, code), offsets, lsb)))
 }
 
 // Every pseudorange fits the answer, with its sign.

@@ -1,8 +1,9 @@
 -- What a call answers, by the numbers and values of the rules (D9). How a block's report is read stands here, and how each answer
 -- of the code is read beside its call; no two answers of one call read the same.
 -- Assumes nothing.
-use Rattle.std.specs.Prelude.{ℕ, Bool, Option, None, Some, Result, Ok, Err}
+use Rattle.std.specs.Prelude.{ℕ, Bool, Option, Result, Ok, Err}
 use Rattle.refusal.specs.Numbers.{number_for}
+pub use Rattle.refusal.specs.Numbers.{refusal_of}
 use Rattle.refusal.specs.declared.Refusal.{Refusal}
 use Rattle.reader.specs.declared.Block.{Block}
 use Rattle.reader.specs.declared.Counts.{Counts}
@@ -34,8 +35,3 @@ pub data Said : Type 0 where
 abbrev pub said_of : {T : Type 0} → (T → Said) → Result T Refusal → Said
 said_of read (Ok x) = read x
 said_of read (Err r) = refused (number_for r)
-
--- R22: a refusal's number, or none
-abbrev pub refusal_of : {T : Type 0} → Result T Refusal → Option ℕ
-refusal_of (Ok x) = None
-refusal_of (Err r) = Some (number_for r)

@@ -10,7 +10,7 @@ use lib.ListN.{length, get_or}
 use lib.Dec.{leb}
 use Rattle.refusal.specs.declared.Refusal.{Refusal}
 use Rattle.refusal.specs.declared.Refusal.TheVariants.{NoSuchField}
-use Rattle.refusal.specs.Numbers.{number_for}
+use Rattle.refusal.specs.Numbers.{number_for, refusal_of}
 use Rattle.refusal.proofs.Numbers.{back}
 use Rattle.rows.specs.declared.FieldRow.{FieldRow}
 use Rattle.table.specs.Lists.{every, pick}
@@ -23,7 +23,7 @@ use Rattle.table.proofs.FieldRows.{fields_pick, fields_past, every_pick}
 use Rattle.walk.specs.declared.Nest.{Nest}
 use Rattle.value.specs.declared.Value.{Value}
 use Rattle.value.specs.Said.{field_refused}
-use Rattle.record.specs.Answer.{Answers, handed_says}
+use Rattle.record.specs.Answer.{Answers}
 use Rattle.block.specs.Block.{revision_in, ends_by, body_fits, Matching, SubMatching}
 use Rattle.record.specs.Calls.{field_said, field_or9, body_by, body_field, sub_slice, sub_by, sub_field, nowhere, place_by, sub_place, number_by, sub_block_refusal}
 use Rattle.record.proofs.Fields.{same}
@@ -67,7 +67,7 @@ module _ (t b : List ℕ) (k : ℕ) where
     unfolding sub_place
     place_refused = ap (place_by b k) d.is
 
-    pub twin_refused : handed_says {A = Unit} (Err x) ≡ sub_block_refusal (decode t) b k
+    pub twin_refused : refusal_of {T = Unit} (Err x) ≡ sub_block_refusal (decode t) b k
     unfolding sub_block_refusal
     twin_refused = ap number_by d.is
 
@@ -80,7 +80,7 @@ module _ (t b : List ℕ) (k : ℕ) where
     unfolding sub_place
     place_given = ap (λ (x : Nest). x.first) d.fine.stands ∙ ap (place_by b k) d.is
 
-    pub twin_given : handed_says (Ok n.first) ≡ sub_block_refusal (decode t) b k
+    pub twin_given : refusal_of (Ok n.first) ≡ sub_block_refusal (decode t) b k
     unfolding sub_block_refusal
     twin_given = ap number_by d.is
 

@@ -1,6 +1,6 @@
 -- What the code's answers say, by the rules' values and numbers (V7, D9); those of a value are the crate `value`'s, passed on here.
 -- Assumes nothing.
-use Rattle.std.specs.Prelude.{ℕ, ◌≡◌, Bool, true, Option, None, Some, Result, Ok, Err}
+use Rattle.std.specs.Prelude.{ℕ, ◌≡◌, Bool, true, Result, Ok, Err}
 use Rattle.refusal.specs.declared.Refusal.{Refusal}
 use Rattle.refusal.specs.Numbers.{number_for, refusal_numbered}
 use Rattle.value.specs.Said.{no_nan}
@@ -32,8 +32,3 @@ pub record Answers (r : Result Value Refusal) (said : FieldSaid) : Type 0 where
 abbrev pub no_nan_in : Result Value Refusal → Bool
 no_nan_in (Ok v) = no_nan v
 no_nan_in (Err r) = true
-
--- R22: what the twin call tells
-abbrev pub handed_says : {A : Type 0} → Result A Refusal → Option ℕ
-handed_says (Ok x) = None
-handed_says (Err r) = Some (number_for r)

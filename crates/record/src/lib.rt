@@ -4,12 +4,13 @@
 ghost use Rattle.std.specs.Prelude.{◌≡◌, true, ◌+◌, ◌≤◌, length};
 ghost use Rattle.std.specs.Result.{result_unwrap_or};
 ghost use Rattle.wire.specs.Parts.{offset_by};
+ghost use Rattle.refusal.specs.Numbers.{refusal_of};
 ghost use Rattle.table.specs.Lists.{every, pick};
 ghost use Rattle.table.specs.Rows.{ends};
 ghost use Rattle.table.specs.Shape.{fields_of};
 ghost use Rattle.table.specs.Decode.{decode};
 ghost use Rattle.table.specs.Rules.{table_ok};
-ghost use Rattle.record.specs.Answer.{Answers, handed_says};
+ghost use Rattle.record.specs.Answer.{Answers};
 ghost use Rattle.block.specs.Block.{ends_by};
 ghost use Rattle.record.specs.Calls.{field_said, field_or9, body_field, sub_slice, sub_field, sub_block, nowhere, sub_place, sub_block_refusal, tow_row, wnc_row, stamp};
 
@@ -74,7 +75,7 @@ pub fn sub_field(table: &[u8], block: &[u8], k: usize, j: usize) -> Answer
 // Where sub-block k of a block stands, or why there is none.
 pub fn sub_place(table: &[u8], block: &[u8], k: usize) -> Result<Span, Refusal>
     requires { table_ok table.now ≡ true }
-    ensures handed_value { handed_says result ≡ sub_block_refusal (decode table.now) block.now k }
+    ensures handed_value { refusal_of result ≡ sub_block_refusal (decode table.now) block.now k }
     ensures span_value { result_unwrap_or result nowhere ≡ sub_place (decode table.now) block.now k }
     ensures size_in_bounds { let s = result_unwrap_or result nowhere in s.at + s.size ≤ length block.now }
 {
@@ -95,7 +96,7 @@ pub fn sub_block<'a, 'b>(table: &'a [u8], block: &'b [u8], k: usize) -> &'b [u8]
 // Whether `sub_block` is refused.
 pub fn sub_block_refusal(table: &[u8], block: &[u8], k: usize) -> Result<(), Refusal>
     requires { table_ok table.now ≡ true }
-    ensures { handed_says result ≡ sub_block_refusal (decode table.now) block.now k }
+    ensures { refusal_of result ≡ sub_block_refusal (decode table.now) block.now k }
 {
     sub_place(table, block, k)?;
     Ok(())
@@ -119,28 +120,12 @@ fn stamped(block: &[u8], f: FieldRow) -> Answer
 pub fn tow(block: &[u8]) -> Answer
     ensures { Answers result (stamp tow_row block.now) }
 {
-    stamped(
-        block,
-        FieldRow {
-            offset: 8,
-            kind: 3,
-            first: 0,
-            mark: 1,
-        },
-    )
+    stamped(block, rows::TOW)
 }
 
 // The week number of a block.
 pub fn wnc(block: &[u8]) -> Answer
     ensures { Answers result (stamp wnc_row block.now) }
 {
-    stamped(
-        block,
-        FieldRow {
-            offset: 12,
-            kind: 2,
-            first: 0,
-            mark: 1,
-        },
-    )
+    stamped(block, rows::WNC)
 }

@@ -1,6 +1,6 @@
 -- The numbers of the refusals (rules R1 to R13), there and back.
 -- Assumes nothing.
-use Rattle.std.specs.Prelude.{ℕ, ◌-◌, ◌≡◌, List, [], ◌∷◌, get_or}
+use Rattle.std.specs.Prelude.{ℕ, ◌-◌, ◌≡◌, List, [], ◌∷◌, get_or, Option, None, Some, Result, Ok, Err}
 use Rattle.refusal.specs.declared.Refusal.{Refusal}
 use Rattle.refusal.specs.declared.Refusal.TheVariants.{BadBuffer, OutOfTurn, RunFull, BadTable, NoTable, NoRow, TooShort, BadSubBlocks, NoSuchField, NotOneFrame, BadValues, NoRoom, BadCeiling}
 
@@ -19,6 +19,11 @@ number_for NotOneFrame = 10
 number_for BadValues = 11
 number_for NoRoom = 12
 number_for BadCeiling = 13
+
+-- R22: the number that a call is refused with, or none
+abbrev pub refusal_of : {T : Type 0} → Result T Refusal → Option ℕ
+refusal_of (Ok x) = None
+refusal_of (Err r) = Some (number_for r)
 
 -- the refusals in the order of their numbers, and the one of a number
 abbrev pub refusals : List Refusal

@@ -1,10 +1,11 @@
 -- The lines of the calls that are lent none of the reader's buffers to write, byte by byte (docs/REPLAY.md).
 -- Assumes nothing.
-use Rattle.std.specs.Prelude.{ℕ, List, [], ◌∷◌, ◌++◌}
+use Rattle.std.specs.Prelude.{ℕ, List, [], ◌∷◌, ◌++◌, Result, Ok, Err}
 use Rattle.text.specs.Numbers.{spaced, crc_text}
 use Rattle.phrases.specs.Replies.{refused_text}
+use Rattle.refusal.specs.declared.Refusal.{Refusal}
 use Rattle.refusal.specs.Numbers.{number_for}
-use Rattle.record.specs.Answer.{answer_says}
+use Rattle.value.specs.Said.{value_says}
 use Rattle.wording.specs.Values.{field_text}
 use Rattle.desk.specs.declared.PartCrc.{PartCrc}
 use Rattle.desk.specs.declared.AskReply.{AskReply}
@@ -27,8 +28,8 @@ abbrev pub bytes_text : List ℕ → PartCrc → List ℕ
 bytes_text w b = w ++ spaced b.count ++ crc_text b.crc
 
 -- what such a call replies
-abbrev pub ask_text : AskReply → List ℕ
-ask_text (ask.Field a) = field_text (answer_says a)
-ask_text (ask.Bytes b) = bytes_text word_part b
-ask_text (ask.Written b) = bytes_text word_written b
-ask_text (ask.Refused r) = refused_text (number_for r)
+abbrev pub ask_text : Result AskReply Refusal → List ℕ
+ask_text (Ok (ask.Field v)) = field_text (value_says v)
+ask_text (Ok (ask.Bytes b)) = bytes_text word_part b
+ask_text (Ok (ask.Written b)) = bytes_text word_written b
+ask_text (Err r) = refused_text (number_for r)

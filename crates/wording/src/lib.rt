@@ -3,8 +3,7 @@
 #![tactic(auto)]
 
 ghost use Rattle.std.specs.Prelude.{◌+◌, ◌≤◌, ◌≡◌, ◌++◌, T, length, take};
-ghost use Rattle.record.specs.Answer.{value_says};
-ghost use Rattle.value.specs.Said.{no_nan};
+ghost use Rattle.value.specs.Said.{no_nan, value_says};
 ghost use Rattle.desk.specs.Plain.{plainly};
 ghost use Rattle.phrases.specs.Replies.{state_text};
 ghost use Rattle.wording.specs.Values.{field_text};
@@ -12,7 +11,7 @@ ghost use Rattle.wording.specs.Lines.{bytes_text, ask_text, word_no_crcs};
 
 use desk::{AskReply, PartCrc};
 use reader::State;
-use record::Answer;
+use refusal::Refusal;
 use value::Value;
 
 fn signed(out: &mut [u8; 8192], at: usize, z: i64) -> usize
@@ -34,9 +33,9 @@ fn put_value(out: &mut [u8; 8192], at: usize, v: Value) -> usize
     match v {
         Value::Unsigned(n) => text::word_number(out, at, b"unsigned", n),
         Value::Signed(z) => signed(out, at, z),
-        Value::Single(x) => text::word_number(out, at, b"single", value::single_bits(x) as u64),
+        Value::Single(x) => text::word_number(out, at, b"single", u64::from(value::single_bits(x))),
         Value::Double(x) => text::word_number(out, at, b"double", value::double_bits(x)),
-        Value::SingleNan(b) => text::word_number(out, at, b"single", b as u64),
+        Value::SingleNan(b) => text::word_number(out, at, b"single", u64::from(b)),
         Value::DoubleNan(b) => text::word_number(out, at, b"double", b),
         Value::DoNotUse => text::put(out, at, b"do-not-use"),
         Value::NotInRevision => text::put(out, at, b"not-in-this-revision"),
@@ -54,25 +53,27 @@ fn bytes(out: &mut [u8; 8192], at: usize, word: &[u8], b: PartCrc) -> usize
 }
 
 // What such a call replies.
-fn ask_reply(out: &mut [u8; 8192], at: usize, reply: AskReply) -> usize
+fn ask_reply(out: &mut [u8; 8192], at: usize, reply: Result<AskReply, Refusal>) -> usize
     requires t { T (plainly reply) }
     requires at_bound { at + 120 ≤ 8192 }
     ensures upper_bound { result ≤ at + 120 }
     ensures out_after { take result out.new ≡ take at out.old ++ ask_text reply }
 {
     match reply {
-        AskReply::Field(a) => match a {
-            Answer::Field(v) => put_value(out, at, v),
-            Answer::Refused(why) => phrases::refused(out, at, why),
-        },
-        AskReply::Bytes(b) => bytes(out, at, b"part", b),
-        AskReply::Written(b) => bytes(out, at, b"written", b),
-        AskReply::Refused(why) => phrases::refused(out, at, why),
+        Ok(AskReply::Field(v)) => put_value(out, at, v),
+        Ok(AskReply::Bytes(b)) => bytes(out, at, b"part", b),
+        Ok(AskReply::Written(b)) => bytes(out, at, b"written", b),
+        Err(why) => phrases::refused(out, at, why),
     }
 }
 
 // The line of such a call.
-pub fn ask_line(out: &mut [u8; 8192], at: usize, reply: AskReply, state: State) -> usize
+pub fn ask_line(
+    out: &mut [u8; 8192],
+    at: usize,
+    reply: Result<AskReply, Refusal>,
+    state: State,
+) -> usize
     requires t { T (plainly reply) }
     requires at_bound { at + 340 ≤ 8192 }
     ensures upper_bound { result ≤ at + 340 }

@@ -1,21 +1,16 @@
 -- `epoch::range` meets its contract: each return is one law of `range_field`.
 -- Assumes nothing.
-use native.Mathlib.Omega.{arith}
-use Rattle.record.proofs.Calls.{sub_fine}
+use Rattle.std.proofs.lemmas.Result.{err_from_is_err_and}
 use Rattle.epoch.proofs.Ranges.{range_refused, range_9, range_says}
 use Rattle.epoch.proofs.range.Goals as goal
 
-pub is_epoch-requires : goal.is_epoch-requires
-is_epoch-requires c = let f = sub_fine _ _ _ c.sub_row_of.ensures c.in-At.is in omega (arith, f.long)
+pub returns-in_err-row : goal.returns-in_err-row
+returns-in_err-row c =
+    let p = err_from_is_err_and c.from_residual.result c.from_residual.ensures.1 in
+    rw (p.1, p.2) (range_refused _ _ _ c.in_err-row.ensures)
 
 pub returns-then-not-is_epoch : goal.returns-then-not-is_epoch
-returns-then-not-is_epoch c = range_9 _ _ _ c.sub_row_of.ensures _ _ c.in-At.is c.is_epoch.ensures c.if-not-is_epoch.true
+returns-then-not-is_epoch c = range_9 _ _ _ c.in_ok-row.ensures c.is_epoch.ensures c.if-not-is_epoch.true
 
-pub first_pair-requires : goal.first_pair-requires
-first_pair-requires c = (c.requires, sub_fine _ _ _ c.sub_row_of.ensures c.in-At.is)
-
-pub returns-else-not-is_epoch : goal.returns-else-not-is_epoch
-returns-else-not-is_epoch c = range_says _ _ _ c.sub_row_of.ensures _ _ c.in-At.is c.is_epoch.ensures c.if-not-is_epoch.false c.first_pair.ensures.result_value c.range.ensures
-
-pub returns-in-Refused : goal.returns-in-Refused
-returns-in-Refused c = range_refused _ _ _ c.sub_row_of.ensures c.in-Refused.is
+pub returns : goal.returns
+returns c = range_says _ _ _ c.in_ok-row.ensures c.is_epoch.ensures c.if-not-is_epoch.false c.first_pair.ensures.result_value c.range.ensures

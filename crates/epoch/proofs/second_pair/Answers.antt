@@ -1,28 +1,8 @@
--- `epoch::second_pair` meets its contract: the rows of the second level, and its bytes.
+-- `epoch::second_pair` meets its contract: its low part has the size of its type.
 -- Assumes nothing.
-use mathlib.Core.Path.{ap, ◌∙◌}
-use native.Mathlib.Omega.{arith}
 use Rattle.kinds.specs.Types.{size_of}
-use Rattle.walk.specs.declared.Span.{Span}
-use Rattle.table.proofs.Passed.{passed}
-use Rattle.epoch.proofs.Seconds.{second_by_lem, rows_in, second_rows_end}
-use Rattle.epoch.proofs.Ranges.{second_pair_is}
 use Rattle.epoch.proofs.second_pair.Goals as goal
 
-pub overflow_sub-count : goal.overflow_sub-count
-overflow_sub-count c = (rows_in _ _ _ _ _ c.requires.1 (omega (arith, c.requires.2))).0
-
-pub overflow_add-at-2 : goal.overflow_add-at-2
-overflow_add-at-2 c = omega (arith, (passed _ c.requires.0).file.most, (rows_in c.args.table.now _ _ c.args.row _ c.requires.1 (omega (arith, c.requires.2))).1)
-
-pub part-requires : goal.part-requires
-part-requires c = rw c.second_span-span.ensures (second_by_lem _ _ _ _ _ c.requires.1 _ c.requires.2)
-
-pub pair_at-requires : goal.pair_at-requires
-pair_at-requires c =
-    ((rows_in _ _ _ _ _ c.requires.1 (omega (arith, c.requires.2))).1, second_rows_end _ _ _ _ _ c.requires.1 (omega (arith, c.requires.2)) c.revision-revision.ensures (c.part.ensures.result_value.1 ∙ ap (λ (z : Span). z.size) c.second_span-span.ensures), omega arith)
-
-pub returns : goal.returns
+pub returns-clause-pair_below : goal.returns-clause-pair_below
 unfolding size_of
-returns c =
-    record { result_value = second_pair_is _ _ _ _ _ c.requires.1 _ c.requires.2 c.revision-revision.ensures c.second_span-span.ensures c.part.ensures.result_value.0 c.pair_at.ensures.result_value; pair_below = c.pair_at.ensures.pair_below }
+returns-clause-pair_below c = c.pair_at.ensures.pair_below

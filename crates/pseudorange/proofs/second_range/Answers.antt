@@ -1,26 +1,15 @@
 -- `pseudorange::second_range` meets its contract: each return is one law of V12's sum.
 -- Assumes nothing.
 use mathlib.Core.Path.{◌∙◌}
-use Prim.Native.Nat.{◌*◌, ◌-◌}
 use native.Mathlib.Omega.{arith}
-use lib.Bits.{bit_and}
 use mir.Syntax.{w64}
 use mir.ValLaws.{to_z_pos}
-use Rattle.value.proofs.Sign.{below_fits, below_value}
+use Rattle.value.proofs.Sign.{below_value}
 use Rattle.pseudorange.proofs.Ranges.{low_3, second_up, second_below, second_above}
 use Rattle.pseudorange.proofs.second_range.Goals as goal
 
 pub returns-then-msb-lt4 : goal.returns-then-msb-lt4
 returns-then-msb-lt4 c = let a = c.args in to_z_pos w64 _ (omega arith) ∙ second_up a.first a.offsets a.lsb _ (low_3 a.offsets) (omega arith)
-
-pub overflow_sub-down : goal.overflow_sub-down
-overflow_sub-down c = omega (arith, low_3 c.args.offsets)
-
-pub overflow_sub-down-2 : goal.overflow_sub-down-2
-overflow_sub-down-2 c = omega (arith, low_3 c.args.offsets)
-
-pub overflow_sub-result : goal.overflow_sub-result
-overflow_sub-result c = let a = c.args in below_fits ((8 - bit_and a.offsets 7) * 65536 - a.lsb - a.first - 1) (omega arith)
 
 pub returns-then-first-down : goal.returns-then-first-down
 returns-then-first-down c = let a = c.args in below_value _ (omega arith) ∙ second_below a.first a.offsets a.lsb _ (low_3 a.offsets) (omega arith) (omega arith) (omega arith)
