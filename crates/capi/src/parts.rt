@@ -3,23 +3,21 @@ ghost use Rattle.std.specs.Prelude.{◌≡◌};
 ghost use Rattle.capi.specs.Calls.{handing, bytes_c, sub_bytes_c};
 
 use cform::{CPart, CState};
-use reader::Check;
-use record::Handed;
 
 pub fn alderflute_bytes(s: CState, hold: &[u8]) -> CPart
     ensures { handing result hold.now ≡ bytes_c s hold.now }
 {
     let t = cform::states::state_of(s);
-    let c = runs::bytes_refused(t, hold);
-    let part = runs::bytes(t, hold);
-    let n = part.len();
-    match c {
-        Check::Refused(x) => cform::parts::no_part(x),
-        Check::Passed => CPart {
-            refusal: 0,
-            offset: 0,
-            length: n,
-        },
+    match runs::bytes_refused(t, hold) {
+        Err(why) => cform::parts::no_part(why),
+        Ok(()) => {
+            let part = runs::bytes(t, hold);
+            CPart {
+                refusal: 0,
+                offset: 0,
+                length: part.len(),
+            }
+        }
     }
 }
 
@@ -27,12 +25,9 @@ pub fn alderflute_subbytes(s: CState, in_force: &[u8], block: &[u8], k: usize) -
     ensures { handing result block.now ≡ sub_bytes_c s in_force.now block.now k }
 {
     let t = cform::states::state_of(s);
-    let p = records::sub_place(t, in_force, block, k);
-    let h = p.handed;
-    let span = p.span;
-    match h {
-        Handed::Refused(x) => cform::parts::no_part(x),
-        Handed::Given => CPart {
+    match records::sub_place(t, in_force, block, k) {
+        Err(why) => cform::parts::no_part(why),
+        Ok(span) => CPart {
             refusal: 0,
             offset: span.at,
             length: span.size,

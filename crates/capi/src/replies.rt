@@ -16,9 +16,7 @@ pub fn alderflute_open(
     let t = cform::states::state_of(s);
     let x = cform::states::settings_back(settings);
     let o = tables::open(t, x, in_force, waiting);
-    let next = o.state;
-    let answer = o.answer;
-    cform::replies::reply(s, next, cform::replies::opened_c(answer))
+    cform::replies::reply(s, o.state, cform::replies::version_c(o.answer))
 }
 
 pub fn alderflute_feed(s: CState, hold: &mut [u8], piece: &[u8]) -> CReply
@@ -26,9 +24,7 @@ pub fn alderflute_feed(s: CState, hold: &mut [u8], piece: &[u8]) -> CReply
 {
     let t = cform::states::state_of(s);
     let o = runs::feed(t, hold, piece);
-    let next = o.state;
-    let answer = o.answer;
-    cform::replies::reply(s, next, cform::replies::fed_c(answer))
+    cform::replies::reply(s, o.state, cform::replies::fed_c(o.answer))
 }
 
 pub fn alderflute_finish(s: CState, hold: &mut [u8]) -> CReply
@@ -36,9 +32,7 @@ pub fn alderflute_finish(s: CState, hold: &mut [u8]) -> CReply
 {
     let t = cform::states::state_of(s);
     let o = runs::finish(t, hold);
-    let next = o.state;
-    let answer = o.answer;
-    cform::replies::reply(s, next, cform::replies::finished_c(answer))
+    cform::replies::reply(s, o.state, cform::replies::finished_c(o.answer))
 }
 
 pub fn alderflute_stage(s: CState, waiting: &mut [u8], table: &[u8]) -> CReply
@@ -46,9 +40,7 @@ pub fn alderflute_stage(s: CState, waiting: &mut [u8], table: &[u8]) -> CReply
 {
     let t = cform::states::state_of(s);
     let o = tables::stage(t, waiting, table);
-    let next = o.state;
-    let answer = o.answer;
-    cform::replies::reply(s, next, cform::replies::staged_c(answer))
+    cform::replies::reply(s, o.state, cform::replies::version_c(o.answer))
 }
 
 pub fn alderflute_withdraw(s: CState) -> CReply
@@ -56,7 +48,5 @@ pub fn alderflute_withdraw(s: CState) -> CReply
 {
     let t = cform::states::state_of(s);
     let o = tables::withdraw(t);
-    let next = o.state;
-    let answer = o.answer;
-    cform::replies::reply(s, next, cform::replies::withdrawn_c(answer))
+    cform::replies::reply(s, o.state, cform::replies::withdrawn_c(o.answer))
 }

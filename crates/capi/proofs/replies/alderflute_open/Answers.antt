@@ -17,4 +17,4 @@ unfolding open_c
 returns c =
     let a = c.args in
     let x = settings_back a.settings in
-    goes_on_lem (λ (t : State). open_of t x a.in_force.now a.waiting.now) a.s a.in_force.now (λ (t : State) (e : sound t ≡ false). open_one t e x a.in_force.now a.waiting.now) (state_of a.s) c.state_of-t.ensures (c.open-o.ensures ∙ ap (λ (y : Settings). open_of c.state_of-t.result y a.in_force.now a.waiting.now) c.settings_back-x.ensures) c.opened_c.ensures c.reply.ensures
+    goes_on_lem (λ (t : State). open_of t x a.in_force.now a.waiting.now) a.s a.in_force.now (λ (t : State) (e : sound t ≡ false). open_one t e x a.in_force.now a.waiting.now) (state_of a.s) c.state_of-t.ensures (c.open-o.ensures ∙ ap (λ (y : Settings). open_of c.state_of-t.result y a.in_force.now a.waiting.now) c.settings_back-x.ensures) c.version_c.ensures c.reply.ensures

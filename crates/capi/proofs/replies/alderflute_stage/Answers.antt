@@ -15,4 +15,4 @@ pub returns : goal.returns
 unfolding stage_c
 returns c =
     let a = c.args in
-    goes_on_lem (λ (t : State). stage_of t a.waiting.now a.table.now) a.s a.waiting.now (λ (t : State) (e : sound t ≡ false). stage_one t e a.waiting.now a.table.now) (state_of a.s) c.state_of-t.ensures c.stage-o.ensures c.staged_c.ensures c.reply.ensures
+    goes_on_lem (λ (t : State). stage_of t a.waiting.now a.table.now) a.s a.waiting.now (λ (t : State) (e : sound t ≡ false). stage_one t e a.waiting.now a.table.now) (state_of a.s) c.state_of-t.ensures c.stage-o.ensures c.version_c.ensures c.reply.ensures
