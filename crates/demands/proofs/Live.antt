@@ -15,7 +15,7 @@ use Rattle.runs.specs.Calls.{finishing_of, finishing_by, finish_said, phase_afte
 use Rattle.reader.specs.declared.Run.{Run}
 use Rattle.reader.specs.declared.Settings.{Settings}
 use Rattle.reader.proofs.Laws.{passes}
-use Rattle.tables.proofs.Accepted.{OpenPassed, open_passed}
+use Rattle.tables.proofs.Accepted.{OpenPassed, open_free}
 use Rattle.demands.specs.World.{World, TableCall, stage, withdraw, Call, open_run, feed, finish, table, look, said, told, Step, step, end}
 use Rattle.demands.specs.Sequence.{NoEnd, Within, at_open}
 use Rattle.demands.proofs.Steps.{How, isnt, is, how, refusal, left_force, done, clash}
@@ -42,7 +42,7 @@ may_open x w e =
     let d = passes (ceiling_ok x.ceiling) 13 _ b.1 in
     let c = passes (ltb 0 s.waiting || ltb 0 s.in_force) 5 _ d.1 in
     record {
-      long = open_passed s x w.force w.wait e;
+      long = open_free s x w.force w.wait e;
       closed = b.0;
       ceiling = d.0;
       one = c.0;

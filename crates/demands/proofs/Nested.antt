@@ -22,9 +22,10 @@ use Rattle.walk.specs.declared.Nest.{Nest}
 use Rattle.walk.specs.Walk.{nest_at, second_at, seconds, nest_or}
 use Rattle.block.specs.Block.{number_in, revision_in, offset_of, nest_of, sub_count, Seen, refused_by, row, seen_sub_row}
 use Rattle.record.specs.Calls.{field_said, sub_slice}
-use Rattle.pseudorange.specs.Range.{Two, first_range, no_first, second_range, no_offset, range_said, range2_said}
+use Rattle.pseudorange.specs.Range.{first_range, no_first, second_range, no_offset, range_said, range2_said}
 use Rattle.epoch.specs.Second.{in_second, second_by}
-use Rattle.epoch.specs.Ranges.{unsigned_of, unsigned_at, both_of, pair_at, first_pair, second_pair, is_epoch, range_by, range2_by}
+use Rattle.epoch.specs.Ranges.{unsigned_of, unsigned_at, pair_at, first_pair, second_pair, is_epoch, range_by, range2_by}
+use Rattle.std.specs.Option.{option_zip}
 use Rattle.epoch.proofs.Seconds.{second_in, second_out}
 use Rattle.reader.specs.Refusals.{need}
 use Rattle.demands.specs.World.{field_refusal}
@@ -87,7 +88,7 @@ module _ (b s : List ℕ) (rows : List FieldRow) (i kind : ℕ) where
   number_tells : Tells (is_some (unsigned_at (revision_in b) s kind (pick rows i))) (NoNumber b s rows i kind)
   number_tells = number_by (pick rows i) refl
 
-some_both : (x y : Option ℕ) → is_some (both_of x y) ≡ (is_some x && is_some y)
+some_both : (x y : Option ℕ) → is_some (option_zip x y) ≡ (is_some x && is_some y)
 some_both None y = refl
 some_both (Some x) None = refl
 some_both (Some x) (Some y) = refl
@@ -193,9 +194,9 @@ range_tells b k r ok =
     (next (not (one_level r)) (ltb k (sub_count b r) && is_some (first_pair r b (nest_of r b k))) (level_tells r)
     (λ two. next (ltb k (sub_count b r)) (is_some (first_pair r b (nest_of r b k))) (count_tells r ok b k two) (first_tells r ok b k two)))
 
-first_none : (o : Option Two) → field_refusal (range_said o) ≡ need (is_some o) 9 None
+first_none : (o : Option (ℕ × ℕ)) → field_refusal (range_said o) ≡ need (is_some o) 9 None
 first_none None = refl
-first_none (Some p) = cond_none (no_first p.high p.low) do_not_use _ refl refl
+first_none (Some p) = cond_none (no_first p.0 p.1) do_not_use _ refl refl
 
 -- the same tests in another order
 four : (a b c d : Bool) → need (a && (b && (c && d))) 9 None ≡ need c 9 (need (a && b) 9 (need d 9 None))
@@ -243,12 +244,12 @@ range2_tells b k m r ok =
     rw (some_second r b (nest_of r b k) m)
     (next (ltb m (nest_of r b k).count) _ (nested_tells r ok b k two there m) (λ _. second_tells r ok b k two there m)))
 
-second_none : (p q : Option Two) → field_refusal (range2_said p q) ≡ need (is_some p) 9 (need (is_some q) 9 None)
+second_none : (p q : Option (ℕ × ℕ)) → field_refusal (range2_said p q) ≡ need (is_some p) 9 (need (is_some q) 9 None)
 second_none None q = refl
 second_none (Some p) None = refl
 second_none (Some p) (Some q) =
-    cond_none (no_first p.high p.low || no_offset q.high q.low) do_not_use
-    (signed (second_range (first_range p.high p.low) q.high q.low)) refl refl
+    cond_none (no_first p.0 p.1 || no_offset q.0 q.1) do_not_use
+    (signed (second_range (first_range p.0 p.1) q.0 q.1)) refl refl
 
 range2_by_lem : (c : Bool) (b : List ℕ) (k m : ℕ) (r : BlockRow)
     → field_refusal (range2_by b k m (cond c (row r) (refused_by 9)))

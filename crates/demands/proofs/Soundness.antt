@@ -35,7 +35,7 @@ use Rattle.reader.specs.declared.Run.{Run}
 use Rattle.reader.specs.declared.Settings.{Settings}
 use Rattle.reader.specs.declared.State.{State}
 use Rattle.reader.proofs.Laws.{passes, with_hold}
-use Rattle.tables.proofs.Accepted.{stage_passed}
+use Rattle.tables.proofs.Accepted.{stage_free}
 use Rattle.runs.proofs.Feeding.{WholeIf, fed_whole, end_whole}
 use Rattle.demands.specs.World.{World, stage, withdraw, Call, open_run, feed, finish, table, look, said, told, step}
 use Rattle.demands.specs.Soundness.{Sound, report_size, since_open, SoundKept}
@@ -163,7 +163,7 @@ kept_by finish w b h =
     kept (finish_refusal s w.hold) s b w.hold (finishing_by (finishing_of s w.hold) s w.hold) h (finish_done s b w.hold h)
 kept_by (table (stage t)) w b h =
     same (stage_refusal w.state w.wait t) w.state b w.wait (staging w.state w.wait t) h
-    (λ e. waits_on w.state b (length t) h (passed t (stage_passed w.state w.wait t e).1).file.most)
+    (λ e. waits_on w.state b (length t) h (passed t (stage_free w.state w.wait t e).1).file.most)
 kept_by (table withdraw) w b h =
     same (withdraw_refusal w.state) w.state b [] (withdrawing w.state) h (λ e. waits_on w.state b 0 h (omega arith))
 kept_by (look l) w b h = h

@@ -28,7 +28,7 @@ use Rattle.reader.specs.declared.Phase.TheVariants as phase
 use Rattle.reader.specs.declared.Run.{Run}
 use Rattle.reader.specs.declared.State.{State}
 use Rattle.reader.proofs.Laws.{passes}
-use Rattle.tables.proofs.Accepted.{stage_passed}
+use Rattle.tables.proofs.Accepted.{stage_free}
 use Rattle.frame.specs.Frame.{ceiling_ok}
 use Rattle.reader.specs.State.{ceiling_of}
 use Rattle.reader.specs.declared.Settings.{Settings}
@@ -123,7 +123,7 @@ told_finish w p h =
 
 told_table : (t : TableCall) (w : World) (p : Past) → refusal (table t) w ≡ None → AsTold w p → AsTold (table_done t w).world (after (table t) (told (table_done t w).answer) w.hold p)
 told_table (stage t) w p e h =
-    let q = stage_passed w.state w.wait t e in
+    let q = stage_free w.state w.wait t e in
     record { phase = h.phase; settings = h.settings; waiting = copied t w.wait q.0 q.1; force = h.force; stands = h.stands }
 told_table withdraw w p e h = record { phase = h.phase; settings = h.settings; waiting = refl; force = h.force; stands = h.stands }
 

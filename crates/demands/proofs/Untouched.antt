@@ -14,7 +14,7 @@ use Rattle.runs.specs.Refusals.{feed_refusal, finish_refusal, bytes_refusal}
 use Rattle.runs.specs.Calls.{feeding_of, finishing_of, bytes_of}
 use Rattle.records.specs.Calls.{ask_refusal, body_of, sub_of, sub_bytes_of, sub_bytes_refusal, stamp_of}
 use Rattle.epochs.specs.Calls.{sub2_of, range_of, range2_of}
-use Rattle.tables.proofs.Accepted.{stage_passed}
+use Rattle.tables.proofs.Accepted.{stage_free}
 use Rattle.writes.specs.Calls.{write_of}
 use Rattle.reader.specs.declared.Settings.{Settings}
 use Rattle.demands.specs.World.{World, TableCall, stage, withdraw, Look, bytes, body, sub, sub_bytes, sub2, range, range2, tow, wnc, write, Call, open_run, feed, finish, table, look, Reply, Step, looked, step, end}
@@ -154,7 +154,7 @@ left_by c w e l (is f) = left_done c w e l f
 
 same_table : (t : TableCall) (w : World) → table_refusals t w ≡ None → length (table_done t w).world.wait ≡ length w.wait
 same_table (stage t) w e =
-    let p = stage_passed w.state w.wait t e in
+    let p = stage_free w.state w.wait t e in
     length_over t w.wait (omega (arith, (passed.passed t p.1).file.most, p.0))
 same_table withdraw w e = refl
 

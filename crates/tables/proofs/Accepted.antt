@@ -1,6 +1,6 @@
 -- Open and Stage where they are not refused: what their tests say, and the states and copies they leave.
 -- Assumes nothing.
-use Rattle.std.proofs.Common.{◌≡◌, refl, sym, ap, ap₂, ◌∙◌, ◌&&◌, ℕ, ◌+◌, ◌≤◌, None, List, ◌++◌, length, take, drop}
+use Rattle.std.proofs.Common.{◌≡◌, refl, sym, ap, ap₂, ◌∙◌, true, ◌&&◌, ℕ, ◌+◌, ◌≤◌, None, List, ◌++◌, length, take, drop}
 use native.Mathlib.Nat.{zero-add}
 use lib.Seq.{paste, length-take-le}
 use Rattle.feed.specs.Hold.{over}
@@ -24,6 +24,12 @@ pub record OpenPassed (s : State) (force wait : List ℕ) : Type 0 where
   pub long_force : 8192 ≤ length force
   pub long_wait : 8192 ≤ length wait
 
+pub open_free : (s : State) (x : Settings) (force wait : List ℕ) → open_refusal s x force wait ≡ None → OpenPassed s force wait
+unfolding open_refusal
+open_free s x force wait e =
+    let f = with_stores s force wait (passes (sound s && long_store force && long_store wait) 1 _ e).0 in
+    record { facts = f.0; long_force = f.1; long_wait = f.2 }
+
 module _ (s : State) (x : Settings) (force wait : List ℕ) where
   pub open_refused : {n : ℕ} → refused n ≡ (open_of s x force wait).said → outcome (refused n) s force ≡ open_of s x force wait
   unfolding open_of
@@ -39,12 +45,15 @@ module _ (s : State) (x : Settings) (force wait : List ℕ) where
     open_done = is_done s force (opening s x force wait) (open_refusal s x force wait) free
 
     pub open_passed : OpenPassed s force wait
-    unfolding open_refusal
-    open_passed =
-        let f = with_stores s force wait (passes (sound s && long_store force && long_store wait) 1 _ free).0 in
-        record { facts = f.0; long_force = f.1; long_wait = f.2 }
+    open_passed = open_free s x force wait free
 
 -- ---- Stage
+
+pub stage_free : (s : State) (wait t : List ℕ) → stage_refusal s wait t ≡ None → (8192 ≤ length wait) × (table_ok t ≡ true)
+unfolding stage_refusal
+stage_free s wait t e =
+    let p = passes (sound s && long_store wait) 1 (table_refusal t) e in
+    ((with_store s wait p.0).1, (passes (table_ok t) 4 None p.1).0)
 
 module _ (s : State) (wait t : List ℕ) where
   pub stage_refused : {n : ℕ} → refused n ≡ (stage_of s wait t).said → outcome (refused n) s wait ≡ stage_of s wait t
@@ -61,10 +70,7 @@ module _ (s : State) (wait t : List ℕ) where
     stage_done = is_done s wait (staging s wait t) (stage_refusal s wait t) clear
 
     pub stage_passed : (8192 ≤ length wait) × (length t ≤ 8192)
-    unfolding stage_refusal
-    stage_passed =
-        let p = passes (sound s && long_store wait) 1 (table_refusal t) clear in
-        ((with_store s wait p.0).1, (table.passed t (passes (table_ok t) 4 None p.1).0).file.most)
+    stage_passed = let p = stage_free s wait t clear in (p.0, (table.passed t p.1).file.most)
 
 -- ---- states and copies
 
