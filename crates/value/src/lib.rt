@@ -118,8 +118,7 @@ pub fn read(s: &[u8], f: FieldRow) -> Value
     requires { f.offset + size_of f.kind ≤ length s.now }
     ensures { Means result (field_value s.now f) }
 {
-    let at = f.offset;
-    let x = bits_at(s, at, f.kind);
+    let x = bits_at(s, f.offset, f.kind);
     if kinds::is_do_not_use(f.mark, f.kind, x) {
         return Value::DoNotUse;
     }
