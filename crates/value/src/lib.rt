@@ -37,7 +37,7 @@ fn signed(x: u64, half: u64) -> i64
     }
 }
 
-// The bits of an f4.
+// The bits of an f4; those of an f8 have a function of their own, for no trait makes a float of either width.
 fn single_of(x: u64) -> Value
     requires { x < 256 ^ 4 }
     ensures { Means result (single x) }
