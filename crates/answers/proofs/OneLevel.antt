@@ -5,7 +5,6 @@ use mathlib.Core.List.{List, [], ◌∷◌, map}
 use mathlib.Core.Bool.{Bool, true, false, not, ◌&&◌, cond}
 use Rattle.std.proofs.Common.{Option, None, Some}
 use Prim.Native.Nat.{ℕ}
-use native.Mathlib.Omega.{arith}
 use lib.Dec.{ltb, eqb}
 use borrow.Author.Tests.{eq-eqb, eqb-true}
 use Rattle.wire.proofs.Tests.{both, both_left, both_right}
@@ -175,7 +174,7 @@ module _ (t : List ℕ) where
 
   first_one : (p : BlockRow → Bool) (rs : List Row) → every zero_ok_before rs ≡ true → (r : BlockRow) → first_that p (map (block_of t) rs) ≡ Some r → r.firsts ≡ 0
   unfolding every first_that
-  first_one p [] e r h = let z : ◌≡◌ {A = ℕ} 0 1 = cc in let f : ⊥ = omega arith in absurd f
+  first_one p [] e r h = absurd cc
   first_one p (x ∷ xs) e r h =
       let d = both (zero_ok_before x) (every zero_ok_before xs) e in
       this_or (p (block_of t x)) (block_of t x) _ r (block_one x d.0) (first_one p xs d.1 r) h

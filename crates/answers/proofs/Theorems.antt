@@ -3,30 +3,29 @@
 use mathlib.Core.Path.{◌≡◌, refl, sym, ap, ◌∙◌}
 use mathlib.Core.Bool.{Bool, true, false}
 use Prim.Native.Nat.{ℕ, ◌^◌, ◌<◌}
-use native.Mathlib.Omega.{arith}
 use lib.Ieee.{binary32, binary64, nan_bits}
 use lib.Ieee.Bits.{to_bits-of_bits}
-use Rattle.refusal.specs.Numbers.{number_for}
+use Rattle.std.proofs.Common.{Result, Ok, Err}
+use Rattle.refusal.specs.declared.Refusal.{Refusal}
+use Rattle.refusal.specs.Numbers.{number_for, refusal_of}
 use Rattle.refusal.proofs.Numbers.{same_refusal}
 use Rattle.table.specs.Rows.{Table}
-use Rattle.record.specs.declared.Answer.{Answer}
-use Rattle.record.specs.declared.Handed.{Handed}
-use Rattle.record.specs.declared.Handed.TheVariants.{Refused, Given}
+use Rattle.value.specs.declared.Value.{Value}
 use Rattle.value.specs.Said.{FieldSaid, single, double}
-use Rattle.record.specs.Answer.{answer_says, case_for, Answers, handed_says}
+use Rattle.record.specs.Answer.{answer_says, case_for, Answers}
 use Rattle.record.specs.Calls.{body_field, sub_field, sub_block, sub_place, sub_block_refusal}
 use Rattle.answers.specs.Theorems.{OneAnswer, AllByMeaning, FloatsKept}
 use Rattle.value.proofs.Floats.{float_not_nan}
 use Rattle.record.proofs.Fields.{same}
 
-one : (r s : Answer) (said : FieldSaid) → Answers r said → Answers s said → r ≡ s
+one : (r s : Result Value Refusal) (said : FieldSaid) → Answers r said → Answers s said → r ≡ s
 one r s said p q = p.case ∙ sym q.case
 
-one_handed : (r s : Handed) → handed_says r ≡ handed_says s → r ≡ s
-one_handed (Refused x) (Refused y) e = let n : number_for x ≡ number_for y = cc in ap Refused (same_refusal x y n)
-one_handed (Refused x) Given e = let z : ◌≡◌ {A = ℕ} 0 1 = cc in absurd (omega arith)
-one_handed Given (Refused y) e = let z : ◌≡◌ {A = ℕ} 0 1 = cc in absurd (omega arith)
-one_handed Given Given e = refl
+one_handed : (r s : Result (Unit {0}) Refusal) → refusal_of r ≡ refusal_of s → r ≡ s
+one_handed (Err x) (Err y) e = let n : number_for x ≡ number_for y = cc in ap Err (same_refusal x y n)
+one_handed (Err x) (Ok v) e = cc
+one_handed (Ok u) (Err y) e = cc
+one_handed (Ok u) (Ok v) e = refl
 
 pub one_answer : OneAnswer
 one_answer = record { answers = one; handed = one_handed }

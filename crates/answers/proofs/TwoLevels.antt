@@ -21,7 +21,7 @@ use Rattle.answers.specs.TwoLevels.{TwoLevelsLaid}
 
 -- a refusal is no row
 no_row : {X : Type 0} {n : ℕ} {r : BlockRow} → refused_by n ≡ row r → X
-no_row e = let z : ◌≡◌ {A = ℕ} 0 1 = cc in let f : ⊥ = omega arith in absurd f
+no_row e = absurd cc
 
 module _ (b : List ℕ) (r : BlockRow) where
   by_row : (q : BlockRow) (c d : Bool) → subs_fit b q ≡ d → cond c (cond d (row q) (refused_by 8)) (refused_by 7) ≡ row r → subs_fit b r ≡ true

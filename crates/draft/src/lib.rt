@@ -93,6 +93,7 @@ fn subs_ok(
 {
     let mut n: usize = 0;
     let mut next = p;
+    // each list says where the next one begins, so there is no range to go over
     while next < kinds.len() {
         next = list_ok(fields, revision, kinds, bits, next + 1)?;
         if MOST <= n {

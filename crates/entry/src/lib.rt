@@ -10,7 +10,7 @@ ghost use Rattle.entry.specs.Code.{wanted_bits, Taking};
 
 use rows::FieldRow;
 
-// W2: a kind, 0 to 4, and 64 bits.
+// W2: a kind, 0 to 4, and 64 bits; numbers, since C gives them so.
 #[derive(Clone, Copy)]
 pub struct Entry {
     pub kind: u8,

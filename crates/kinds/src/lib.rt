@@ -8,7 +8,7 @@ ghost use Rattle.kinds.specs.Marks.{all_ones, minus, seed_type, mark_fits, is_do
 ghost use Rattle.kinds.specs.Grid.{GridHolds};
 ghost use Rattle.kinds.specs.Seed.{SeedHolds};
 
-// A type and a mark are bytes here, as a table has them (T11). A table may have any byte there, and the promises are over every number.
+// A type and a mark are bytes, as they stand in a table (T11). A table may have any byte there, and the promises are over every one.
 
 // D7: entry k is the size of type k + 1. Table check, field reader and writer look sizes up here. They are bytes: a constant array is
 // stored anew wherever it is named, and ten bytes are two stores.
@@ -49,6 +49,7 @@ fn is_float(kind: u8) -> bool
 pub fn mark_fits(kind: u8, mark: u8) -> bool
     ensures { result ≡ mark_fits kind mark }
 {
+    // an arm for each entry of `marks`
     match mark {
         0 => true,
         1 => is_unsigned(kind),

@@ -118,6 +118,7 @@ pub fn subs(
 {
     let mut next = p;
     let mut to = base;
+    // each list says where the next one begins, so there is no range to go over
     while next < kinds.len() {
         let l = fields(rows, revision, kinds, bits, next + 1, out, to, 0);
         next = l.next;

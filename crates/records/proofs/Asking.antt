@@ -1,32 +1,27 @@
 -- A record call that reads by a table, refused by 1, 5 or 4, or not; and the part that it hands back.
 -- Assumes nothing.
-use mathlib.Core.Path.{◌≡◌, refl, sym, ap}
-use mathlib.Core.Bool.{true, ◌&&◌}
+use mathlib.Core.Path.{◌≡◌, refl, sym, ◌∙◌}
+use mathlib.Core.Bool.{true, false, ◌&&◌}
+use mathlib.Core.Logic.{◌⊎◌, inl, inr}
 use mathlib.Core.List.{List, []}
 use Rattle.std.proofs.Common.{Option, None, Some}
-use Prim.Native.Nat.{ℕ, ◌≤◌}
+use Prim.Native.Nat.{ℕ, ◌<◌, ◌≤◌}
 use native.Mathlib.Omega.{arith}
 use lib.ListN.{length}
 use lib.Dec.{ltb}
+use borrow.Author.Tests.{lt-ltb, le-leb, lt-leb}
 use Rattle.table.specs.Decode.{decode}
 use Rattle.table.specs.Rules.{table_ok}
 use Rattle.walk.specs.declared.Span.{Span}
 use Rattle.block.specs.Block.{seen_sub}
-use Rattle.refusal.specs.Numbers.{number_for}
-use Rattle.record.specs.Answer.{FieldSaid, Answers}
-use Rattle.record.specs.declared.Answer.{Answer}
-use Rattle.record.specs.declared.Answer.TheVariants as answer
-use Rattle.refusal.specs.declared.Refusal.{Refusal}
 use Rattle.record.specs.Calls.{sub_slice, sub_block, sub_place, sub_block_refusal}
-use Rattle.record.proofs.Calls.{refuses}
-use Rattle.record.proofs.Fields.{same}
 use Rattle.record.proofs.Parts.{part_at, refused_part}
 use Rattle.reader.specs.State.{sound}
 use Rattle.reader.specs.Refusals.{need, long_store, table_refusal}
 use Rattle.reader.specs.Outcome.{part_unless}
-use Rattle.records.specs.Calls.{table_in_force, ask_refusal, said_unless, sub_bytes_of, place_unless, sub_place_of, first_of, sub_bytes_refusal}
+use Rattle.records.specs.Calls.{table_in_force, ask_refusal, sub_bytes_of, place_unless, sub_place_of, first_of, sub_bytes_refusal}
 use Rattle.reader.specs.declared.State.{State}
-use Rattle.reader.proofs.Laws.{passes, with_store}
+use Rattle.reader.proofs.Laws.{passes, facts, with_store}
 
 pub record Asked (s : State) (force : List ℕ) : Type 0 where
   pub fits : s.in_force ≤ length force
@@ -40,12 +35,33 @@ asked s force e =
     let f = with_store s force p.0 in
     record { fits = omega (arith, f.0.in_force, f.1); ok = (passes (table_ok (table_in_force s force)) 4 None q.1).0 }
 
--- an answer that is a refusal, and one that is not
-pub unless_refused_lem : (o : Option ℕ) (x : Refusal) (said : FieldSaid) → o ≡ Some (number_for x) → Answers (answer.Refused x) (said_unless o said)
-unless_refused_lem o x said e = same (sym (ap (λ (p : Option ℕ). said_unless p said) e)) (refuses x)
+-- refusals 1, 5 and 4, in this order
+module _ (s : State) (force : List ℕ) where
+  pub bad_buffer : (sound s ≡ false) ⊎ ((sound s ≡ true) × (length force < 8192)) → Some 1 ≡ ask_refusal s force
+  unfolding ask_refusal
+  bad_buffer (inl e) = simp e
+  bad_buffer (inr h) = simp (h.0, lt-leb 8192 (length force) h.1)
 
-pub unless_none : (o : Option ℕ) {r : Answer} (said : FieldSaid) → o ≡ None → Answers r said → Answers r (said_unless o said)
-unless_none o said e h = same (sym (ap (λ (p : Option ℕ). said_unless p said) e)) h
+  module _ (ok : sound s ≡ true) (long : 8192 ≤ length force) where
+    pub in_store : s.in_force ≤ length force
+    in_store = omega (arith, (facts s ok).in_force)
+
+    asks : ask_refusal s force ≡ need (ltb 0 s.in_force) 5 (table_refusal (table_in_force s force))
+    unfolding ask_refusal
+    asks = rw (ok, le-leb 8192 (length force) long)
+
+    pub no_table : s.in_force ≡ 0 → Some 5 ≡ ask_refusal s force
+    no_table e = sym (asks ∙ rw e)
+
+    module _ (some_table : s.in_force ≡ 0 → ⊥) where
+      asks_table : ask_refusal s force ≡ table_refusal (table_in_force s force)
+      asks_table = asks ∙ rw (lt-ltb 0 s.in_force (omega arith))
+
+      pub bad_table : table_ok (table_in_force s force) ≡ false → Some 4 ≡ ask_refusal s force
+      bad_table e = sym (asks_table ∙ rw e)
+
+      pub good_table : table_ok (table_in_force s force) ≡ true → None ≡ ask_refusal s force
+      good_table e = sym (asks_table ∙ rw e)
 
 -- the part that stands at a call's place is the one that it hands back
 place_by_lem : (o : Option ℕ) (b : List ℕ) (p : Span) {q : List ℕ} → sub_slice b p ≡ q → sub_slice b (place_unless o p) ≡ part_unless o q

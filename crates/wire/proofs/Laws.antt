@@ -8,7 +8,7 @@ use native.Mathlib.Omega.{arith}
 use lib.ListN.{get_or, take, drop}
 use lib.Seq.{get_or-drop}
 use Rattle.std.proofs.lemmas.List.{get_or-take}
-use Rattle.std.specs.Int.{w16, w32, w64, from_le_bytes}
+use Rattle.std.specs.Int.{w32, w64, from_le_bytes}
 use Rattle.wire.specs.Little.{little_at}
 use Rattle.wire.specs.Range.{InRange}
 
@@ -43,11 +43,7 @@ little_part k w p =
     agree k (take k (drop p w)) (drop p w) 0 0 (λ d l. let i : 0 + d < k = omega arith in get_or-take k (drop p w) (0 + d) 0 i)
     ∙ little_drop k w p 0 ∙ ap (little_at k w) (add-zero p)
 
--- what the library reads of two, of four and of eight bytes is F1's number of them
-two : (bs : List ℕ) → from_le_bytes w16 bs ≡ little_at 2 bs 0
-unfolding little_at
-two bs = omega arith
-
+-- what the library reads of four and of eight bytes is F1's number of them
 four : (bs : List ℕ) → from_le_bytes w32 bs ≡ little_at 4 bs 0
 unfolding little_at
 four bs = omega arith
@@ -57,9 +53,6 @@ unfolding little_at
 eight bs = omega arith
 
 module _ (s : List ℕ) (at : ℕ) where
-  pub u2 : from_le_bytes w16 (take 2 (drop at s)) ≡ little_at 2 s at
-  u2 = two _ ∙ little_part 2 s at
-
   pub u4 : from_le_bytes w32 (take 4 (drop at s)) ≡ little_at 4 s at
   u4 = four _ ∙ little_part 4 s at
 

@@ -23,12 +23,12 @@ fn bytes<const N: usize>(s: &[u8], at: usize) -> [u8; N]
     there
 }
 
-// The two bytes at `at`.
+// The two bytes at `at`; by index, for a table's rows are read by this, and a copy of a part takes twice as long.
 pub fn u2(s: &[u8], at: usize) -> u16
     requires { at + 2 ≤ length s.now }
     ensures { result ≡ little_at 2 s.now at }
 {
-    u16::from_le_bytes(bytes(s, at))
+    pair(s[at], s[at + 1])
 }
 
 // The four bytes at `at`.

@@ -7,10 +7,10 @@ ghost use Rattle.writer.specs.Write.{write_outcome, written_says};
 ghost use Rattle.writes.specs.Calls.{write_of};
 
 use draft::Head;
-use reader::{Check, State};
-use writer::Written;
+use reader::State;
+use refusal::Refusal;
 
-// Writes a block to the start of the buffer; the state stays as it is.
+// Writes a block to the start of the buffer: how long it is. The state stays as it is.
 pub fn write(
     s: State,
     in_force: &[u8],
@@ -18,15 +18,11 @@ pub fn write(
     kinds: &[u8],
     bits: &[u64],
     out: &mut [u8],
-) -> Written
+) -> Result<usize, Refusal>
     ensures { write_outcome (written_says result) out.new ≡ write_of s in_force.now (draft_of h kinds.now bits.now) out.old }
 {
-    let c = records::of_ask(s, in_force);
-    let n = s.in_force;
+    let table = records::of_ask(s, in_force)?;
     let run = s.run;
     let settings = run.settings;
-    match c {
-        Check::Refused(why) => Written::Refused(why),
-        Check::Passed => writer::write(settings.ceiling, &in_force[..n], h, kinds, bits, out),
-    }
+    writer::write(settings.ceiling, table, h, kinds, bits, out)
 }

@@ -1,68 +1,34 @@
--- `records::of_ask` meets its contract.
+-- `records::of_ask` meets its contract: refusals 1, 5 and 4, or the table in force.
 -- Assumes nothing.
-use mathlib.Core.Path.{◌≡◌, sym, ap, ◌∙◌}
-use mathlib.Core.Bool.{Bool, true, false, ◌&&◌}
-use Prim.Native.Nat.{◌<◌}
-use native.Mathlib.Omega.{arith}
-use lib.Dec.{ltb}
+use mathlib.Core.Path.{refl, sym, ap, ◌∙◌}
 use lib.Seq.{length-take-le}
-use borrow.Author.Tests.{lt-ltb, le-ltb}
+use Rattle.std.proofs.lemmas.Result.{err_from_is_err_and}
+use Rattle.refusal.specs.Numbers.{refusal_of}
 use Rattle.table.proofs.Told.{version_passes, broken_breaks}
-use Rattle.reader.specs.State.{sound}
-use Rattle.reader.specs.Refusals.{long_store}
-use Rattle.records.specs.Calls.{ask_refusal}
-use Rattle.reader.proofs.Laws.{with_store}
+use Rattle.records.proofs.Asking.{bad_buffer, in_store, no_table, bad_table, good_table}
 use Rattle.records.proofs.of_ask.Goals as goal
-use Rattle.records.proofs.of_ask.Lts
-use Rattle.records.proofs.of_ask.Reads
-use Rattle.records.proofs.of_ask.Tie as tie
 
-abbrev AfterIsSound : Type 0
-AfterIsSound = Lts.After-is_sound tie.the-claims Reads.Pre Reads.Post
+pub returns-then-not-is_sound-clause-refusal_value : goal.returns-then-not-is_sound-clause-refusal_value
+returns-then-not-is_sound-clause-refusal_value c = bad_buffer _ _ (rw c.is_sound.ensures at c.then-not-is_sound.either)
 
-abbrev Else1 : Type 0
-Else1 = Lts.Else1 tie.the-claims Reads.Pre Reads.Post
+pub returns-then-n-eq0-clause-refusal_value : goal.returns-then-n-eq0-clause-refusal_value
+returns-then-n-eq0-clause-refusal_value c = no_table _ _ (sym c.if-not-is_sound.ensures) c.if-in_force-lt8192.false c.if-n-eq0.true
 
-abbrev Then2 : Type 0
-Then2 = Lts.Then2 tie.the-claims Reads.Pre Reads.Post
+pub slice_bounds-table-end : goal.slice_bounds-table-end
+slice_bounds-table-end c =
+    sym (length-take-le _ _ (in_store _ _ (sym c.if-not-is_sound.ensures) c.if-in_force-lt8192.false))
 
-abbrev Else2 : Type 0
-Else2 = Lts.Else2 tie.the-claims Reads.Pre Reads.Post
+pub returns-in_err-ok_or-clause-refusal_value : goal.returns-in_err-ok_or-clause-refusal_value
+returns-in_err-ok_or-clause-refusal_value c =
+    let p = err_from_is_err_and c.from_residual.result c.from_residual.ensures.1 in
+    let r = c.in_err-ok_or.ensures in
+    let four = bad_table _ _ (sym c.if-not-is_sound.ensures) c.if-in_force-lt8192.false c.if-n-eq0.false (broken_breaks _ c.check.ensures r.ok_part) in
+    rw (p.1, p.2) (ap refusal_of (rw r.ok_part at r.value) ∙ four)
 
--- the test of refusal 1, as the definition has it
-one : (c : AfterIsSound) {b : Bool} → (c.is_sound.result && long_store c.args.in_force.now) ≡ b
-    → (sound c.args.s && long_store c.args.in_force.now) ≡ b
-one c e = ap (λ (x : Bool). x && long_store c.args.in_force.now) (sym c.is_sound.ensures) ∙ e
+pub returns-clause-refusal_value : goal.returns-clause-refusal_value
+returns-clause-refusal_value c =
+    good_table _ _ (sym c.if-not-is_sound.ensures) c.if-in_force-lt8192.false c.if-n-eq0.false
+    (version_passes _ c.check.ensures c.in_ok-ok_or.ensures.ok_part).0
 
-long : (c : Else1) → (sound c.args.s && long_store c.args.in_force.now) ≡ true
-long c = one c.before (c.if-not-is_sound-in_force.false)
-
-none_in : (c : Then2) → ltb 0 c.args.s.in_force ≡ false
-none_in c = le-ltb 0 c.args.s.in_force (omega (arith, c.if-n-eq0.true))
-
-some_in : (c : Else2) → 0 < c.args.s.in_force
-some_in c = omega (arith, c.if-n-eq0.false)
-
-pub returns-then-not-is_sound-in_force : goal.returns-then-not-is_sound-in_force
-unfolding ask_refusal
-returns-then-not-is_sound-in_force c = simp (one c.before.before (c.if-not-is_sound-in_force.true))
-
-pub returns-then-n-eq0 : goal.returns-then-n-eq0
-unfolding ask_refusal
-returns-then-n-eq0 c = simp (long c.before.before, none_in c.before)
-
-pub slice_bounds-check-end : goal.slice_bounds-check-end
-slice_bounds-check-end c =
-    let a = c.args in
-    let f = with_store a.s a.in_force.now (long c.before.before) in
-    sym (length-take-le _ _ (omega (arith, f.0.in_force, f.1)))
-
-pub returns-in-Version : goal.returns-in-Version
-unfolding ask_refusal
-returns-in-Version c =
-    simp (long c.before.before.before.before, lt-ltb 0 _ (some_in c.before.before.before), (version_passes _ c.check-c.ensures c.in-Version.is).0)
-
-pub returns-in-Broken : goal.returns-in-Broken
-unfolding ask_refusal
-returns-in-Broken c =
-    simp (long c.before.before.before.before, lt-ltb 0 _ (some_in c.before.before.before), broken_breaks _ c.check-c.ensures c.in-Broken.is)
+pub returns-clause-table_value : goal.returns-clause-table_value
+returns-clause-table_value c = (refl, (version_passes _ c.check.ensures c.in_ok-ok_or.ensures.ok_part).0)

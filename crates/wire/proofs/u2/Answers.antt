@@ -1,7 +1,9 @@
--- `wire::u2` meets its contract: the library's number of two bytes is F1's.
+-- `wire::u2` meets its contract: two bytes, by the definition.
 -- Assumes nothing.
-use Rattle.wire.proofs.Laws as little
+use native.Mathlib.Omega.{arith}
+use Rattle.wire.specs.Little.{little_at}
 use Rattle.wire.proofs.u2.Goals as goal
 
 pub returns : goal.returns
-returns c = rw (c.from_le_bytes.ensures, c.bytes.ensures) (little.u2 _ _)
+unfolding little_at
+returns c = omega arith
