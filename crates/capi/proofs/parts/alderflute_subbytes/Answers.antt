@@ -1,6 +1,6 @@
 -- `capi::parts::alderflute_subbytes` meets its contract: the sub-block, or an empty part.
 -- Assumes nothing.
-use mathlib.Core.Path.{◌≡◌, sym, ap, ◌∙◌}
+use mathlib.Core.Path.{◌≡◌, sym, ap}
 use mathlib.Core.Bool.{false}
 use Rattle.std.proofs.Common.{None}
 use Rattle.walk.specs.declared.Span.{Span}
