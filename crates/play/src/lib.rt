@@ -179,13 +179,7 @@ fn field(a: Answer) -> Result<AskReply, Refusal>
 }
 
 // A call that is lent nothing to write, on what it is lent of each buffer. `tow` and `wnc` read no buffer.
-fn ask_on(
-    s: State,
-    ask: Ask,
-    given: &[u8],
-    hold: &[u8],
-    force: &[u8],
-) -> Result<AskReply, Refusal>
+fn ask_on(s: State, ask: Ask, given: &[u8], hold: &[u8], force: &[u8]) -> Result<AskReply, Refusal>
     ensures { T (plainly result) }
 {
     match ask {

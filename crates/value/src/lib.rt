@@ -37,7 +37,7 @@ fn signed(x: u64, half: u64) -> i64
     }
 }
 
-// The bits of an f4.
+// The bits of an f4; those of an f8 have a function of their own, for no trait makes a float of either width.
 fn single_of(x: u64) -> Value
     requires { x < 256 ^ 4 }
     ensures { Means result (single x) }
@@ -118,8 +118,7 @@ pub fn read(s: &[u8], f: FieldRow) -> Value
     requires { f.offset + size_of f.kind ≤ length s.now }
     ensures { Means result (field_value s.now f) }
 {
-    let at = f.offset;
-    let x = bits_at(s, at, f.kind);
+    let x = bits_at(s, f.offset, f.kind);
     if kinds::is_do_not_use(f.mark, f.kind, x) {
         return Value::DoNotUse;
     }

@@ -7,12 +7,9 @@ use native.Mathlib.Omega.{arith}
 use lib.IntN.{negsuc}
 use mir.Syntax.{w64}
 use mir.ValLaws.{to_z_pos}
-use Rattle.value.proofs.Sign.{below_fits, below_value}
+use Rattle.value.proofs.Sign.{below_value}
 use Rattle.value.specs.Bits.{with_sign}
 use Rattle.value.proofs.signed.Goals as goal
-
-pub overflow_sub-result : goal.overflow_sub-result
-overflow_sub-result c = below_fits (c.args.half - 1 - (c.args.x - c.args.half)) (omega arith)
 
 pub returns-then-x-half : goal.returns-then-x-half
 unfolding with_sign

@@ -1,6 +1,6 @@
 -- `capi::parts::alderflute_bytes` meets its contract: the part that stands, or an empty one.
 -- Assumes nothing.
-use mathlib.Core.Path.{◌≡◌, refl, sym, ap, ◌∙◌}
+use mathlib.Core.Path.{◌≡◌, refl, sym, ap}
 use mathlib.Core.Bool.{false}
 use lib.ListN.{length}
 use Rattle.reader.specs.State.{sound}

@@ -1,9 +1,0 @@
--- `play::replies::staged` meets its contract: case by case.
--- Assumes nothing.
-use Rattle.play.proofs.replies.staged.Goals as goal
-
-pub returns-in-Version : goal.returns-in-Version
-returns-in-Version c = record { result_value = rw c.in-Version.is; result_value_2 = rw c.in-Version.is }
-
-pub returns-in-Refused : goal.returns-in-Refused
-returns-in-Refused c = record { result_value = rw c.in-Refused.is; result_value_2 = rw c.in-Refused.is }
