@@ -44,12 +44,6 @@ impl From<Refusal> for u32 {
     }
 }
 
-pub fn number(x: Refusal) -> u32
-    ensures { result ≡ number_for x }
-{
-    u32::from(x)
-}
-
 // A number tells its refusal.
 pub fn numbers_apart()
     ensures { NumbersApart }

@@ -42,7 +42,7 @@ impl fmt::Display for Fault {
                 "is not of the form NUMBER REVISION TOW WNC VALUE .. / VALUE .."
             ),
             Fault::Refused(why) => {
-                let number = refusal::number(*why);
+                let number = u32::from(*why);
                 let words = words_for(*why);
                 write!(f, "refused {number}: {words}")
             }
