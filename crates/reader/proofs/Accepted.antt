@@ -20,9 +20,6 @@ module _ (s : State) (l : List ℕ) (d : Outcome) where
   accepted_by (Some m) f = absurd cc
   accepted_by None f = refl
 
-  pub is_refused : (o : Option ℕ) (n : ℕ) → o ≡ Some n → outcome (refused n) s l ≡ unless o s l d
-  is_refused o n e = sym (ap (λ (x : Option ℕ). unless x s l d) e)
-
   pub is_done : (o : Option ℕ) → o ≡ None → d ≡ unless o s l d
   is_done o e = sym (ap (λ (x : Option ℕ). unless x s l d) e)
 

@@ -138,6 +138,7 @@ pub fn is_sound(s: State) -> bool
 {
     let r = s.run;
     let c = r.counts;
+    // With `&&` the one test would be nine branches to prove.
     (r.held <= 65532)
         & (r.held <= c.taken)
         & (r.standing <= r.held)

@@ -35,6 +35,7 @@ pub fn of_feed(s: State, hold: &[u8], piece: usize) -> Result<(), Refusal>
     if !is_feeding(run.phase) {
         return Err(Refusal::OutOfTurn);
     }
+    // One test, as the proof takes it, and not two branches.
     if (run.counts.taken < 4294967295) | (piece == 0) {
         return Ok(());
     }
