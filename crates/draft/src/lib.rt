@@ -81,13 +81,7 @@ pub fn list_ok(
 }
 
 // The sub-blocks' lists from p on, where the first one begins or all has ended: how many there are.
-fn subs_ok(
-    fields: &[[u8; 4]],
-    revision: u8,
-    kinds: &[u8],
-    bits: &[u64],
-    p: usize,
-) -> Option<usize>
+fn subs_ok(fields: &[[u8; 4]], revision: u8, kinds: &[u8], bits: &[u64], p: usize) -> Option<usize>
     requires { (p ≤ length kinds.now) × Stops kinds.now bits.now p }
     ensures { result ≡ counted (subs_allowed (list_ok revision (fields_of fields.now)) (subs_from kinds.now bits.now p)) (subs_from kinds.now bits.now p) }
 {
