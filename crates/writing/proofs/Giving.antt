@@ -28,7 +28,7 @@ use Rattle.entry.specs.Bits.{unsigned_bits, signed_within, signed_bits, bits_for
 use Rattle.draft.specs.declared.Head.{Head}
 use Rattle.draft.specs.Draft.{Draft, stamps_ok, body_ok, subs_ok}
 use Rattle.writing.specs.Giving.{InEntry, CanBeGiven}
-use Rattle.lay.proofs.Low.{none_some, only_if}
+use Rattle.lay.proofs.Low.{only_if}
 use Rattle.writing.proofs.Values.{in_range, sign_back, signed_cases, marked_none}
 use Rattle.draft.proofs.Admitted.{Admitted, admitted}
 use Rattle.writing.proofs.Wanting.{wanted_bits_lem}
@@ -131,9 +131,9 @@ able_said kind (double n) x e =
     let k = only_if (eqb kind f8) (unsigned_bits 8 n) e in
     let r = in_range 8 n x k.1 in
     record { says = refl; bits = omega (arith, r.0, r.1) }
-able_said kind do_not_use x e = none_some e
-able_said kind not_in_revision x e = none_some e
-able_said kind (field_refused n) x e = none_some e
+able_said kind do_not_use x e = cc
+able_said kind not_in_revision x e = cc
+able_said kind (field_refused n) x e = cc
 
 able_unset : (w : Wanted) → is_unset w ≡ true → Able w
 unfolding wanted_of

@@ -24,7 +24,6 @@ use Rattle.writer.specs.Block.{field_bits, field_out, zeros, laid}
 use Rattle.writing.specs.Theorems.{said_back}
 use Rattle.writing.proofs.Little.{little_behind, little_back}
 use Rattle.writer.proofs.Rows.{FieldsKept}
-use Rattle.lay.proofs.Low.{none_some}
 use Rattle.writing.proofs.Values.{bits_read}
 use Rattle.writing.proofs.Wanting.{starts_by, kept_kind, kept_rest, kept_still, row_kind, wanted_bits_lem, bits_are, get_d_rest, wanted_at}
 
@@ -69,7 +68,7 @@ pub laid-bits : (revision at : ℕ) (fs : List FieldRow) (ws : List Wanted) → 
     → length pre ≡ at → b ≡ pre ++ (laid revision at fs ws ++ rest) → (i : ℕ) (f : FieldRow) → pick fs i ≡ Some f → carried revision f ≡ true
     → little_at (size_of f.kind) b f.offset ≡ field_bits f (get_or ws i None)
 unfolding list_ok pick
-laid-bits revision at [] ws kept ok pre rest b p e i f q c = none_some q
+laid-bits revision at [] ws kept ok pre rest b p e i f q c = cc
 laid-bits revision at (g ∷ fs) ws kept ok pre rest b p e zero f q c =
     let same : g ≡ f = cc in
     let cg : carried revision g ≡ true = rw same c in

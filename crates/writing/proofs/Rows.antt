@@ -14,12 +14,11 @@ use Rattle.table.specs.Lookup.{has_number, find_row}
 use Rattle.table.proofs.Passed.{meaning}
 use Rattle.wire.proofs.Tests.{bool?, both}
 use Rattle.writer.proofs.Rows.{RowKept, row_kept}
-use Rattle.lay.proofs.Low.{none_some}
 
 -- the first that passes a test passes it, and what every one does
 pub first_passes : {A : Type 0} (p q : A → Bool) (xs : List A) (x : A) → first_that p xs ≡ Some x → every q xs ≡ true → (p x ≡ true) × (q x ≡ true)
 unfolding first_that every
-first_passes p q [] x f e = none_some f
+first_passes p q [] x f e = cc
 first_passes {A = A} p q (y ∷ ys) x f e =
     let k = both (q y) _ e in
     bool? (p y)

@@ -9,12 +9,11 @@ use native.Mathlib.Omega.{arith}
 use lib.ListN.{length, take, drop}
 use lib.Seq.{take_at, drop-append-add}
 use Rattle.table.specs.Lists.{pick}
-use Rattle.lay.proofs.Low.{none_some}
 
 module _ {A : Type 0} (f : A → List ℕ) (n : ℕ) (even : (x : A) → length (f x) ≡ n) where
   slice_at : (xs : List A) (rest : List ℕ) (k : ℕ) (x : A) → pick xs k ≡ Some x → take n (drop (k * n) (flat_map f xs ++ rest)) ≡ f x
   unfolding pick flat_map
-  slice_at [] rest k x q = none_some q
+  slice_at [] rest k x q = cc
   slice_at (y ∷ xs) rest zero x q =
       let same : y ≡ x = cc in
       rw (zero-mul n, append_assoc (f y) (flat_map f xs) rest) (take_at (f y) (flat_map f xs ++ rest) n (even y) ∙ ap f same)

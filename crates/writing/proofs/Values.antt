@@ -18,7 +18,7 @@ use Rattle.value.proofs.Types.{plain}
 use Rattle.entry.specs.Wanted.{Wanted}
 use Rattle.entry.specs.Bits.{unsigned_bits, signed_within, bits_for, unless_marked, bits_of}
 use Rattle.writing.specs.Theorems.{said_back, as_read}
-use Rattle.lay.proofs.Low.{none_some, only_if}
+use Rattle.lay.proofs.Low.{only_if}
 use Rattle.wire.proofs.Tests.{bool?, eq?, both}
 
 -- ---- the bits of a type, and what they read as
@@ -91,17 +91,17 @@ said_back_lem kind (double b) x e =
     let k = only_if (eqb kind f8) (unsigned_bits 8 b) e in
     let r = in_range 8 b x k.1 in
     subst (λ (n : ℕ). ReadsAs n (double b) x) (sym (eqb-true kind f8 k.0)) (r.0, ap double (sym r.1))
-said_back_lem kind do_not_use x e = none_some e
-said_back_lem kind not_in_revision x e = none_some e
-said_back_lem kind (field_refused n) x e = none_some e
+said_back_lem kind do_not_use x e = cc
+said_back_lem kind not_in_revision x e = cc
+said_back_lem kind (field_refused n) x e = cc
 
 -- ---- with the mark
 
 pub marked_none : (f : FieldRow) (o : Option ℕ) (x : ℕ) → unless_marked f o ≡ Some x → (o ≡ Some x) × (is_do_not_use f.mark f.kind x ≡ false)
-marked_none f None x e = none_some e
+marked_none f None x e = cc
 marked_none f (Some y) x e =
     bool? (is_do_not_use f.mark f.kind y)
-    (λ t. none_some (sym (ap (λ (b : Bool). cond b None (Some y)) t) ∙ e))
+    (λ t. cc (sym (ap (λ (b : Bool). cond b None (Some y)) t) ∙ e))
     (λ t.
     let s : Some y ≡ Some x = sym (ap (λ (b : Bool). cond b None (Some y)) t) ∙ e in
     let q : y ≡ x = cc s in
@@ -126,7 +126,7 @@ bits_read f (Some said) x l m e =
 pub never_refused : (f : FieldRow) (w : Wanted) (x n : ℕ) → bits_of f w ≡ Some x → said_back w ≡ field_refused n → ⊥
 unfolding bits_of bits_for
 never_refused f None x n e s = let z : ◌≡◌ {A = ℕ} 0 1 = cc s in omega arith
-never_refused f (Some said) x n e s = none_some (sym (ap (λ (a : FieldSaid). unless_marked f (bits_for f.kind a)) s) ∙ e)
+never_refused f (Some said) x n e s = cc (sym (ap (λ (a : FieldSaid). unless_marked f (bits_for f.kind a)) s) ∙ e)
 
 pub wanted_again : (f : FieldRow) (w : Wanted) (x : ℕ) → bits_of f w ≡ Some x → as_read (said_back w) ≡ w
 unfolding bits_of bits_for
@@ -135,9 +135,9 @@ wanted_again f (Some (unsigned n)) x e = refl
 wanted_again f (Some (signed z)) x e = refl
 wanted_again f (Some (single b)) x e = refl
 wanted_again f (Some (double b)) x e = refl
-wanted_again f (Some do_not_use) x e = none_some e
-wanted_again f (Some not_in_revision) x e = none_some e
-wanted_again f (Some (field_refused n)) x e = none_some e
+wanted_again f (Some do_not_use) x e = cc
+wanted_again f (Some not_in_revision) x e = cc
+wanted_again f (Some (field_refused n)) x e = cc
 
 pub bits_again : (f : FieldRow) (w : Wanted) (x : ℕ) → bits_of f w ≡ Some x → bits_of f (as_read (said_back w)) ≡ Some x
 bits_again f w x e = ap (bits_of f) (wanted_again f w x e) ∙ e

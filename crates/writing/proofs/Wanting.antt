@@ -22,7 +22,6 @@ use Rattle.lay.specs.Code.{in_order}
 use Rattle.writer.specs.Block.{field_bits}
 use Rattle.lay.proofs.Laying.{order_earlier}
 use Rattle.writer.proofs.Rows.{FieldsKept}
-use Rattle.lay.proofs.Low.{none_some}
 
 -- ---- the rules
 
@@ -53,7 +52,7 @@ module _ (at : ℕ) (f : FieldRow) (fs : List FieldRow) (kept : FieldsKept at (f
 
 pub row_kind : (at : ℕ) (fs : List FieldRow) → FieldsKept at fs → (i : ℕ) (f : FieldRow) → pick fs i ≡ Some f → (type_ok f ≡ true) × (mark_ok f ≡ true)
 unfolding pick
-row_kind at [] kept i f q = none_some q
+row_kind at [] kept i f q = cc
 row_kind at (g ∷ fs) kept zero f q = let same : g ≡ f = cc in rw (← same) (kept_kind at g fs kept)
 row_kind at (g ∷ fs) kept (suc i) f q = row_kind (ends g) fs (kept_rest at g fs kept) i f q
 
@@ -79,7 +78,7 @@ get_d_rest (x ∷ xs) i d = refl
 pub wanted_at : (revision : ℕ) (fs : List FieldRow) (ws : List Wanted) → list_ok revision fs ws ≡ true → (i : ℕ) (f : FieldRow) → pick fs i ≡ Some f
     → wanted_ok revision f (get_or ws i None) ≡ true
 unfolding list_ok pick
-wanted_at revision [] ws ok i f q = none_some q
+wanted_at revision [] ws ok i f q = cc
 wanted_at revision (g ∷ fs) ws ok zero f q =
     let same : g ≡ f = cc in
     rw (← same) (both (wanted_ok revision g (get_or ws 0 None)) _ ok).0
