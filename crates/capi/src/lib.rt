@@ -18,16 +18,14 @@ pub mod blocks; // blocks.rt: Write
 pub fn alderflute_new() -> CState
     ensures { result ≡ state_c new_state }
 {
-    let s = reader::new();
-    cform::states::state_c(s)
+    cform::states::state_c(reader::new())
 }
 
 // The settings of a new reader: where nothing else is wanted, what to give Open.
 pub fn alderflute_default_settings() -> CSettings
     ensures { result ≡ settings_c default_settings }
 {
-    let x = reader::default_settings();
-    cform::states::settings_c(x)
+    cform::states::settings_c(reader::default_settings())
 }
 
 // The number of the interface. It rises where a program that was compiled with an older header would go wrong.
