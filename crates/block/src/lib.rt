@@ -46,7 +46,7 @@ fn all_end(fields: &[[u8; 4]], revision: u8, n: usize) -> bool
 {
     fields
         .iter()
-        .all(|field| ends_by(rows::field(*field), revision, n))
+        .all(|field| ends_by(rows::field(field), revision, n))
 }
 
 // Refusal 7 is given where this fails.
@@ -105,7 +105,7 @@ fn nested_at(row: Shape) -> usize
     ensures { (result ≡ offset_of (nested_row (shape_says row.entry))) × (result < 256) }
 {
     match row.subs.get(row.firsts.saturating_sub(1)) {
-        Some(field) => rows::field(*field).offset,
+        Some(field) => rows::field(field).offset,
         None => 0,
     }
 }

@@ -70,7 +70,7 @@ pub fn list_ok(
 {
     let mut next = p;
     for field in fields {
-        let f = rows::field(*field);
+        let f = rows::field(field);
         let t = entry::take(kinds, bits, next);
         if !wanted_ok(f, revision, t.entry) {
             return None;
@@ -136,7 +136,7 @@ fn last_end(fields: &[[u8; 4]], revision: u8, from: usize) -> usize
     ensures { (result ≡ last_end revision from (fields_of fields.now)) × (result ≤ 65543) }
 {
     for i in (0..fields.len()).rev() {
-        let f = rows::field(fields[i]);
+        let f = rows::field(&fields[i]);
         if f.first <= revision {
             return f.offset + kinds::size(f.kind);
         }

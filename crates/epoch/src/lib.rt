@@ -61,7 +61,7 @@ fn number_at(fields: &[[u8; 4]], j: usize, kind: u8, s: &[u8], revision: u8) -> 
     ensures result_value { result ≡ unsigned_at revision s.now kind (pick (fields_of fields.now) j) }
     ensures number_below { IfSome result (λ n. n < 256 ^ size_of kind) }
 {
-    let f = rows::field(*fields.get(j)?);
+    let f = rows::field(fields.get(j)?);
     if f.kind != kind {
         return None;
     }

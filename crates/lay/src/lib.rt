@@ -88,7 +88,7 @@ pub fn fields(
     let mut next = p;
     let mut end = from;
     for row in rows {
-        let f = rows::field(*row);
+        let f = rows::field(row);
         let t = entry::take(kinds, bits, next);
         next = t.next;
         if f.first <= revision {

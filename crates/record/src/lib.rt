@@ -39,7 +39,7 @@ pub fn field_in(fields: &[[u8; 4]], i: usize, s: &[u8], revision: u8) -> Answer
     ensures { Answers result (field_or9 revision s.now (pick (fields_of fields.now) i)) }
 {
     match fields.get(i) {
-        Some(field) => field_said(s, rows::field(*field), revision),
+        Some(field) => field_said(s, rows::field(field), revision),
         None => Err(Refusal::NoSuchField),
     }
 }

@@ -73,10 +73,10 @@ pub fn field_count(t: &[u8], at: usize) -> usize
 }
 
 // T11: a field row, from its four bytes.
-pub fn field(bytes: [u8; 4]) -> FieldRow
-    ensures { (result ≡ field_of bytes) × (result.offset < 256) }
+pub fn field(bytes: &[u8; 4]) -> FieldRow
+    ensures { (result ≡ field_of bytes.now) × (result.offset < 256) }
 {
-    let [offset, kind, first, mark] = bytes;
+    let [offset, kind, first, mark] = *bytes;
     FieldRow {
         offset: usize::from(offset),
         kind,

@@ -42,7 +42,7 @@ fn two_levels(s: Shape) -> bool
     let (level, nest) = s.subs.split_at(c);
     let first = fields::fields_ok(level, 0, s.highest);
     let second = fields::fields_ok(nest, 0, s.highest);
-    let nested = fields::nested_ok(s.subs[c - 1]);
+    let nested = fields::nested_ok(&s.subs[c - 1]);
     let triple = fields::triple_ok(s.body);
     let early = fields::all_early(s.body);
     first & second & nested & triple & early

@@ -24,7 +24,7 @@ pub fn fields_ok(rows: &[[u8; 4]], least: usize, highest: u8) -> bool
     let mut low = least;
     let mut rev: u8 = 0;
     for row in rows {
-        let f = field(*row);
+        let f = field(row);
         if !field_ok(f, low, rev, highest) {
             return false;
         }
@@ -45,14 +45,14 @@ pub fn pair_ok(rows: &[[u8; 4]]) -> bool
     ensures { result ≡ is_pair (fields_of rows.now) }
 {
     match rows {
-        [n, s] => is_count(field(*n), 14) & is_count(field(*s), 15),
+        [n, s] => is_count(field(n), 14) & is_count(field(s), 15),
         _ => false,
     }
 }
 
 // Whether the row can be N2.
-pub fn nested_ok(row: [u8; 4]) -> bool
-    ensures { result ≡ is_nested (Some (field_of row)) }
+pub fn nested_ok(row: &[u8; 4]) -> bool
+    ensures { result ≡ is_nested (Some (field_of row.now)) }
 {
     let f = field(row);
     is_count(f, f.offset)
@@ -64,7 +64,7 @@ pub fn triple_ok(rows: &[[u8; 4]]) -> bool
 {
     match rows {
         [n, first, second, ..] => {
-            is_count(field(*n), 14) & is_count(field(*first), 15) & is_count(field(*second), 16)
+            is_count(field(n), 14) & is_count(field(first), 15) & is_count(field(second), 16)
         }
         _ => false,
     }
@@ -81,5 +81,5 @@ fn is_early(f: FieldRow) -> bool
 pub fn all_early(rows: &[[u8; 4]]) -> bool
     ensures { result ≡ every early (fields_of rows.now) }
 {
-    rows.iter().all(|row| is_early(field(*row)))
+    rows.iter().all(|row| is_early(field(row)))
 }
