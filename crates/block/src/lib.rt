@@ -12,7 +12,7 @@ ghost use Rattle.block.specs.Code.{Fitting, Looking};
 ghost use Rattle.frame.specs.Frame.{whole_frame};
 
 use refusal::Refusal;
-use rows::FieldRow;
+use rows::{FieldBytes, FieldRow};
 use table::Shape;
 use walk::{Nest, Span, Walked};
 
@@ -41,7 +41,7 @@ fn ends_by(f: FieldRow, revision: u8, n: usize) -> bool
 }
 
 // The same of each of these field rows.
-fn all_end(fields: &[[u8; 4]], revision: u8, n: usize) -> bool
+fn all_end(fields: &[FieldBytes], revision: u8, n: usize) -> bool
     ensures { result ≡ every (ends_by revision n) (fields_of fields.now) }
 {
     fields
@@ -102,7 +102,7 @@ fn subs_fit(row: Shape, block: &[u8]) -> bool
 
 // Where N2 stands in a first-level sub-block: the first level's last field.
 fn nested_at(row: Shape) -> usize
-    ensures { (result ≡ offset_of (nested_row (shape_says row.entry))) × (result < 256) }
+    ensures { (result ≡ offset_of (nested_row (shape_says row.entry))) × (result < 65536) }
 {
     match row.subs.get(row.firsts.saturating_sub(1)) {
         Some(field) => rows::field(field).offset,

@@ -10,28 +10,26 @@ const LONGEST: usize = 270000;
 const TOO_LONG: usize = 270001;
 
 // The lines of standard input: the last one that was found, the piece that was read last, of which the bytes from `at` to `end`
-// are yet to be looked at, and whether the input has ended.
+// are yet to be looked at, and how reading stopped, if it has.
 #[derive(Drop)]
 pub struct Lines<'a> {
     pub line: &'a mut [u8; 270000],
     piece: &'a mut [u8; 65536],
     at: usize,
     end: usize,
-    ended: bool,
+    stopped: Option<Result<(), Failure>>,
     ghost within: { (at ≤ end) × (end ≤ 65536) },
 }
 
-// Puts more of a line behind its first bytes, and answers how long it is then. Of a line that is too long no more is kept.
+// Puts more of a line behind its first bytes, and answers how long it is then. A line that is too long keeps its first bytes only.
 fn append(line: &mut [u8; 270000], so_far: usize, more: &[u8]) -> usize
     requires { (length more.now ≤ 65536) × (so_far ≤ 270001) }
     ensures { result ≤ 270001 }
 {
-    let end = so_far + more.len();
-    if end > LONGEST {
-        return TOO_LONG;
-    }
-    line[so_far..end].copy_from_slice(more);
-    end
+    let from = so_far.min(LONGEST);
+    let kept = more.len().min(LONGEST - from);
+    line[from..from + kept].copy_from_slice(&more[..kept]);
+    (so_far + more.len()).min(TOO_LONG)
 }
 
 impl<'a> Lines<'a> {
@@ -42,20 +40,27 @@ impl<'a> Lines<'a> {
             piece,
             at: 0,
             end: 0,
-            ended: false,
+            stopped: None,
         }
     }
 
-    // Reads the next piece; whether there is one. An input that has ended is not read again.
+    // Reads the next piece; whether there is one. An input that has ended, or that could not be read, is not read again: what stopped
+    // it is answered from then on.
     fn fill(&mut self, rt: &HostRuntime) -> Result<bool, Failure> {
-        if self.ended {
-            return Ok(false);
+        if let Some(stopped) = self.stopped {
+            return stopped.and(Ok(false));
         }
-        let count = crate::read(rt, self.piece)?;
-        self.at = 0;
-        self.end = count;
-        self.ended = count == 0;
-        Ok(count != 0)
+        match crate::read(rt, self.piece) {
+            Ok(count) if count != 0 => {
+                self.at = 0;
+                self.end = count;
+                Ok(true)
+            }
+            stop => {
+                self.stopped = Some(stop.and(Ok(())));
+                stop.and(Ok(false))
+            }
+        }
     }
 
     // How long the next line is, TOO_LONG for any longer one, or that there is none. A line begins where the last one ended; at the

@@ -9,7 +9,7 @@ ghost use Rattle.draft.specs.Draft.{draft_of, stamps_ok, draft_ok, last_end, sb_
 ghost use Rattle.draft.specs.Code.{Stops, Resting, Listing, subs_from, subs_allowed, lists_counted, counted, Sizing};
 
 use entry::Entry;
-use rows::FieldRow;
+use rows::{FieldBytes, FieldRow};
 use table::Shape;
 
 // N is one byte, so a block has at most so many sub-blocks.
@@ -59,7 +59,7 @@ pub fn wanted_ok(f: FieldRow, revision: u8, e: Entry) -> bool
 
 // The list from p on, for these field rows: where it ends.
 pub fn list_ok(
-    fields: &[[u8; 4]],
+    fields: &[FieldBytes],
     revision: u8,
     kinds: &[u8],
     bits: &[u64],
@@ -81,7 +81,13 @@ pub fn list_ok(
 }
 
 // The sub-blocks' lists from p on, where the first one begins or all has ended: how many there are.
-fn subs_ok(fields: &[[u8; 4]], revision: u8, kinds: &[u8], bits: &[u64], p: usize) -> Option<usize>
+fn subs_ok(
+    fields: &[FieldBytes],
+    revision: u8,
+    kinds: &[u8],
+    bits: &[u64],
+    p: usize,
+) -> Option<usize>
     requires { (p ≤ length kinds.now) × Stops kinds.now bits.now p }
     ensures { result ≡ counted (subs_allowed (list_ok revision (fields_of fields.now)) (subs_from kinds.now bits.now p)) (subs_from kinds.now bits.now p) }
 {
@@ -131,7 +137,7 @@ pub fn accepts(row: Shape, h: Head, kinds: &[u8], bits: &[u64]) -> Option<usize>
 }
 
 // Where the last carried one of these field rows ends. It is looked for from the last row on: in most blocks that one is carried.
-fn last_end(fields: &[[u8; 4]], revision: u8, from: usize) -> usize
+fn last_end(fields: &[FieldBytes], revision: u8, from: usize) -> usize
     requires { from ≤ 65543 }
     ensures { (result ≡ last_end revision from (fields_of fields.now)) × (result ≤ 65543) }
 {

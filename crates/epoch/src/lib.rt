@@ -16,6 +16,7 @@ ghost use Rattle.epoch.specs.Ranges.{unsigned_of, unsigned_at, pair_at, first_pa
 
 use record::Answer;
 use refusal::Refusal;
+use rows::FieldBytes;
 use table::Shape;
 use value::Value;
 use walk::{Nest, Span};
@@ -56,7 +57,7 @@ fn number_of(a: Answer) -> Option<u64>
 }
 
 // The number in field j of these rows, in these bytes, where it is of the type.
-fn number_at(fields: &[[u8; 4]], j: usize, kind: u8, s: &[u8], revision: u8) -> Option<u64>
+fn number_at(fields: &[FieldBytes], j: usize, kind: u8, s: &[u8], revision: u8) -> Option<u64>
     requires { (every (ends_by revision (length s.now)) (fields_of fields.now) ≡ true) × (kind ≤ 4) }
     ensures result_value { result ≡ unsigned_at revision s.now kind (pick (fields_of fields.now) j) }
     ensures number_below { IfSome result (λ n. n < 256 ^ size_of kind) }
@@ -69,7 +70,7 @@ fn number_at(fields: &[[u8; 4]], j: usize, kind: u8, s: &[u8], revision: u8) -> 
 }
 
 // The numbers in field 3, a u1, and in field j.
-fn pair_at(fields: &[[u8; 4]], j: usize, kind: u8, s: &[u8], revision: u8) -> Option<(u64, u64)>
+fn pair_at(fields: &[FieldBytes], j: usize, kind: u8, s: &[u8], revision: u8) -> Option<(u64, u64)>
     requires { (every (ends_by revision (length s.now)) (fields_of fields.now) ≡ true) × (kind ≤ 4) }
     ensures result_value { result ≡ pair_at revision s.now j kind (fields_of fields.now) }
     ensures pair_below { IfSome result (λ p. p.1 < 256 ^ size_of kind) }

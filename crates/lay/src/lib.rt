@@ -17,7 +17,7 @@ ghost use Rattle.lay.specs.Fields.{field_out, zeros, laid};
 ghost use Rattle.lay.specs.Code.{Ending, in_order};
 
 use entry::Entry;
-use rows::FieldRow;
+use rows::{FieldBytes, FieldRow};
 
 // Where a list ended, and where its last field ends.
 #[derive(Clone, Copy)]
@@ -69,7 +69,7 @@ pub fn list_end(kinds: &[u8], p: usize) -> usize
 // The carried ones of these field rows, with the values from p on; offsets count from `base`, and the
 // first byte written is the one at `from`.
 pub fn fields(
-    rows: &[[u8; 4]],
+    rows: &[FieldBytes],
     revision: u8,
     kinds: &[u8],
     bits: &[u64],
@@ -103,7 +103,7 @@ pub fn fields(
 
 // The sub-blocks from p on, the first at `base`.
 pub fn subs(
-    rows: &[[u8; 4]],
+    rows: &[FieldBytes],
     revision: u8,
     kinds: &[u8],
     bits: &[u64],

@@ -56,7 +56,7 @@ fn drain(
 // How much room a spent piece asks for in the output buffer: all of it where the next read can wait, so that what waits is
 // written out and a live stream's blocks are seen as they come; else as much as a line does.
 fn room_of_spent(rt: &HostRuntime) -> usize
-    ensures { result ≤ 8192 }
+    ensures { (90 ≤ result) × (result ≤ 8192) }
 {
     if console::live(rt) {
         return 8192;

@@ -15,7 +15,7 @@ ghost use Rattle.block.specs.Block.{ends_by};
 ghost use Rattle.record.specs.Calls.{field_said, field_or9, body_field, sub_slice, sub_field, sub_block, nowhere, sub_place, sub_block_refusal, tow_row, wnc_row, stamp};
 
 use refusal::Refusal;
-use rows::FieldRow;
+use rows::{FieldBytes, FieldRow};
 use value::Value;
 use walk::Span;
 
@@ -34,7 +34,7 @@ pub fn field_said(s: &[u8], f: FieldRow, revision: u8) -> Answer
 }
 
 // Field i of these rows, in these bytes, in which each ends that the revision carries.
-pub fn field_in(fields: &[[u8; 4]], i: usize, s: &[u8], revision: u8) -> Answer
+pub fn field_in(fields: &[FieldBytes], i: usize, s: &[u8], revision: u8) -> Answer
     requires { every (ends_by revision (length s.now)) (fields_of fields.now) ≡ true }
     ensures { Answers result (field_or9 revision s.now (pick (fields_of fields.now) i)) }
 {

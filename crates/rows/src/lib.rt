@@ -72,9 +72,12 @@ pub fn field_count(t: &[u8], at: usize) -> usize
     at / 4
 }
 
-// T11: a field row, from its four bytes.
-pub fn field(bytes: &[u8; 4]) -> FieldRow
-    ensures { (result ≡ field_of bytes.now) × (result.offset < 256) }
+// T11: the bytes of a field row. Who holds rows names them so, and goes on where they get wider.
+pub type FieldBytes = [u8; 4];
+
+// T11: a field row, from its bytes.
+pub fn field(bytes: &FieldBytes) -> FieldRow
+    ensures { (result ≡ field_of bytes.now) × (result.offset < 65536) }
 {
     let [offset, kind, first, mark] = *bytes;
     FieldRow {

@@ -1,4 +1,5 @@
-// A script's lines: each is read as a call. Its first word says which, and the words behind it are read as that call asks.
+// A script's lines: each is read as a call. Its first word says which, and the words behind it are read as that call asks. Words are
+// matched by their keys (`words::keys_hold`).
 #![tactic(auto)]
 
 ghost use Rattle.std.specs.Prelude.{◌≤◌, ◌≡◌, length, IfSome};
@@ -71,11 +72,11 @@ pub struct Asked {
     pub behind: usize,
 }
 
-// A word of a line, and where the text behind its space begins. `leads` is its value where it is a number with more behind it, `ends`
-// where it is one and the line ends with it.
+// A word of a line: its key, and where the text behind its space begins. `leads` is its value where it is a number with more behind it,
+// `ends` where it is one and the line ends with it.
 #[derive(Clone, Copy)]
-struct Word<'a> {
-    text: &'a [u8],
+struct Word {
+    key: u64,
     next: usize,
     is_last: bool,
     leads: Option<u64>,
@@ -90,17 +91,17 @@ fn behind(end: usize, length: usize) -> usize
     if end < length { end + 1 } else { length }
 }
 
-fn word_at(line: &[u8], from: usize) -> Word<'_>
+fn word_at(line: &[u8], from: usize) -> Word
     requires { from ≤ length line.now }
     ensures { (from ≤ result.next) × (result.next ≤ length line.now) }
 {
-    let rest = &line[from..];
-    let e = words::word_end(rest);
-    let text = &rest[..e];
-    let number = words::number(text);
-    let is_last = e == rest.len();
+    let text = &line[from..];
+    let e = words::word_end(text);
+    let word = &text[..e];
+    let number = words::number(word);
+    let is_last = e == text.len();
     Word {
-        text,
+        key: words::key(word),
         next: behind(from + e, line.len()),
         is_last,
         leads: if is_last { None } else { number },
@@ -108,42 +109,42 @@ fn word_at(line: &[u8], from: usize) -> Word<'_>
     }
 }
 
-fn buffer_of(word: &[u8]) -> Option<Buffer> {
-    match word {
-        b"hold" => Some(Buffer::Hold),
-        b"force" => Some(Buffer::InForce),
-        b"waiting" => Some(Buffer::Waiting),
-        b"out" => Some(Buffer::Out),
+fn buffer_of(key: u64) -> Option<Buffer> {
+    match key {
+        0x686f6c64 => Some(Buffer::Hold), // hold
+        0x666f726365 => Some(Buffer::InForce), // force
+        0x77616974696e67 => Some(Buffer::Waiting), // waiting
+        0x6f7574 => Some(Buffer::Out), // out
         _ => None,
     }
 }
 
 // Bytes are put into the reader's buffers, and not into the one that Write writes.
-fn buffer_to_put(word: &[u8]) -> Option<Buffer> {
-    match buffer_of(word)? {
+fn buffer_to_put(key: u64) -> Option<Buffer> {
+    match buffer_of(key)? {
         Buffer::Out => None,
         buffer => Some(buffer),
     }
 }
 
-fn number_named(word: &[u8]) -> Option<StateNumber> {
-    match word {
-        b"phase" => Some(StateNumber::Phase),
-        b"force" => Some(StateNumber::InForce),
-        b"waits" => Some(StateNumber::Waiting),
-        b"held" => Some(StateNumber::Held),
-        b"stands" => Some(StateNumber::Standing),
-        b"taken" => Some(StateNumber::Taken),
-        b"blocks" => Some(StateNumber::Blocks),
-        b"skipped" => Some(StateNumber::Skipped),
-        b"ceiling" => Some(StateNumber::Ceiling),
+fn number_named(key: u64) -> Option<StateNumber> {
+    match key {
+        0x7068617365 => Some(StateNumber::Phase), // phase
+        0x666f726365 => Some(StateNumber::InForce), // force
+        0x7761697473 => Some(StateNumber::Waiting), // waits
+        0x68656c64 => Some(StateNumber::Held), // held
+        0x7374616e6473 => Some(StateNumber::Standing), // stands
+        0x74616b656e => Some(StateNumber::Taken), // taken
+        0x626c6f636b73 => Some(StateNumber::Blocks), // blocks
+        0x736b6970706564 => Some(StateNumber::Skipped), // skipped
+        0x6365696c696e67 => Some(StateNumber::Ceiling), // ceiling
         _ => None,
     }
 }
 
 // A phase is 0, 1 or 2.
-fn poke_of(word: &[u8], v: u64) -> Option<LineCall> {
-    match number_named(word)? {
+fn poke_of(key: u64, v: u64) -> Option<LineCall> {
+    match number_named(key)? {
         StateNumber::Phase if 2 < v => None,
         part => Some(LineCall::Poke(part, v)),
     }
@@ -161,20 +162,20 @@ fn open_of(first: Word, second: Word) -> Option<RunCall> {
 // `subbytes SUBBLOCK HEX`, `sub2 SUBBLOCK NESTED FIELD HEX`, `range SUBBLOCK HEX`, `range2 SUBBLOCK NESTED HEX`.
 fn ask_of(first: Word, second: Word, third: Word, fourth: Word) -> Option<(Ask, Option<usize>)>
     requires { (first.next ≤ second.next) × (second.next ≤ third.next) × (third.next ≤ fourth.next) }
-    ensures { IfSome result (λ a. IfSome a.1 (λ from. from ≤ fourth.entry.next)) }
+    ensures { IfSome result (λ a. IfSome a.1 (λ from. from ≤ fourth.next)) }
 {
     let n = second.leads;
     let m = third.leads;
-    match first.text {
-        b"bytes" if first.is_last => Some((Ask::Bytes, None)),
-        b"tow" if !first.is_last => Some((Ask::Tow, Some(first.next))),
-        b"wnc" if !first.is_last => Some((Ask::Wnc, Some(first.next))),
-        b"body" => Some((Ask::Body(n?), Some(second.next))),
-        b"subbytes" => Some((Ask::SubBytes(n?), Some(second.next))),
-        b"sub" => Some((Ask::Sub(n?, m?), Some(third.next))),
-        b"sub2" => Some((Ask::Sub2(n?, m?, fourth.leads?), Some(fourth.next))),
-        b"range" => Some((Ask::Range(n?), Some(second.next))),
-        b"range2" => Some((Ask::Range2(n?, m?), Some(third.next))),
+    match first.key {
+        0x6279746573 if first.is_last => Some((Ask::Bytes, None)), // bytes
+        0x746f77 if !first.is_last => Some((Ask::Tow, Some(first.next))), // tow
+        0x776e63 if !first.is_last => Some((Ask::Wnc, Some(first.next))), // wnc
+        0x626f6479 => Some((Ask::Body(n?), Some(second.next))), // body
+        0x7375626279746573 => Some((Ask::SubBytes(n?), Some(second.next))), // subbytes
+        0x737562 => Some((Ask::Sub(n?, m?), Some(third.next))), // sub
+        0x73756232 => Some((Ask::Sub2(n?, m?, fourth.leads?), Some(fourth.next))), // sub2
+        0x72616e6765 => Some((Ask::Range(n?), Some(second.next))), // range
+        0x72616e676532 => Some((Ask::Range2(n?, m?), Some(third.next))), // range2
         _ => None,
     }
 }
@@ -190,22 +191,23 @@ struct Head {
 // `put hold|force|waiting OFFSET HEX`, `size hold|force|waiting|out N`.
 fn begun(first: Word, second: Word, third: Word, fourth: Word) -> Option<Head>
     requires { (first.next ≤ second.next) × (second.next ≤ third.next) × (third.next ≤ fourth.next) }
-    ensures { IfSome result (λ h. IfSome h.bytes (λ from. from ≤ fourth.entry.next)) }
+    ensures { IfSome result (λ h. IfSome h.bytes (λ from. from ≤ fourth.next)) }
 {
     let alone = first.is_last;
-    let (call, bytes) = match first.text {
-        b"open" => (LineCall::Run(open_of(first, second)?), None),
-        b"finish" if alone => (LineCall::Run(RunCall::Finish), None),
-        b"withdraw" if alone => (LineCall::Run(RunCall::Withdraw), None),
-        b"feed" if !alone => (LineCall::Run(RunCall::Feed), Some(first.next)),
-        b"stage" if !alone => (LineCall::Run(RunCall::Stage), Some(first.next)),
-        b"write" if !alone => (LineCall::Write, None),
-        b"poke" => (poke_of(second.text, third.ends?)?, None),
-        b"put" => (
-            LineCall::Put(buffer_to_put(second.text)?, third.leads?),
+    let (call, bytes) = match first.key {
+        0x6f70656e => (LineCall::Run(open_of(first, second)?), None), // open
+        0x66696e697368 if alone => (LineCall::Run(RunCall::Finish), None), // finish
+        0x7769746864726177 if alone => (LineCall::Run(RunCall::Withdraw), None), // withdraw
+        0x66656564 if !alone => (LineCall::Run(RunCall::Feed), Some(first.next)), // feed
+        0x7374616765 if !alone => (LineCall::Run(RunCall::Stage), Some(first.next)), // stage
+        0x7772697465 if !alone => (LineCall::Write, None), // write
+        0x706f6b65 => (poke_of(second.key, third.ends?)?, None), // poke
+        // put
+        0x707574 => (
+            LineCall::Put(buffer_to_put(second.key)?, third.leads?),
             Some(third.next),
         ),
-        b"size" => (LineCall::Size(buffer_of(second.text)?, third.ends?), None),
+        0x73697a65 => (LineCall::Size(buffer_of(second.key)?, third.ends?), None), // size
         _ => {
             let (ask, bytes) = ask_of(first, second, third, fourth)?;
             (LineCall::Ask(ask), bytes)

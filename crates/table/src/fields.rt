@@ -1,4 +1,4 @@
-// The rules on field rows (T12 to T16, T20), as they stand: four bytes each.
+// The rules on field rows (T12 to T16, T20), as they stand.
 ghost use Rattle.std.specs.Prelude.{◌≡◌, ◌<◌};
 ghost use Rattle.rows.specs.Places.{field_of};
 ghost use Rattle.table.specs.Lists.{every};
@@ -6,7 +6,7 @@ ghost use Rattle.table.specs.Shape.{fields_of};
 ghost use Rattle.table.specs.Rules.{is_count, is_pair, is_nested, is_triple, early};
 ghost use Rattle.table.specs.Code.{field_step, field_pass};
 
-use rows::{FieldRow, field};
+use rows::{FieldBytes, FieldRow, field};
 
 // A field row, where the one before ends at `low` and has the first revision `rev`.
 fn field_ok(f: FieldRow, low: usize, rev: u8, highest: u8) -> bool
@@ -18,7 +18,7 @@ fn field_ok(f: FieldRow, low: usize, rev: u8, highest: u8) -> bool
 }
 
 // A body's rows, or those of sub-fields, the first at `least` or past it.
-pub fn fields_ok(rows: &[[u8; 4]], least: usize, highest: u8) -> bool
+pub fn fields_ok(rows: &[FieldBytes], least: usize, highest: u8) -> bool
     ensures { result ≡ field_pass least 0 highest (fields_of rows.now) }
 {
     let mut low = least;
@@ -41,7 +41,7 @@ fn is_count(f: FieldRow, at: usize) -> bool
 }
 
 // Whether these rows are N and SBLength.
-pub fn pair_ok(rows: &[[u8; 4]]) -> bool
+pub fn pair_ok(rows: &[FieldBytes]) -> bool
     ensures { result ≡ is_pair (fields_of rows.now) }
 {
     match rows {
@@ -51,7 +51,7 @@ pub fn pair_ok(rows: &[[u8; 4]]) -> bool
 }
 
 // Whether the row can be N2.
-pub fn nested_ok(row: &[u8; 4]) -> bool
+pub fn nested_ok(row: &FieldBytes) -> bool
     ensures { result ≡ is_nested (Some (field_of row.now)) }
 {
     let f = field(row);
@@ -59,7 +59,7 @@ pub fn nested_ok(row: &[u8; 4]) -> bool
 }
 
 // Whether these rows begin with N1, SB1Length and SB2Length.
-pub fn triple_ok(rows: &[[u8; 4]]) -> bool
+pub fn triple_ok(rows: &[FieldBytes]) -> bool
     ensures { result ≡ is_triple (fields_of rows.now) }
 {
     match rows {
@@ -71,14 +71,14 @@ pub fn triple_ok(rows: &[[u8; 4]]) -> bool
 }
 
 fn is_early(f: FieldRow) -> bool
-    requires { f.offset < 256 }
+    requires { f.offset < 65536 }
     ensures { result ≡ early f }
 {
     f.offset + kinds::size(f.kind) <= 20
 }
 
 // Whether these fields all end by 20, where the sub-blocks begin.
-pub fn all_early(rows: &[[u8; 4]]) -> bool
+pub fn all_early(rows: &[FieldBytes]) -> bool
     ensures { result ≡ every early (fields_of rows.now) }
 {
     rows.iter().all(|row| is_early(field(row)))

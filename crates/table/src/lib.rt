@@ -11,7 +11,7 @@ ghost use Rattle.rows.specs.Places.{field_count};
 ghost use Rattle.table.specs.Shape.{fields_of, shape_says};
 ghost use Rattle.table.specs.Theorems.{OneRow};
 
-use rows::Row;
+use rows::{FieldBytes, Row};
 
 mod blocks; // blocks.rt: the rules on block rows, and the pass over all rows
 mod fields; // fields.rt: the rules on field rows
@@ -43,14 +43,14 @@ pub fn find(t: &[u8], number: u16) -> Option<Shape<'_>>
     None
 }
 
-// A block row by what it says: beside its numbers its field rows as they stand in the table, four bytes each, those of the body and those of
-// sub-blocks, of which the first `firsts` are the first level's.
+// A block row by what it says: beside its numbers its field rows as they stand in the table, those of the body and those of sub-blocks,
+// of which the first `firsts` are the first level's.
 #[derive(Clone, Copy)]
 pub struct Shape<'a> {
     pub number: u16,
     pub highest: u8,
-    pub body: &'a [[u8; 4]],
-    pub subs: &'a [[u8; 4]],
+    pub body: &'a [FieldBytes],
+    pub subs: &'a [FieldBytes],
     pub firsts: usize,
 }
 
@@ -58,7 +58,7 @@ fn shaped(t: &[u8], r: Row) -> Shape<'_>
     requires { r.start + r.bodies + r.subs ≤ field_count t.now }
     ensures { shape_says result ≡ block_of t.now r }
 {
-    let (rows, _) = t.as_chunks::<4>();
+    let (rows, _): (&[FieldBytes], &[u8]) = t.as_chunks();
     let at = r.start + r.bodies;
     Shape {
         number: r.number,
@@ -81,7 +81,7 @@ fn split(s: Shape) -> usize
 }
 
 // The field rows of the first level, or of the only one.
-pub fn first_rows(s: Shape<'_>) -> &[[u8; 4]]
+pub fn first_rows(s: Shape<'_>) -> &[FieldBytes]
     ensures { fields_of result.now ≡ first_rows (shape_says s.entry) }
 {
     if s.firsts == 0 {
@@ -91,7 +91,7 @@ pub fn first_rows(s: Shape<'_>) -> &[[u8; 4]]
 }
 
 // The field rows of the second level.
-pub fn second_rows(s: Shape<'_>) -> &[[u8; 4]]
+pub fn second_rows(s: Shape<'_>) -> &[FieldBytes]
     ensures { fields_of result.now ≡ second_rows (shape_says s.entry) }
 {
     if s.firsts == 0 {

@@ -2,8 +2,8 @@
 -- Assumes nothing.
 use mathlib.Core.Path.{◌≡◌, refl, sym, ap, ap₂, ◌∙◌}
 use mathlib.Core.List.{List}
-use Prim.Native.Nat.{ℕ, zero, suc, ◌+◌, ◌*◌, ◌<◌}
-use native.Mathlib.Nat.{add-zero, add_assoc, pow-succ'}
+use Prim.Native.Nat.{ℕ, zero, suc, ◌+◌, ◌*◌, ◌^◌, ◌<◌}
+use native.Mathlib.Nat.{zero-add, add-zero, suc-add, add_assoc, one-mul, mul-add, mul_assoc, pow-succ'}
 use native.Mathlib.Omega.{arith}
 use lib.ListN.{get_or, take, drop}
 use lib.Seq.{get_or-drop}
@@ -11,6 +11,17 @@ use Rattle.std.proofs.lemmas.List.{get_or-take}
 use Rattle.std.specs.Int.{w32, w64, from_le_bytes}
 use Rattle.wire.specs.Little.{little_at}
 use Rattle.wire.specs.Range.{InRange}
+
+-- j bytes and then k bytes
+pub join : (j k : ℕ) (s : List ℕ) (i : ℕ) → little_at (j + k) s i ≡ little_at j s i + 256 ^ j * little_at k s (i + j)
+unfolding little_at
+join zero k s i = rw (zero-add k, add-zero i) (sym (zero-add _ ∙ one-mul _))
+join (suc j) k s i =
+    let e : i + 1 + j ≡ i + suc j = omega arith in
+    rw (suc-add j k)
+    (ap (λ (x : ℕ). get_or s i 0 + 256 * x) (join j k s (i + 1) ∙ ap (λ (x : ℕ). little_at j s (i + 1) + 256 ^ j * little_at k s x) e)
+    ∙ ap (λ (x : ℕ). get_or s i 0 + x) (mul-add 256 (little_at j s (i + 1)) (256 ^ j * little_at k s (i + suc j)) ∙ ap (λ (x : ℕ). 256 * little_at j s (i + 1) + x) (sym (mul_assoc 256 (256 ^ j) (little_at k s (i + suc j))) ∙ ap (λ (x : ℕ). x * little_at k s (i + suc j)) (sym (pow-succ' 256 j))))
+    ∙ sym (add_assoc (get_or s i 0) (256 * little_at j s (i + 1)) (256 ^ suc j * little_at k s (i + suc j))))
 
 -- k bytes make a number of k bytes
 pub range : InRange

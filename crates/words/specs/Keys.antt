@@ -1,4 +1,5 @@
--- The words that a script's line is told by, each with its key. No other word has that key: `words::keys_apart`.
+-- The words that a script's line is told by, each with its key, the number that `script` matches. No other word has that key:
+-- `words::keys_apart`.
 -- Assumes nothing.
 use Rattle.std.specs.Prelude.{ℕ, ◌≡◌}
 use Prim.Native.Char.{code}

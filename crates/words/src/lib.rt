@@ -17,7 +17,7 @@ pub fn word_end(text: &[u8]) -> usize
     text.iter().position(|c| *c == b' ').unwrap_or(text.len())
 }
 
-// A word as one number, by which words are told apart; 0 for a word that has no key.
+// A word as one number, so that words are told apart by one `match`; 0 for a word that has no key.
 #[tactic(auto, unfolding(crate::specs::Words::key_of))]
 pub fn key(word: &[u8]) -> u64
     ensures { result ≡ key_of word.now }
@@ -40,7 +40,7 @@ pub fn keys_apart()
     ensures { KeysApart }
 {}
 
-// The keys of a script's words.
+// The keys of a script's words. `script` matches on these numbers, which no proof says.
 pub fn keys_hold()
     ensures { KeysHold }
 {}
