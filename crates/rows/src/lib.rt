@@ -72,7 +72,7 @@ pub fn field_count(t: &[u8], at: usize) -> usize
     at / 4
 }
 
-// T11: the bytes of a field row. Who holds rows names them so, and goes on where they get wider.
+// T11: the bytes of a field row. What holds rows names them so: wider rows then change no caller.
 pub type FieldBytes = [u8; 4];
 
 // T11: a field row, from its bytes.

@@ -6,7 +6,7 @@ use Rattle.rows.specs.Places.{field_of}
 use Rattle.table.specs.Rows.{BlockRow}
 use Rattle.table.specs.declared.Shape.{Shape}
 
--- T11: of field rows as they stand, four bytes each
+-- T11: of field rows as they stand
 abbrev pub fields_of : List (List ℕ) → List FieldRow
 fields_of rows = map field_of rows
 
